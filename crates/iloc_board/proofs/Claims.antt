@@ -6,7 +6,7 @@ use Rattle.iloc_board.specs.declared.step.Step.TheVariants.{Hand}
 use Rattle.iloc_board.specs.declared.step.Reply.{Reply}
 use Rattle.iloc_board.specs.declared.step.Reply.TheVariants.{Block, NoneLeft, Took, Stale, Handed}
 use Rattle.iloc_board.specs.declared.board.state.State.TheVariants.{Free, Looked, Holding}
-use Rattle.iloc_board.specs.declared.journal.Journal.{Journal}
+use Rattle.iloc_board.specs.declared.step.Journal.{Journal}
 use Rattle.iloc_board.specs.Core.{IsWithin}
 use Rattle.iloc_board.specs.History.{handed_by, accepted}
 use Rattle.iloc_board.specs.Journal.{state_of, seen, noted, handed}

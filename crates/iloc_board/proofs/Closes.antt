@@ -14,7 +14,7 @@ use Rattle.iloc_board.specs.declared.step.Reply.{Reply}
 use Rattle.iloc_board.specs.declared.board.state.State.TheVariants.{Holding}
 use Rattle.iloc_board.specs.declared.step.Reply.TheVariants.{Took}
 use Rattle.iloc_board.specs.declared.step.Entry.{Entry}
-use Rattle.iloc_board.specs.declared.journal.Journal.{Journal}
+use Rattle.iloc_board.specs.declared.step.Journal.{Journal}
 use Rattle.iloc_board.specs.declared.board.seat_view.Role.TheVariants.{Root}
 use Rattle.iloc_board.specs.Core.{Core, opening, is_holding, worker_of, reply_to, after, played}
 use Rattle.iloc_board.specs.Sequential.{is_pair, is_out}
@@ -26,10 +26,9 @@ use Rattle.iloc_board.specs.Views.{BoardView, RootView, AllFit, priced}
 use Rattle.iloc_board.specs.Steps.Inside.{IsRoot}
 use Rattle.iloc_board.specs.Steps.Closing.{IsClosed}
 use Rattle.iloc_board.specs.Steps.Row.{placed, IsFirstHole, HoleOf}
-use Rattle.iloc_board.specs.Collecting.{AllMade, answer, handed_back_in, FitsHandedBack, IsLegalWith, NoneTwice, jobs_of, workers_of, AreTheAnswers, IsFirstMissing, IsWhole}
+use Rattle.iloc_board.specs.Collecting.{AllMade, answer, handed_back_in, FitsHandedBack, IsLegalWith, NoneTwice, jobs_of, workers_of, AreTheAnswers, IsFirstMissing, IsWhole, MissingOf, IsNoMemory}
 use Rattle.iloc_board.specs.declared.collect.CollectFault.{CollectFault}
 use Rattle.iloc_board.specs.declared.collect.CollectFault.TheVariants.{Missing, NoMemory}
-use Rattle.iloc_board.specs.Faults.{MissingOf, IsNoMemory}
 use Rattle.iloc_board.proofs.Runs.{length-costs_final}
 use Rattle.iloc_board.proofs.Taking.{begins}
 use Rattle.iloc_board.proofs.Laws as laws

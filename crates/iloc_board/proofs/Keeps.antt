@@ -14,7 +14,7 @@ use Rattle.iloc_board.specs.declared.step.Reply.{Reply}
 use Rattle.iloc_board.specs.declared.step.Reply.TheVariants.{Block, NoneLeft, Took, Stale, Handed, NotNow}
 use Rattle.iloc_board.specs.declared.board.state.State.{State}
 use Rattle.iloc_board.specs.declared.board.state.State.TheVariants.{Looked, Holding}
-use Rattle.iloc_board.specs.declared.journal.Journal.{Journal}
+use Rattle.iloc_board.specs.declared.step.Journal.{Journal}
 use Rattle.iloc_board.specs.declared.board.seat_view.Role.TheVariants.{Root, Pass, Spent}
 use Rattle.iloc_board.specs.declared.board.seat_view.SeatView.{SeatView}
 use Rattle.iloc_board.specs.Core.{Core, opening, worker_of, is_holding, found, missed, reply_to, look_reply, try_reply, hand_reply, next_after, costs_at, after, played}

@@ -10,7 +10,7 @@ use Rattle.iloc_board.specs.declared.step.Reply.TheVariants.{Block, NoneLeft, St
 use Rattle.iloc_board.specs.declared.step.Entry.{Entry}
 use Rattle.iloc_board.specs.declared.board.state.State.{State}
 use Rattle.iloc_board.specs.declared.board.state.State.TheVariants.{Free, Looked}
-use Rattle.iloc_board.specs.declared.journal.Journal.{Journal}
+use Rattle.iloc_board.specs.declared.step.Journal.{Journal}
 use Rattle.iloc_board.specs.Core.{Core, opening, worker_of, reply_to, state_after, next_after, after, ends, entry, played}
 use Rattle.iloc_board.specs.History.{accepted}
 use Rattle.iloc_board.specs.Journal.{entries_of, state_from, state_of, shown, seen_from, seen, seen_in, is_none_left, saw_none, handed_from, noted}

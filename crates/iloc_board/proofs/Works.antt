@@ -8,7 +8,7 @@ use Rattle.iloc_board.specs.declared.step.Reply.TheVariants.{Block, NoneLeft, To
 use Rattle.iloc_board.specs.declared.step.Entry.{Entry}
 use Rattle.iloc_board.specs.declared.board.state.State.{State}
 use Rattle.iloc_board.specs.declared.board.state.State.TheVariants.{Free, Looked, Holding}
-use Rattle.iloc_board.specs.declared.journal.Journal.{Journal}
+use Rattle.iloc_board.specs.declared.step.Journal.{Journal}
 use Rattle.iloc_board.specs.Core.{entry, state_after}
 use Rattle.iloc_board.specs.Journal.{state_of, state_from, shown, seen, seen_from, is_none_left, saw_none, noted}
 use Rattle.iloc_board.specs.Views.{is_looking}

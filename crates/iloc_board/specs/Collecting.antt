@@ -1,15 +1,17 @@
--- What is found when a board is closed.
+-- What is found when a board is closed, and what a refusal of `collect` tells.
 use Rattle.std.specs.Prelude.{◌≡◌, ◌≢◌, ℕ, ◌<◌, true, false, ◌==◌, cond, List, [], ◌∷◌, length, map, slice_get, slice_index, Some}
 use Rattle.std.specs.List.{All, Contains, list_any}
 use Rattle.iloc_board.specs.declared.step.Step.{Step}
 use Rattle.iloc_board.specs.declared.step.Reply.TheVariants.{NotNow}
 use Rattle.iloc_board.specs.declared.step.Entry.{Entry}
-use Rattle.iloc_board.specs.declared.journal.Journal.{Journal}
+use Rattle.iloc_board.specs.declared.step.Journal.{Journal}
 use Rattle.iloc_board.specs.Core.{opening, is_holding, worker_of, played}
 use Rattle.iloc_board.specs.Sequential.{Legal, opened}
 use Rattle.iloc_board.specs.History.{history, IsExact}
 use Rattle.iloc_board.specs.Journal.{entries_of, state_of, saw_none}
 use Rattle.iloc_board.specs.Play.{TakesEachOnce}
+use Rattle.iloc_board.specs.declared.collect.CollectFault.{CollectFault}
+use Rattle.iloc_board.specs.declared.collect.CollectFault.TheVariants.{Missing, NoMemory}
 
 -- each step is by a worker that was made
 abbrev pub AllMade : ℕ → List Step → Type 0
@@ -81,3 +83,14 @@ pub record IsWhole (made : ℕ) (gathered : List Journal) : Type 0 where
   pub all : (w : ℕ) → w < made → Contains (workers_of gathered) w
   pub idle : All (λ j. is_holding (state_of j.entries) ≡ false) gathered
   pub told : list_any (λ j. saw_none j.entries) gathered ≡ true
+
+module _ {A : Type 0} where
+  -- a missing job is the lowest that has no answer
+  abbrev pub MissingOf : ℕ → List (ℕ × A) → CollectFault → Type 0
+  MissingOf count handed (Missing i) = IsFirstMissing count handed i
+  MissingOf count handed NoMemory = Unit {0}
+
+-- only memory was refused
+abbrev pub IsNoMemory : CollectFault → Type 0
+IsNoMemory (Missing i) = ⊥
+IsNoMemory NoMemory = Unit {0}

@@ -6,7 +6,7 @@ use Rattle.iloc_board.specs.declared.step.Reply.TheVariants.{Block, NoneLeft, To
 use Rattle.iloc_board.specs.declared.step.Entry.{Entry}
 use Rattle.iloc_board.specs.declared.board.state.State.{State}
 use Rattle.iloc_board.specs.declared.board.state.State.TheVariants.{Free}
-use Rattle.iloc_board.specs.declared.journal.Journal.{Journal}
+use Rattle.iloc_board.specs.declared.step.Journal.{Journal}
 use Rattle.iloc_board.specs.Core.{worker_of, state_after, entry}
 use Rattle.iloc_board.specs.History.{accepted}
 

@@ -5,9 +5,7 @@ pub mod History
 pub mod Play
 pub mod Journal
 pub mod Views
-pub mod Replies
 pub mod Collecting
 pub mod Finished
-pub mod Faults
 pub mod Working
 pub mod Steps

@@ -1,14 +1,18 @@
--- What contracts see of a board, a pass and a root.
-use Rattle.std.specs.Prelude.{◌≡◌, ℕ, suc, Bool, true, false, List, [], ◌∷◌, ◌++◌, map}
+-- What contracts see of a board, a pass and a root, and what the board's calls answer, as replies of the core.
+use Rattle.std.specs.Prelude.{◌≡◌, ℕ, suc, Bool, true, false, List, [], ◌∷◌, ◌++◌, map, ◌<◌, ◌≤◌}
 use Rattle.atomic_table.specs.Seated.{TableId}
 use Rattle.iloc_board.specs.declared.step.Step.{Step}
 use Rattle.iloc_board.specs.declared.step.Step.TheVariants.{Hand}
 use Rattle.iloc_board.specs.declared.step.Reply.{Reply}
-use Rattle.iloc_board.specs.declared.step.Reply.TheVariants.{Handed}
+use Rattle.iloc_board.specs.declared.step.Reply.TheVariants.{Handed, Block, NoneLeft, Took, Stale}
 use Rattle.iloc_board.specs.declared.board.state.State.{State}
 use Rattle.iloc_board.specs.declared.board.state.State.TheVariants.{Free, Looked, Holding}
-use Rattle.iloc_board.specs.declared.journal.Journal.{Journal}
+use Rattle.iloc_board.specs.declared.step.Journal.{Journal}
 use Rattle.iloc_board.specs.Journal.{journal_of, state_of, noted, seen_in}
+use Rattle.iloc_board.specs.declared.board.Seen.{Seen}
+use Rattle.iloc_board.specs.declared.board.Seen.TheVariants as saw
+use Rattle.iloc_board.specs.declared.board.Tried.{Tried}
+use Rattle.iloc_board.specs.declared.board.Tried.TheVariants as got
 
 -- a board is told from others by its table, and has these jobs
 pub record BoardView (J : Type 0) : Type 0 where
@@ -86,3 +90,24 @@ module _ {J A : Type 0} where
     gathered = r.gathered ++ p.journal ∷ [];
     answers = r.answers ++ p.answers;
   }
+
+abbrev pub seen_reply : Seen → Reply
+seen_reply (saw.Block k) = Block k
+seen_reply saw.NoneLeft = NoneLeft
+
+-- a job shown is one of the board's, and no less than all that was seen before
+abbrev pub IsFreshSeen : ℕ → ℕ → Seen → Type 0
+IsFreshSeen count before (saw.Block k) = (before ≤ k) × (k < count)
+IsFreshSeen count before saw.NoneLeft = Unit {0}
+
+abbrev pub tried_reply : Tried → Reply
+tried_reply (got.Took k) = Took k
+tried_reply (got.Stale k) = Stale k
+tried_reply got.NoneLeft = NoneLeft
+
+-- A job taken is the one looked at, and is just what was seen before; a later one is past the one looked at, and no
+-- less than all that was seen before.
+abbrev pub IsFreshTried : ℕ → ℕ → ℕ → Tried → Type 0
+IsFreshTried count before looked (got.Took k) = (k ≡ before) × (k ≡ looked)
+IsFreshTried count before looked (got.Stale k) = (before ≤ k) × (looked < k) × (k < count)
+IsFreshTried count before looked got.NoneLeft = Unit {0}

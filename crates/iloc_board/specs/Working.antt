@@ -5,7 +5,7 @@ use Rattle.iloc_board.specs.declared.step.Reply.{Reply}
 use Rattle.iloc_board.specs.declared.step.Reply.TheVariants.{Block, NoneLeft, Took, Stale, Handed, NotNow}
 use Rattle.iloc_board.specs.declared.step.Entry.{Entry}
 use Rattle.iloc_board.specs.declared.board.state.State.TheVariants.{Free}
-use Rattle.iloc_board.specs.declared.journal.Journal.{Journal}
+use Rattle.iloc_board.specs.declared.step.Journal.{Journal}
 use Rattle.iloc_board.specs.Core.{entry}
 use Rattle.iloc_board.specs.Journal.{state_of, saw_none, handed}
 use Rattle.iloc_board.specs.Views.{PassView, AllFit, priced}

@@ -4,8 +4,7 @@ ghost use Rattle.iloc_board.specs.declared.step.Step.TheVariants as step;
 ghost use Rattle.iloc_board.specs.declared.board.state.State.TheVariants as about;
 ghost use Rattle.iloc_board.specs.Core.{is_holding, state_after};
 ghost use Rattle.iloc_board.specs.Journal.{seen, saw_none};
-ghost use Rattle.iloc_board.specs.Views.{job_of, is_looking, state, stepped, with_answer, with_pass, new_pass, with_gathered};
-ghost use Rattle.iloc_board.specs.Replies.{seen_reply, tried_reply, IsFreshSeen, IsFreshTried};
+ghost use Rattle.iloc_board.specs.Views.{job_of, is_looking, state, stepped, with_answer, with_pass, new_pass, with_gathered, seen_reply, tried_reply, IsFreshSeen, IsFreshTried};
 
 pub mod pass;
 pub mod rule;

@@ -10,7 +10,6 @@ mod done;
 mod fault;
 mod gate;
 mod jobs;
-mod journal;
 mod step;
 mod worker;
 

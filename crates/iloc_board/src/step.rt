@@ -1,4 +1,5 @@
-//! The steps that workers make at a board, and the replies.
+//! The steps that workers make at a board, the replies, and what one worker has done.
+use std::collections::LinkedList;
 
 /// One step at the board. Each worker has a number.
 #[derive(Clone, Copy, Debug, PartialEq, Eq)]
@@ -33,4 +34,14 @@ pub enum Reply {
 pub struct Entry {
     pub step: Step,
     pub reply: Reply,
+}
+
+/// The entries that a worker has made, in order. A journal is in proofs alone: no value of it is made.
+pub struct Journal {
+    /// The worker's number.
+    pub worker: u32,
+    /// The next job cannot have been below this when the worker began.
+    pub start: u32,
+    /// Each step with its reply.
+    pub entries: LinkedList<Entry>,
 }

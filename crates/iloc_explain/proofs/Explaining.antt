@@ -10,7 +10,7 @@ use Rattle.iloc_timed.specs.Latency.{latency}
 use Rattle.iloc_timed.specs.Rows.{row_at, issue_cycle, IsTable}
 use Rattle.iloc_timed.proofs.Arrivals.{issued_within}
 use Rattle.iloc_meaning.specs.Trace.{op_at}
-use Rattle.iloc_sched.specs.Starts.{start}
+use Rattle.iloc_sched.specs.LowerBound.Starts.{start}
 use Rattle.iloc_explain.specs.declared.explanation.Explained.{Explained}
 use Rattle.iloc_explain.specs.declared.latest.Latest.{Latest}
 use Rattle.iloc_explain.specs.Explained.{IsExplained, slack_in, unit_of}

@@ -8,7 +8,7 @@ use Rattle.iloc_ops.specs.declared.op.Op.{Op}
 use Rattle.iloc_meaning.specs.Trace.{op_at}
 use Rattle.iloc_timed.specs.declared.latencies.Latencies.{Latencies}
 use Rattle.iloc_sched.specs.Delays.{delays}
-use Rattle.iloc_sched.specs.Pairs.{rising}
+use Rattle.iloc_sched.specs.Graph.Pairs.{rising}
 use Rattle.iloc_sched.specs.Steps.Members.{In}
 use Rattle.iloc_sched.proofs.Basics.Members.{contains_from, in_from, any_at, from_any}
 use Rattle.iloc_sched.proofs.DelayPairs.RisingDelays.{from_rising, in_rising}

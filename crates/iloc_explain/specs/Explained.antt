@@ -7,7 +7,7 @@ use Rattle.iloc_timed.specs.declared.row.Row.{Row}
 use Rattle.iloc_timed.specs.Cycles.{cycles}
 use Rattle.iloc_timed.specs.Rows.{row_at, issue_cycle}
 use Rattle.iloc_sched.specs.Priority.{priority}
-use Rattle.iloc_sched.specs.Starts.{start}
+use Rattle.iloc_sched.specs.LowerBound.Starts.{start}
 use Rattle.iloc_explain.specs.declared.explanation.Explained.{Explained}
 use Rattle.iloc_explain.specs.declared.explanation.Unit.{Unit as unit_type}
 use Rattle.iloc_explain.specs.declared.explanation.Unit.TheVariants as unit

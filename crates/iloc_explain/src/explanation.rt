@@ -1,7 +1,7 @@
 //! What is said of each operation of a schedule.
 ghost use Rattle.std.specs.Prelude.{◌≡◌, ◌-◌, length, IfOk};
 ghost use Rattle.iloc_sched.specs.Priority.{priorities as all_priorities};
-ghost use Rattle.iloc_sched.specs.Starts.{starts as all_starts};
+ghost use Rattle.iloc_sched.specs.LowerBound.Starts.{starts as all_starts};
 ghost use Rattle.iloc_explain.specs.Explained.{AreExplained, unit_of};
 
 use crate::holding::{Holder, holder_of};

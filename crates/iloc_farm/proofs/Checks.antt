@@ -14,7 +14,7 @@ use Rattle.iloc_rows.specs.declared.proposal.unread.Unread.{Unread}
 use Rattle.iloc_sched.specs.declared.cycle.calendar.TheConstants.{LONGEST_DELAY}
 use Rattle.iloc_sched.specs.declared.ranking.heuristic.Heuristic.TheVariants.{Chain}
 use Rattle.iloc_sched.specs.Greedy.{IsGreedy}
-use Rattle.iloc_sched.specs.Least.{least}
+use Rattle.iloc_sched.specs.LowerBound.Least.{least}
 use Rattle.iloc_sched.proofs.Bounds.LeastBound.{least_bound}
 use Rattle.iloc_judge.specs.Checked.{DoTheSame, MayPass, passes}
 use Rattle.iloc_judge.specs.Unread.{IsUnread}

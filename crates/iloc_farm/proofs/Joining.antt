@@ -3,7 +3,7 @@ use Rattle.std.proofs.Common.{◌≡◌, ◌∙◌, ℕ, List, [], ◌++◌, Opt
 use Rattle.std.proofs.KnownBytes.{Appends-nil, Appends-trans}
 use Rattle.std.specs.Io.KnownBytes.{Appends}
 use Rattle.iloc_farm.proofs.Written.{front_behind}
-use Rattle.iloc_farm.specs.Device.{WritesFront}
+use Rattle.iloc_farm.specs.Run.Device.{WritesFront}
 use Rattle.iloc_farm.specs.Steps.Joined.{Joins, JoinsTo}
 
 -- the buffer and the text were written

@@ -14,13 +14,13 @@ use Rattle.iloc_args.specs.declared.request.Task.TheVariants as task
 use Rattle.iloc_farm.specs.declared.commands.compare.ComparedCycles.{ComparedCycles}
 use Rattle.iloc_farm.specs.Commands.Check.{Checks, ListsChecked, form_as}
 use Rattle.iloc_farm.specs.Commands.Compare.{IsCompareEntry, IsComparedCycles, compare_ending, compare_header, compare_line}
-use Rattle.iloc_farm.specs.Commands.ExplainRows.{Explains, ExplainsRows}
-use Rattle.iloc_farm.specs.Commands.TraceRows.{Traces, TracesRows}
+use Rattle.iloc_farm.specs.Commands.Explain.Rows.{Explains, ExplainsRows}
+use Rattle.iloc_farm.specs.Commands.Trace.Rows.{Traces, TracesRows}
 use Rattle.iloc_farm.specs.Commands.Optimize.{IsOptimizeEntry}
 use Rattle.iloc_farm.specs.Entries.{IsListingAfter, IsListingOf}
 use Rattle.iloc_farm.specs.Laws.{AskAlike, ChecksIgnoreWorkers, GreedySchedulesCanBeListed, ListedOptimaAreOptimal, ListingsIgnoreWorkers, OptimaIgnoreWorkers}
 use Rattle.iloc_farm.specs.Listing.{opening_as, total_of_all}
-use Rattle.iloc_farm.specs.Apart.{Held}
+use Rattle.iloc_farm.specs.Run.Apart.{Held}
 use Rattle.iloc_farm.specs.Run.{IsListingFor, Lists, ListsApart, ListsAs, ListsSubmission, takes_rows}
 use Rattle.iloc_farm.specs.declared.commands.Finding.{Finding}
 use Rattle.iloc_farm.proofs.Entries.{listing_after_also}

@@ -7,7 +7,7 @@ use Rattle.iloc_args.specs.declared.request.Task.{Task}
 use Rattle.iloc_farm.specs.declared.commands.Listed.{Listed}
 use Rattle.iloc_farm.specs.Entries.{AreListed, OfBlock}
 use Rattle.iloc_farm.specs.declared.fault.RunFault.{RunFault}
-use Rattle.iloc_farm.specs.Apart.{Held}
+use Rattle.iloc_farm.specs.Run.Apart.{Held}
 use Rattle.iloc_farm.specs.Commands.{command_of}
 use Rattle.iloc_farm.specs.Steps.Coming.{ComesTo}
 use Rattle.iloc_farm.specs.Work.{AreFarmed}

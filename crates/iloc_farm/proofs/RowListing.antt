@@ -7,7 +7,7 @@ use Rattle.iloc_ops.specs.declared.file.Block.{Block}
 use Rattle.iloc_rows.specs.declared.proposal.Proposed.{Proposed}
 use Rattle.iloc_farm.specs.Entries.{AreEntries}
 use Rattle.iloc_farm.specs.Fault.{finding_of}
-use Rattle.iloc_farm.specs.Rows.{ListsRows}
+use Rattle.iloc_farm.specs.Listing.Rows.{ListsRows}
 use Rattle.iloc_farm.specs.Steps.Listed.{Adds, AreListedTo}
 use Rattle.iloc_farm.specs.declared.commands.Finding.{Finding}
 use Rattle.iloc_farm.proofs.Entries.{entries_long, one_more}

@@ -12,7 +12,7 @@ use Rattle.iloc_sched.specs.declared.cycle.calendar.TheConstants.{LONGEST_DELAY}
 use Rattle.iloc_sched.specs.declared.ranking.heuristic.Heuristic.{Heuristic}
 use Rattle.iloc_judge.specs.declared.explained.ExplainedRows.{ExplainedRows}
 use Rattle.iloc_judge.specs.RowsExplained.{IsRowsExplanation}
-use Rattle.iloc_farm.specs.Commands.ExplainRows.{IsRowsEntry}
+use Rattle.iloc_farm.specs.Commands.Explain.Rows.{IsRowsEntry}
 use Rattle.iloc_farm.specs.Listing.{block_head}
 use Rattle.iloc_farm.specs.Schedules.{IsGreedyAs}
 use Rattle.iloc_farm.specs.Steps.Limits.{most_proposed_cycles}

@@ -4,7 +4,7 @@ use Rattle.std.specs.Prelude.{ℤ, codes}
 use Rattle.iloc_ops.specs.declared.file.Block.{Block}
 use Rattle.iloc_timed.specs.declared.latencies.Latencies.{Latencies}
 use Rattle.iloc_rows.specs.declared.proposal.Proposed.{Proposed}
-use Rattle.iloc_farm.specs.Commands.TraceRows.{IsRowsTraceEntry, IsTraceOf}
+use Rattle.iloc_farm.specs.Commands.Trace.Rows.{IsRowsTraceEntry, IsTraceOf}
 use Rattle.iloc_farm.specs.Listing.{block_head}
 use Rattle.iloc_farm.specs.Steps.Listed.{Adds}
 use Rattle.iloc_farm.proofs.Listers.{parts_joined}

@@ -5,7 +5,7 @@ use Rattle.std.specs.Fmt.{WritesText, ◌++?◌}
 use Rattle.std.specs.Io.KnownBytes.{Appends}
 use Rattle.std.specs.Option.{IfSome}
 use Rattle.arrayvec.specs.declared.array_string.ArrayString.{ArrayString}
-use Rattle.iloc_farm.specs.Device.{WritesFront}
+use Rattle.iloc_farm.specs.Run.Device.{WritesFront}
 use Rattle.iloc_farm.specs.Program.{Says, named_line}
 use Rattle.iloc_farm.specs.declared.listing.writing.WriteFailed.{WriteFailed}
 use Rattle.iloc_farm.proofs.Written.{says_text}

@@ -14,7 +14,7 @@ use Rattle.iloc_ops.specs.declared.file.Block.{Block}
 use Rattle.iloc_rows.specs.EitherSlot.{placed}
 use Rattle.iloc_meaning.specs.Memory.{words_from}
 use Rattle.iloc_rows.specs.declared.proposal.Proposed.{Proposed}
-use Rattle.iloc_judge.specs.Checked.{DoTheSame}
+use Rattle.iloc_judge.specs.Checked.{DoTheSame, MayPass}
 use Rattle.iloc_args.specs.Asked.{Asked, asked_in}
 use Rattle.iloc_args.specs.declared.fault.LineFault.TheVariants as line
 use Rattle.iloc_args.specs.declared.request.Request.{Request}
@@ -27,10 +27,8 @@ use Rattle.iloc_farm.specs.declared.commands.Finding.{Finding}
 use Rattle.iloc_farm.specs.declared.commands.Finding.TheVariants.{Passed, Failed, Unread}
 use Rattle.iloc_farm.specs.declared.program.Fault.{Fault}
 use Rattle.iloc_farm.specs.declared.program.Fault.TheVariants.{Line, Run}
-use Rattle.iloc_judge.specs.Checked.{MayPass}
-use Rattle.iloc_farm.specs.Apart.{Held}
-use Rattle.iloc_farm.specs.Fault.{rows_status, task_status, text_status}
-use Rattle.iloc_farm.specs.Fault.{status_of_finding}
+use Rattle.iloc_farm.specs.Run.Apart.{Held}
+use Rattle.iloc_farm.specs.Fault.{rows_status, task_status, text_status, status_of_finding}
 use Rattle.iloc_farm.specs.Commands.Run.{initial_memory}
 use Rattle.iloc_farm.specs.Laws.{options_in, ReadsRows, ReadsTheSame, Status0MeansTheSame}
 use Rattle.iloc_farm.specs.Program.{Args, AskFor, IsListed, IsStopped, MakeNone, status_of}

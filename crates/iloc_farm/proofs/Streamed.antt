@@ -7,7 +7,7 @@ use Rattle.iloc_text.specs.declared.fault.StreamFault.TheVariants as stream
 use Rattle.iloc_text.specs.Files.{IsRefused}
 use Rattle.iloc_text.specs.Streams.{ReadsText, EndsStream}
 use Rattle.iloc_farm.specs.Fault.{fault_of_stream}
-use Rattle.iloc_farm.specs.Causes.{IsCaused, Refuses, of_file}
+use Rattle.iloc_farm.specs.Run.Causes.{IsCaused, Refuses, of_file}
 
 refuses : (old new : Option (List ℕ)) (fault : ReadFault)
     → (text : List ℕ) × ReadsText old new text × IsRefused text fault → Refuses IsRefused old new fault

@@ -8,7 +8,7 @@ use Rattle.iloc_text.proofs.Answer.{one_answer}
 use Rattle.iloc_rows.specs.Laws.{AreWithinLimits, SubmissionsApartAreWithinLimits}
 use Rattle.iloc_rows.specs.Submissions.{DenoteApart, ProposeApart}
 use Rattle.iloc_rows.specs.declared.proposal.Proposed.{Proposed}
-use Rattle.iloc_farm.specs.Apart.{Holds, ReadsApart, ReadsTask}
+use Rattle.iloc_farm.specs.Run.Apart.{Holds, ReadsApart, ReadsTask}
 use Rattle.iloc_text.specs.Streams.{ReadsText}
 use Rattle.iloc_farm.specs.Laws.{HandInsDontChangeTheTask}
 

@@ -12,7 +12,7 @@ use Rattle.iloc_args.specs.Due.{Asks, IsDue}
 use Rattle.iloc_args.specs.declared.fault.LineFault.{LineFault}
 use Rattle.iloc_args.specs.declared.fault.LineFault.TheVariants.{Help}
 use Rattle.iloc_args.specs.declared.request.Request.{Request}
-use Rattle.iloc_farm.specs.Apart.{Held}
+use Rattle.iloc_farm.specs.Run.Apart.{Held}
 use Rattle.iloc_farm.specs.Program.{Args, AskFor, IsHelp, IsStopped, MakeNone}
 use Rattle.iloc_farm.specs.Run.{EndsRun}
 use Rattle.iloc_farm.specs.declared.fault.RunFault.{RunFault}

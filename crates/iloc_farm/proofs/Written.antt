@@ -3,7 +3,7 @@ use Rattle.std.proofs.Common.{◌≡◌, ◌∙◌, ℕ, ◌+◌, ◌-◌, ◌<�
 use Rattle.std.proofs.KnownBytes.{Appends-trans}
 use Rattle.std.specs.List.{flat_map}
 use Rattle.std.specs.Io.KnownBytes.{Appends}
-use Rattle.iloc_farm.specs.Device.{WritesFront}
+use Rattle.iloc_farm.specs.Run.Device.{WritesFront}
 use Rattle.iloc_farm.specs.Program.{Says}
 use Rattle.iloc_farm.specs.declared.listing.writing.WriteFailed.{WriteFailed}
 use Rattle.std.proofs.lemmas.List.{drop_more, take_all}

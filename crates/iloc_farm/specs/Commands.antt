@@ -1,7 +1,7 @@
 -- The commands.
 use Rattle.iloc_args.specs.declared.request.Task.{Task}
 use Rattle.iloc_args.specs.declared.request.Task.TheVariants as task
-use Rattle.iloc_farm.specs.Command.{Command}
+use Rattle.iloc_farm.specs.Commands.Command.{Command}
 use Rattle.iloc_farm.specs.Commands.Check.{check_command}
 use Rattle.iloc_farm.specs.Commands.Compare.{compare_command}
 use Rattle.iloc_farm.specs.Commands.Counts.{counts_command}
@@ -21,11 +21,10 @@ pub mod Counts
 pub mod Compare
 pub mod Optimize
 pub mod Explain
-pub mod ExplainRows
-pub mod TraceRows
 pub mod Graph
 pub mod Check
 pub mod Lint
+pub mod Command
 
 abbrev pub command_of : Task → Command
 command_of task.Run = run_command

@@ -22,7 +22,7 @@ use Rattle.iloc_args.specs.declared.request.Task.TheVariants as task
 use Rattle.iloc_farm.specs.declared.commands.Finding.{Finding}
 use Rattle.iloc_farm.specs.declared.commands.Finding.TheVariants.{Passed}
 use Rattle.iloc_farm.specs.declared.program.Ending.{Ending}
-use Rattle.iloc_farm.specs.Apart.{Held, ReadsApart}
+use Rattle.iloc_farm.specs.Run.Apart.{Held, ReadsApart}
 use Rattle.iloc_farm.specs.Commands.Check.{ListsChecked, form_as}
 use Rattle.iloc_farm.specs.Commands.Compare.{IsComparedCycles, optimal_by}
 use Rattle.iloc_farm.specs.Commands.Optimize.{IsOptimizeEntry}

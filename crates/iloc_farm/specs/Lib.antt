@@ -1,8 +1,4 @@
-pub mod Apart
-pub mod Causes
-pub mod Command
 pub mod Commands
-pub mod Device
 pub mod Entries
 pub mod Fault
 pub mod Headline
@@ -10,7 +6,6 @@ pub mod Laws
 pub mod Listing
 pub mod Program
 pub mod Schedules
-pub mod Rows
 pub mod Run
 pub mod Steps
 pub mod Work

@@ -11,6 +11,7 @@ use Rattle.iloc_timed.specs.declared.row.Row.{Row}
 use Rattle.iloc_timed.specs.Cycles.{cycles}
 use Rattle.iloc_timed.specs.Schedule.{Table}
 use Rattle.iloc_timed.specs.Spelling.{row_line}
+pub mod Rows
 
 -- Blocks
 

@@ -15,8 +15,8 @@ use Rattle.iloc_args.specs.Fault.{line_text, status_of as line_status_of}
 use Rattle.iloc_args.specs.declared.fault.LineFault.{LineFault}
 use Rattle.iloc_args.specs.declared.fault.LineFault.TheVariants.{Help, Refused, BadStart, TooManyWords, NoSuchPriority, TwoForms, NoMemory}
 use Rattle.iloc_args.specs.declared.request.Request.{Request}
-use Rattle.iloc_farm.specs.Apart.{Held}
-use Rattle.iloc_farm.specs.Device.{WritesFront}
+use Rattle.iloc_farm.specs.Run.Apart.{Held}
+use Rattle.iloc_farm.specs.Run.Device.{WritesFront}
 use Rattle.iloc_farm.specs.Fault.{run_status_of, run_text}
 use Rattle.iloc_farm.specs.Fault.{status_of_finding}
 use Rattle.iloc_farm.specs.Run.{EndsRun, ListsFrom}

@@ -14,12 +14,15 @@ use Rattle.iloc_farm.specs.declared.fault.RunFault.{RunFault}
 use Rattle.iloc_farm.specs.declared.fault.RunFault.TheVariants.{WriteFailed}
 use Rattle.iloc_farm.specs.declared.commands.Finding.{Finding}
 use Rattle.iloc_farm.specs.declared.commands.Finding.TheVariants.{Passed}
-use Rattle.iloc_farm.specs.Apart.{Held, ReadsApart}
-use Rattle.iloc_farm.specs.Causes.{IsCaused, causes_of}
-use Rattle.iloc_farm.specs.Command.{Command, Input, OfFile, OfRows, OfText, is_of_rows}
+use Rattle.iloc_farm.specs.Run.Apart.{Held, ReadsApart}
+use Rattle.iloc_farm.specs.Run.Causes.{IsCaused, causes_of}
+use Rattle.iloc_farm.specs.Commands.Command.{Command, Input, OfFile, OfRows, OfText, is_of_rows}
 use Rattle.iloc_farm.specs.Commands.{command_of}
-use Rattle.iloc_farm.specs.Device.{WritesFront}
+use Rattle.iloc_farm.specs.Run.Device.{WritesFront}
 use Rattle.iloc_farm.specs.Entries.{ListsRead}
+pub mod Apart
+pub mod Causes
+pub mod Device
 
 -- the text is what a request with this task lists of a file's blocks
 abbrev pub IsListingFor : Task → Request → List Block → List ℕ → Type 0

@@ -1,18 +1,17 @@
 //! The commands: what each lists of what is read, and what it finds.
 ghost use Rattle.std.specs.Prelude.{◌≡◌};
-ghost use Rattle.iloc_farm.specs.Apart.{Held};
-ghost use Rattle.iloc_farm.specs.Command.{Shared, of_files, of_files_or_rows, of_rows};
+ghost use Rattle.iloc_farm.specs.Run.Apart.{Held};
+ghost use Rattle.iloc_farm.specs.Commands.Command.{Shared, of_files, of_files_or_rows, of_rows};
 ghost use Rattle.iloc_farm.specs.Commands.{command_of};
 ghost use Rattle.iloc_farm.specs.Entries.{IsListingOf};
 ghost use Rattle.iloc_farm.specs.Fault.{finding_of, finding_of_text, status_of_finding};
-ghost use Rattle.iloc_farm.specs.Rows.{ListsProposed};
+ghost use Rattle.iloc_farm.specs.Listing.Rows.{ListsProposed};
 ghost use Rattle.iloc_farm.specs.Steps.Coming.{ComesTo};
 
 mod check;
 mod compare;
 mod counts;
 mod explain;
-mod explain_rows;
 mod graph;
 mod lint;
 mod optimize;
@@ -21,19 +20,18 @@ mod schedule;
 mod simulate;
 mod totals;
 mod trace;
-mod trace_rows;
 
 use crate::farmed::{FarmedLister, listed_by_workers};
 use crate::fault::RunFault;
 use crate::lister::{Lister, listed_as_read};
 use crate::listing::text::Listing;
+use crate::reading::texts::Texts;
 use crate::rows::{RowLister, listed_apart, listed_whole};
-use crate::texts::Texts;
 use check::CheckLister;
 use compare::CompareLister;
 use counts::CountLister;
 use explain::ExplainLister;
-use explain_rows::RowsExplainer;
+use explain::rows::RowsExplainer;
 use graph::GraphLister;
 use iloc_args::{Request, Task};
 use iloc_board::Receipt;
@@ -47,7 +45,7 @@ use std::io::Read;
 use std::sync::Wait;
 use std::thread::Threads;
 use trace::TraceLister;
-use trace_rows::RowsTracer;
+use trace::rows::RowsTracer;
 
 /// What a run found out about the schedules that it judged.
 #[derive(Clone, Copy, Debug, Drop, PartialEq, Eq)]

@@ -5,7 +5,7 @@ ghost use Rattle.iloc_ops.specs.declared.file.Block.{Block as block_value};
 ghost use Rattle.iloc_args.specs.declared.request.Request.{Request as request_value};
 ghost use Rattle.iloc_text.specs.Files.{AreWithinLimits};
 ghost use Rattle.iloc_farm.specs.Entries.{AreListed, OfBlock};
-ghost use Rattle.iloc_farm.specs.Causes.{IsCaused, of_shared_file};
+ghost use Rattle.iloc_farm.specs.Run.Causes.{IsCaused, of_shared_file};
 ghost use Rattle.iloc_farm.specs.Work.{AreFarmed, ListsFarmed};
 
 use crate::fault::{FarmFault, RunFault};

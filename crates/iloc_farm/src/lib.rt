@@ -2,7 +2,6 @@
 #![tactic(auto)]
 
 mod commands;
-mod crew;
 mod farm;
 mod farmed;
 mod fault;
@@ -12,7 +11,6 @@ mod listing;
 mod program;
 mod reading;
 mod rows;
-mod texts;
 mod workers;
 
 pub use commands::Finding;
@@ -21,5 +19,5 @@ pub use fault::{FarmFault, RunFault, TaskFault, run_status};
 pub use listing::writing::WriteFailed;
 pub use listing::{counts_text, outcomes_text, schedules_text};
 pub use program::{Ending, run, run_program, run_with_receipt};
-pub use texts::Texts;
+pub use reading::texts::Texts;
 pub use workers::{farm_out, work_all};

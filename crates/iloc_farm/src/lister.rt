@@ -6,7 +6,7 @@ ghost use Rattle.iloc_args.specs.declared.request.Request.{Request as request_va
 ghost use Rattle.iloc_farm.specs.Commands.Run.{initial_memory};
 ghost use Rattle.iloc_farm.specs.Entries.{IsListingOf, ListsRead};
 ghost use Rattle.iloc_farm.specs.Steps.Listed.{Adds};
-ghost use Rattle.iloc_farm.specs.Causes.{IsCaused, of_file};
+ghost use Rattle.iloc_farm.specs.Run.Causes.{IsCaused, of_file};
 
 use crate::fault::RunFault;
 use crate::listing::text::Listing;

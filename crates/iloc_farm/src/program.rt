@@ -11,7 +11,7 @@ ghost use Rattle.iloc_farm.specs.Run.{EndsRun, ListsFrom};
 use crate::commands::{Finding, Listed, list};
 use crate::fault::{RunFault, run_status};
 use crate::listing::writing::{WriteFailed, write_text};
-use crate::texts::Texts;
+use crate::reading::texts::Texts;
 use arrayvec::ArrayString;
 use iloc_args::{LineFault, Request, line_status, parse_line};
 use iloc_board::Receipt;

@@ -2,10 +2,11 @@
 ghost use Rattle.std.specs.Prelude.{IfErr, IfOk, List, ℕ};
 ghost use Rattle.iloc_text.specs.Files.{AreWithinLimits, Denotes};
 ghost use Rattle.iloc_text.specs.Streams.{ReadsText};
-ghost use Rattle.iloc_farm.specs.Causes.{IsCaused, of_file};
+ghost use Rattle.iloc_farm.specs.Run.Causes.{IsCaused, of_file};
 
 mod parts;
 pub(crate) mod task;
+pub(crate) mod texts;
 
 use crate::fault::RunFault;
 use iloc_args::Request;

@@ -8,8 +8,10 @@ ghost use Rattle.iloc_board.specs.Collecting.{IsWhole, workers_of};
 ghost use Rattle.iloc_farm.specs.Fault.{EndsWork};
 ghost use Rattle.iloc_farm.specs.Work.{AreFarmed};
 
-use crate::crew::{Routine, crew};
+mod crew;
+
 use crate::fault::FarmFault;
+use crew::{Routine, crew};
 use iloc_board::{AtDesk, Board, Done, Gate, Jobs, NoMemory, Pass, Root, work_at};
 use std::alloc::Global;
 use std::sync::Wait;

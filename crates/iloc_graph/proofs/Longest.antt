@@ -1,7 +1,7 @@
 -- The longest of delays in order is the longest of them.
 use Rattle.std.proofs.Common.{◌≡◌, ℕ, ◌≤◌, max, List, inl, inr, arith}
 use Rattle.std.specs.Prelude.{fold}
-use Rattle.iloc_sched.specs.Pairs.{rising}
+use Rattle.iloc_sched.specs.Graph.Pairs.{rising}
 use Rattle.iloc_sched.specs.Steps.Members.{In}
 use Rattle.iloc_sched.proofs.Basics.Maxima.{fold_max_each, fold_max_reached}
 use Rattle.iloc_sched.proofs.DelayPairs.RisingDelays.{from_rising, in_rising}

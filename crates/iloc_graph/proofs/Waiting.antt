@@ -13,7 +13,7 @@ use Rattle.iloc_timed.specs.Rows.{issue_cycle}
 use Rattle.iloc_sched.specs.declared.edges.delay_pairs.Pair.{Pair}
 use Rattle.iloc_sched.specs.Delays.{IsDelayPair, delays, keeps_order, memory_delays, reads_stored, uses_result, when}
 use Rattle.iloc_sched.specs.Steps.Members.{In}
-use Rattle.iloc_sched.specs.Near.{IsNear, takes_over}
+use Rattle.iloc_sched.specs.Graph.Near.{IsNear, takes_over}
 use Rattle.iloc_sched.proofs.Basics.Maxima.{fold_max_each, fold_max_reached}
 use Rattle.iloc_sched.proofs.Basics.Members.{any_at, contains_from, from_append, from_filter, from_map, from_range, in_filter, in_from, in_left, in_map, in_range_from, in_right}
 use Rattle.iloc_sched.proofs.DelayPairs.DelayBounds.{delay_at_least, from_when, in_when}

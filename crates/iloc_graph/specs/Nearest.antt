@@ -7,7 +7,7 @@ use Rattle.iloc_timed.specs.declared.latencies.Latencies.{Latencies}
 use Rattle.iloc_timed.specs.Kinds.{kind}
 use Rattle.iloc_sched.specs.declared.edges.delay_pairs.Pair.{Pair}
 use Rattle.iloc_sched.specs.Delays.{uses_result, reads_stored, keeps_order, delays}
-use Rattle.iloc_sched.specs.Near.{takes_over}
+use Rattle.iloc_sched.specs.Graph.Near.{takes_over}
 
 -- whether an operation between i and j takes the place of i
 abbrev pub is_taken_over : List Op → ℕ → ℕ → Bool

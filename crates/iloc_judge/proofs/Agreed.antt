@@ -8,8 +8,8 @@ use Rattle.iloc_timed.specs.Schedule.{Table}
 use Rattle.iloc_timed.specs.Timed.{issued_before, timed_outcome}
 use Rattle.iloc_judge.specs.declared.symbols.Symbols.{Symbols}
 use Rattle.iloc_judge.specs.declared.table.node.Node.{Node}
-use Rattle.iloc_judge.specs.Comparison.{AgreesOnAll}
-use Rattle.iloc_judge.specs.Difference.{AreAlike}
+use Rattle.iloc_judge.specs.Verdict.Comparison.{AgreesOnAll}
+use Rattle.iloc_judge.specs.Verdict.Difference.{AreAlike}
 use Rattle.iloc_judge.specs.Steps.Agreement.{SeenSame}
 use Rattle.iloc_judge.specs.Steps.Terms.{Meaning, IsMeaning}
 use Rattle.iloc_judge.specs.Steps.Tracking.{Ends}

@@ -18,15 +18,15 @@ use Rattle.iloc_timed.specs.declared.latencies.Latencies.{Latencies}
 use Rattle.iloc_timed.specs.declared.row.Row.{Row}
 use Rattle.iloc_timed.specs.Rows.{row_at, slots}
 use Rattle.iloc_timed.specs.Timed.{Issued, issue, issued_before, executed_in, timed_outcome}
-use Rattle.iloc_judge.specs.declared.comparison.Comparison.{Comparison}
-use Rattle.iloc_judge.specs.declared.comparison.Comparison.TheVariants as of
-use Rattle.iloc_judge.specs.declared.difference.Difference.{Difference}
-use Rattle.iloc_judge.specs.declared.difference.Difference.TheVariants.{Output}
+use Rattle.iloc_judge.specs.declared.verdict.comparison.Comparison.{Comparison}
+use Rattle.iloc_judge.specs.declared.verdict.comparison.Comparison.TheVariants as of
+use Rattle.iloc_judge.specs.declared.verdict.difference.Difference.{Difference}
+use Rattle.iloc_judge.specs.declared.verdict.difference.Difference.TheVariants.{Output}
 use Rattle.iloc_judge.specs.declared.verdict.Verdict.{Verdict}
 use Rattle.iloc_judge.specs.declared.verdict.Verdict.TheVariants.{Units, Lawful, Unlawful, Undecided}
-use Rattle.iloc_judge.specs.Comparison.{IsComparison}
-use Rattle.iloc_judge.specs.Difference.{IsDifference}
-use Rattle.iloc_judge.specs.Memory.{memory_of}
+use Rattle.iloc_judge.specs.Verdict.Comparison.{IsComparison}
+use Rattle.iloc_judge.specs.Verdict.Difference.{IsDifference}
+use Rattle.iloc_judge.specs.Verdict.Memory.{memory_of}
 use Rattle.iloc_judge.specs.Verdict.{IsVerdict}
 use Rattle.iloc_judge.specs.Steps.Counted.{IsCounted, CanBeCompared, CanBeListed}
 

@@ -12,15 +12,15 @@ use Rattle.iloc_timed.specs.Schedule.{Table}
 use Rattle.iloc_rows.specs.declared.proposal.Proposed.{Proposed}
 use Rattle.iloc_validation.specs.ByTheBook.{IsByTheBook}
 use Rattle.iloc_validation.proofs.Outcomes.{keeps_the_outcome}
-use Rattle.iloc_judge.specs.declared.comparison.Comparison.TheVariants as of
-use Rattle.iloc_judge.specs.declared.comparison.Comparison.{Comparison}
-use Rattle.iloc_judge.specs.Comparison.{AgreesOnAll, IsComparison}
-use Rattle.iloc_judge.specs.Difference.{AreAlike}
+use Rattle.iloc_judge.specs.declared.verdict.comparison.Comparison.TheVariants as of
+use Rattle.iloc_judge.specs.declared.verdict.comparison.Comparison.{Comparison}
+use Rattle.iloc_judge.specs.Verdict.Comparison.{AgreesOnAll, IsComparison}
+use Rattle.iloc_judge.specs.Verdict.Difference.{AreAlike}
 use Rattle.iloc_judge.specs.declared.verdict.Verdict.{Verdict}
 use Rattle.iloc_judge.specs.declared.verdict.Verdict.TheVariants.{Units, Lawful, Unlawful, Undecided}
 use Rattle.iloc_judge.specs.declared.verdict.kind.VerdictKind.{VerdictKind}
 use Rattle.iloc_judge.specs.declared.verdict.kind.VerdictKind.TheVariants as kind
-use Rattle.iloc_judge.specs.Void.{CanBeJudged}
+use Rattle.iloc_judge.specs.Verdict.Void.{CanBeJudged}
 use Rattle.iloc_judge.specs.Verdict.{IsVerdict}
 use Rattle.iloc_judge.specs.declared.checked.Checked.{Checked}
 use Rattle.iloc_judge.specs.Checked.{compared_kind, is_passing, kind_of, passes, DoEnough, DoTheSame, IsCheck}

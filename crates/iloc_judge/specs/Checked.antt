@@ -7,20 +7,20 @@ use Rattle.iloc_timed.specs.Cycles.{cycles}
 use Rattle.iloc_timed.specs.Rows.{IsTable}
 use Rattle.iloc_timed.specs.Schedule.{Table}
 use Rattle.iloc_rows.specs.declared.proposal.Proposed.{Proposed}
-use Rattle.iloc_sched.specs.Least.{least}
+use Rattle.iloc_sched.specs.LowerBound.Least.{least}
 use Rattle.iloc_optimum.specs.declared.optimizer.Sought.{Sought}
 use Rattle.iloc_validation.specs.ByTheBook.{IsByTheBook, IssueTheSame}
-use Rattle.iloc_judge.specs.declared.comparison.Comparison.{Comparison}
-use Rattle.iloc_judge.specs.declared.comparison.Comparison.TheVariants as of
+use Rattle.iloc_judge.specs.declared.verdict.comparison.Comparison.{Comparison}
+use Rattle.iloc_judge.specs.declared.verdict.comparison.Comparison.TheVariants as of
 use Rattle.iloc_judge.specs.declared.verdict.Verdict.{Verdict}
 use Rattle.iloc_judge.specs.declared.verdict.Verdict.TheVariants.{Units, Lawful, Unlawful, Undecided}
 use Rattle.iloc_judge.specs.declared.verdict.kind.VerdictKind.{VerdictKind}
 use Rattle.iloc_judge.specs.declared.verdict.kind.VerdictKind.TheVariants as kind
-use Rattle.iloc_judge.specs.Comparison.{AgreesOnAll}
+use Rattle.iloc_judge.specs.Verdict.Comparison.{AgreesOnAll}
 use Rattle.iloc_judge.specs.Kept.{keeps_operations, AreItsOperations}
 use Rattle.iloc_judge.specs.declared.task.CheckOptions.{CheckOptions}
 use Rattle.iloc_judge.specs.Verdict.{IsVerdict}
-use Rattle.iloc_judge.specs.Void.{CanBeJudged}
+use Rattle.iloc_judge.specs.Verdict.Void.{CanBeJudged}
 use Rattle.iloc_judge.specs.declared.checked.Checked.{Checked}
 use Rattle.iloc_judge.specs.Entry.{entry_as}
 

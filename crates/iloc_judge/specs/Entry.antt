@@ -6,8 +6,11 @@ use Rattle.iloc_judge.specs.declared.checked.Checked.{Checked}
 use Rattle.iloc_judge.specs.declared.task.Form.{Form}
 use Rattle.iloc_judge.specs.declared.task.Form.TheVariants as forms
 use Rattle.iloc_judge.specs.declared.verdict.Verdict.{Verdict}
-use Rattle.iloc_judge.specs.Json.{json_of}
-use Rattle.iloc_judge.specs.Listing.{lines_of, row_of}
+use Rattle.iloc_judge.specs.Entry.Json.{json_of}
+use Rattle.iloc_judge.specs.Entry.Listing.{lines_of, row_of}
+pub mod Json
+pub mod Listing
+pub mod Reasons
 
 -- of operations and rows, for which these cycles are claimed: lines, a row of a table, or a line of JSON
 abbrev pub entry_as : (lawful : Bool) → Form → Option ℕ → List Op → List Row → Verdict → Checked → List ℕ

@@ -1,16 +1,9 @@
 pub mod Checked
 pub mod Unread
-pub mod Comparison
 pub mod Laws
-pub mod Listing
-pub mod Memory
-pub mod Difference
 pub mod Entry
-pub mod Json
 pub mod Kept
-pub mod Reasons
 pub mod RowsExplained
 pub mod UnitRule
 pub mod Verdict
-pub mod Void
 pub mod Steps

@@ -16,8 +16,8 @@ use Rattle.iloc_explain.specs.Listing.{IsExplanation}
 use Rattle.iloc_reasons.specs.declared.reasons.Reasons.{Reasons}
 use Rattle.iloc_reasons.specs.Reasons.{AreReasons}
 use Rattle.iloc_judge.specs.declared.explained.ExplainedRows.{ExplainedRows}
-use Rattle.iloc_judge.specs.Listing.{bad_row}
-use Rattle.iloc_judge.specs.Reasons.{reasons_told}
+use Rattle.iloc_judge.specs.Entry.Listing.{bad_row}
+use Rattle.iloc_judge.specs.Entry.Reasons.{reasons_told}
 use Rattle.iloc_judge.specs.Unread.{IsUnreadLine}
 
 -- Rows by the book are explained by the block's own operations in their slots, beside which the lines show what is issued.

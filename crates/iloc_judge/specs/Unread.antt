@@ -13,8 +13,8 @@ use Rattle.iloc_judge.specs.declared.verdict.kind.VerdictKind.TheVariants as kin
 use Rattle.iloc_judge.specs.declared.task.Form.{Form}
 use Rattle.iloc_judge.specs.declared.task.Form.TheVariants as forms
 use Rattle.iloc_judge.specs.Checked.{found}
-use Rattle.iloc_judge.specs.Json.{unread_json_of}
-use Rattle.iloc_judge.specs.Listing.{line_of, row_of}
+use Rattle.iloc_judge.specs.Entry.Json.{unread_json_of}
+use Rattle.iloc_judge.specs.Entry.Listing.{line_of, row_of}
 
 -- the words without line ends
 abbrev pub in_one_line : List ℕ → List ℕ

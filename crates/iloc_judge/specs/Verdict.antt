@@ -10,7 +10,11 @@ use Rattle.iloc_validation.specs.ByTheBook.{IsByTheBook}
 use Rattle.iloc_reasons.specs.Reasons.{AreReasons}
 use Rattle.iloc_judge.specs.declared.verdict.Verdict.{Verdict}
 use Rattle.iloc_judge.specs.declared.verdict.Verdict.TheVariants.{Units, Lawful, Unlawful, Undecided}
-use Rattle.iloc_judge.specs.Comparison.{IsComparison}
+use Rattle.iloc_judge.specs.Verdict.Comparison.{IsComparison}
+pub mod Comparison
+pub mod Difference
+pub mod Memory
+pub mod Void
 
 -- The verdict is right, of operations and rows for a block, with this memory handed in: the row is the first that breaks the
 -- rules of the units; the rows are by the book; or they aren't, these facts hold of them, and so they compare, by outcomes or

@@ -4,7 +4,7 @@ ghost use Rattle.iloc_timed.specs.Schedule.{IsFirstBadRow};
 ghost use Rattle.iloc_judge.specs.Checked.{compared_kind, found, kind_of, passes, IsCheck};
 ghost use Rattle.iloc_judge.specs.Entry.{entry_as};
 ghost use Rattle.iloc_judge.specs.Kept.{keeps_operations as kept};
-ghost use Rattle.iloc_judge.specs.Listing.{lines_of};
+ghost use Rattle.iloc_judge.specs.Entry.Listing.{lines_of};
 ghost use Rattle.iloc_judge.specs.Steps.Counted.{CanBeListed};
 
 pub mod detail;
@@ -13,9 +13,9 @@ pub mod reason;
 pub(crate) mod unit_rule;
 pub(crate) mod verdict_line;
 
-use crate::comparison::Comparison;
 use crate::json::push_json;
 use crate::task::{Form, Judging, Task};
+use crate::verdict::comparison::Comparison;
 use crate::verdict::kind::VerdictKind;
 use crate::verdict::{Verdict, judge};
 use detail::push_detail;

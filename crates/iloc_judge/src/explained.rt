@@ -2,8 +2,8 @@
 ghost use Rattle.std.specs.Prelude.{ℕ, ◌≡◌, ◌≤◌, ◌<◌, ◌++◌, true, List, length, IfOk, OnOk};
 ghost use Rattle.iloc_timed.specs.Rows.{IsTable};
 ghost use Rattle.iloc_validation.specs.ByTheBook.{IssueTheSame};
-ghost use Rattle.iloc_judge.specs.Listing.{bad_row};
-ghost use Rattle.iloc_judge.specs.Reasons.{reasons_told};
+ghost use Rattle.iloc_judge.specs.Entry.Listing.{bad_row};
+ghost use Rattle.iloc_judge.specs.Entry.Reasons.{reasons_told};
 ghost use Rattle.iloc_judge.specs.RowsExplained.{not_lawful, IsRowsExplanation, IsSaidOf, HaveUnread};
 
 use crate::checked::detail::push_bad_row;

@@ -1,6 +1,6 @@
 //! Lines of JSON.
 ghost use Rattle.std.specs.Prelude.{◌≡◌, ◌++◌, ◌<◌, length, OnOk};
-ghost use Rattle.iloc_judge.specs.Json as json;
+ghost use Rattle.iloc_judge.specs.Entry.Json as json;
 ghost use Rattle.iloc_judge.specs.Steps.Counted.{CanBeListed};
 ghost use Rattle.iloc_judge.specs.UnitRule.{broken_rule};
 

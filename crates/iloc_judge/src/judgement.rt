@@ -5,10 +5,12 @@ ghost use Rattle.iloc_judge.specs.Steps.Agreement.{SeenSame};
 ghost use Rattle.iloc_judge.specs.Steps.Terms.{Meaning, IsMeaning};
 ghost use Rattle.iloc_judge.specs.Steps.Tracking.{Ends};
 
-use crate::agreement::agree;
+pub(crate) mod agreement;
+
 use crate::refutation::clues::Clues;
 use crate::symbols::Symbols;
 use crate::table::Table;
+use agreement::agree;
 use iloc_ops::NoMemory;
 use iloc_timed::{Latencies, Schedule};
 use std::alloc::Global;

@@ -2,10 +2,7 @@
 //! it.
 #![tactic(auto)]
 
-mod agreement;
 mod checked;
-mod comparison;
-mod difference;
 mod explained;
 mod json;
 mod judgement;
@@ -16,17 +13,16 @@ mod table;
 mod task;
 mod unread;
 mod verdict;
-mod void;
 
 pub use checked::detail::push_bad_row;
 pub use checked::{Checked, push_check};
-pub use comparison::Comparison;
-pub use difference::Difference;
 pub use explained::{ExplainedRows, push_rows_explanation};
 pub use json::value::push_quoted;
 pub use refutation::probe::Probe;
 pub use task::{CheckOptions, Form, Judging, Task};
 pub use unread::{push_unread, push_unread_line};
+pub use verdict::comparison::Comparison;
+pub use verdict::difference::Difference;
 pub use verdict::kind::VerdictKind;
+pub use verdict::void::Void;
 pub use verdict::{Verdict, judge};
-pub use void::Void;

@@ -1,7 +1,7 @@
 //! Memories on which a schedule's outcome isn't a block's.
 ghost use Rattle.std.specs.Prelude.{MatchOption, IfOk, IfSome};
-ghost use Rattle.iloc_judge.specs.Comparison.{AgreesOn};
-ghost use Rattle.iloc_judge.specs.Memory.{memory_of};
+ghost use Rattle.iloc_judge.specs.Verdict.Comparison.{AgreesOn};
+ghost use Rattle.iloc_judge.specs.Verdict.Memory.{memory_of};
 ghost use Rattle.iloc_judge.specs.Steps.Refuting.{DiffersAt};
 
 pub(crate) mod clues;
@@ -10,7 +10,7 @@ mod pattern;
 pub(crate) mod probe;
 mod shortening;
 
-use crate::difference::{Difference, first_difference};
+use crate::verdict::difference::{Difference, first_difference};
 use clues::Clues;
 use effort::Effort;
 use iloc_meaning::{Memory, run_block};

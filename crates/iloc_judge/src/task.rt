@@ -1,7 +1,7 @@
 //! What proposals are judged beside, and how.
 ghost use Rattle.std.specs.Prelude.{◌≡◌, ◌≤◌, length};
 ghost use Rattle.iloc_ops.specs.Limits.{MAX_OPS};
-ghost use Rattle.iloc_sched.specs.GraphOf.{of_block};
+ghost use Rattle.iloc_sched.specs.Graph.GraphOf.{of_block};
 ghost use Rattle.iloc_sched.specs.Lawful.{IsLawful};
 
 use iloc_meaning::Memory;

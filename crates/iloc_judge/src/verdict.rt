@@ -4,10 +4,13 @@ ghost use Rattle.iloc_timed.specs.Rows.{IsTable};
 ghost use Rattle.iloc_validation.specs.ByTheBook.{IssueTheSame};
 ghost use Rattle.iloc_judge.specs.Verdict.{IsVerdict};
 
+pub(crate) mod comparison;
+pub(crate) mod difference;
 pub mod kind;
+pub(crate) mod void;
 
-use crate::comparison::{Comparison, compared};
 use crate::task::{Judging, Task};
+use comparison::{Comparison, compared};
 use iloc_ops::NoMemory;
 use iloc_reasons::{Reasons, reasons_of};
 use iloc_timed::{MAX_ROWS, Schedule};

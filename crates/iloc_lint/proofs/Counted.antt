@@ -6,7 +6,7 @@ use Rattle.iloc_text.specs.Files.{Reading, block_count, ops_of}
 use Rattle.iloc_text.proofs.Counts.{count-label, count-empty, count-op, count-first, none_or_some}
 use Rattle.iloc_text.proofs.BlockOps.{ops_of-here, filter_map-one, no_more}
 use Rattle.iloc_lint.specs.Faults.{empty, ops_in}
-use Rattle.iloc_lint.specs.declared.counts.Counts.{Counts}
+use Rattle.iloc_lint.specs.declared.faults.counts.Counts.{Counts}
 use Rattle.iloc_lint.specs.Steps.Counted.{Count, grown}
 
 -- how many operations the last block has

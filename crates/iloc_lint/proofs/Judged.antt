@@ -5,7 +5,7 @@ use Rattle.iloc_text.specs.declared.fault.ReadFault.{ReadFault}
 use Rattle.iloc_text.specs.declared.fault.ReadFault.TheVariants.{InputTooLong, BadLine, NumberTooLarge, TooManyBlocks, TooManyOperations, NoMemory}
 use Rattle.iloc_text.specs.Grammar.{Reads}
 use Rattle.iloc_text.specs.Files.{Reading, IsFaulty}
-use Rattle.iloc_lint.specs.declared.counts.Counts.{Counts}
+use Rattle.iloc_lint.specs.declared.faults.counts.Counts.{Counts}
 use Rattle.iloc_lint.specs.Faults.{empty}
 use Rattle.iloc_lint.specs.Steps.Counted.{Adds, Count, Exceeds, Judged}
 use Rattle.iloc_lint.proofs.Counted.{empty_counted}

@@ -7,7 +7,7 @@ use Rattle.iloc_text.specs.Files.{HasNoLineEnd, Reading, block_count}
 use Rattle.std.specs.Borrow.{Bor}
 use Rattle.iloc_text.specs.Lines.{lines_of, lines_left}
 use Rattle.iloc_text.proofs.Splitting.{lines_are}
-use Rattle.iloc_lint.specs.declared.counts.Counts.{Counts}
+use Rattle.iloc_lint.specs.declared.faults.counts.Counts.{Counts}
 use Rattle.iloc_lint.specs.Steps.Counted.{Judged}
 use Rattle.iloc_lint.specs.Steps.Noted.{refusals}
 use Rattle.iloc_lint.specs.Faults.{Refusal, CountsAs, AreRefused, HasFaults, ops_in}

@@ -4,8 +4,11 @@ ghost use Rattle.iloc_text.specs.declared.fault.ReadFault.TheVariants.{InputTooL
 ghost use Rattle.iloc_lint.specs.Faults.{IsLinted, Refusal};
 ghost use Rattle.iloc_lint.specs.Refused.{AreKept};
 
-use crate::counts::Counts;
+mod counts;
+mod judging;
+
 use crate::refused::Refusals;
+use counts::Counts;
 use iloc_ops::{MAX_INPUT, NoMemory};
 use iloc_text::{ReadFault, split_line};
 use std::alloc::Global;

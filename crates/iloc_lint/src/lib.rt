@@ -2,11 +2,9 @@
 #![tactic(auto)]
 
 mod alone;
-mod counts;
 mod faults;
 mod hint;
 mod hints;
-mod judging;
 pub mod laws;
 mod listing;
 mod place;

@@ -6,11 +6,10 @@ use Rattle.iloc_ops.specs.declared.op.Op.{Op}
 use Rattle.iloc_ops.specs.Registers.{defined}
 use Rattle.iloc_meaning.specs.declared.machine_state.MachineState.{MachineState}
 use Rattle.iloc_meaning.specs.declared.effect.Effect.TheVariants.{Faults, Gives, Writes, Emits, Nothing}
-use Rattle.iloc_meaning.specs.Memory.{word_at}
+use Rattle.iloc_meaning.specs.Memory.{word_at, ScratchView}
 use Rattle.iloc_meaning.specs.Effect.{effect}
 use Rattle.iloc_meaning.specs.Trace.{Executed, register_after, word_after, then_executed}
 use Rattle.iloc_meaning.specs.Outcome.{has_fault, emitted}
-use Rattle.iloc_meaning.specs.Scratch.{ScratchView}
 use Rattle.iloc_meaning.specs.Registers.{Values, value_of, ChangesOnly}
 use Rattle.iloc_meaning.specs.MachineState.{Follows}
 use Rattle.iloc_meaning.proofs.Cases.{by_bool}

@@ -1,7 +1,6 @@
 pub mod Address
 pub mod Memory
 pub mod Registers
-pub mod Scratch
 pub mod Arithmetic
 pub mod Effect
 pub mod Results

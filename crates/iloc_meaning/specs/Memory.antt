@@ -1,4 +1,4 @@
--- A memory as the list of its words: the word at the address 4 * k is the kth.
+-- Memory, and what is seen of one that can be put back.
 use Rattle.std.specs.Prelude.{ℕ, ◌+◌, ◌-◌, ◌*◌, ◌/◌, List, ◌++◌, length, map, replicate, slice_index_or, ℤ, pos}
 use Rattle.std.specs.Int.{w32, cast_signed}
 use Rattle.std.specs.List.{range_with_len}
@@ -25,3 +25,8 @@ words_from at words =
     replicate (at / 4) (pos 0)
     ++ map (cast_signed w32) words
     ++ replicate (WORDS - (at / 4 + length words)) (pos 0)
+
+-- the words first handed in, and the words now
+pub record ScratchView : Type 0 where
+  pub first : List ℤ
+  pub words : List ℤ

@@ -24,7 +24,7 @@ pub struct Scratch {
 }
 
 impl Model for Scratch {
-    ghost use Rattle.iloc_meaning.specs.Scratch.{ScratchView};
+    ghost use Rattle.iloc_meaning.specs.Memory.{ScratchView};
     ghost use Rattle.iloc_meaning.specs.Steps.Scratch.{put_back, AreReplaced};
 
     ghost Value = { ScratchView };

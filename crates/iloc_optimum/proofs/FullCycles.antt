@@ -8,7 +8,7 @@ use Rattle.iloc_timed.specs.declared.kind.Kind.{Kind}
 use Rattle.iloc_sched.specs.declared.lower_bound.share.Share.{Share}
 use Rattle.iloc_optimum.specs.Timing.{Within, Crowd, between, belongs}
 use Rattle.iloc_optimum.specs.Steps.Inside.{is_inside, count_inside}
-use Rattle.iloc_sched.specs.Shares.{width}
+use Rattle.iloc_sched.specs.LowerBound.Shares.{width}
 use Rattle.iloc_sched.proofs.Basics.CountedRanges.{count_range}
 use Rattle.iloc_sched.proofs.Basics.Slots.{count_by-cons}
 use Rattle.iloc_sched.proofs.Bounds.Counting.{both, at_least}

@@ -20,9 +20,9 @@ use Rattle.iloc_sched.specs.declared.lower_bound.share.Share.{Share}
 use Rattle.iloc_sched.specs.declared.lower_bound.share.Share.TheVariants.{Memory, Products, Outputs, All as AllOf}
 use Rattle.iloc_sched.specs.Delays.{IsDelayPair}
 use Rattle.iloc_sched.specs.Lawful.{IsLawful}
-use Rattle.iloc_sched.specs.Least.{tails, tail}
+use Rattle.iloc_sched.specs.LowerBound.Least.{tails, tail}
 use Rattle.iloc_sched.specs.Renaming.{renamed}
-use Rattle.iloc_sched.specs.Shares.{shares, width}
+use Rattle.iloc_sched.specs.LowerBound.Shares.{shares, width}
 use Rattle.iloc_sched.proofs.Bounds.Counting.{both}
 use Rattle.iloc_sched.proofs.Bounds.PriorityBound.{ends_within}
 use Rattle.iloc_sched.proofs.Bounds.RowsHold.{Holds, holds_memory, holds_products, holds_outputs, holds_all, holds_loads}

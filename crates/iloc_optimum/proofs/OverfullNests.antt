@@ -10,7 +10,7 @@ use Rattle.iloc_sched.proofs.Basics.Slots.{count_by-cons}
 use Rattle.iloc_sched.proofs.Bounds.Counting.{both}
 use Rattle.iloc_optimum.specs.Timing.{Within, FitsShares, between, belongs}
 use Rattle.iloc_optimum.specs.Steps.Inside.{is_inside, count_inside}
-use Rattle.iloc_sched.specs.Shares.{width}
+use Rattle.iloc_sched.specs.LowerBound.Shares.{width}
 use Rattle.iloc_optimum.proofs.FullCycles.{in_between, issued_inside}
 
 abbrev one : Bool → ℕ

@@ -5,7 +5,7 @@ use Rattle.iloc_timed.specs.declared.kind.Kind.{Kind}
 use Rattle.iloc_sched.specs.declared.lower_bound.share.Share.{Share}
 use Rattle.iloc_optimum.specs.Timing.{Within, belongs}
 use Rattle.iloc_optimum.specs.Steps.Inside.{IsKept, count_inside}
-use Rattle.iloc_sched.specs.Shares.{width}
+use Rattle.iloc_sched.specs.LowerBound.Shares.{width}
 use Rattle.iloc_optimum.proofs.NarrowerWindows.{raised, lowered}
 use Rattle.iloc_optimum.proofs.FullCycles.{left_over}
 

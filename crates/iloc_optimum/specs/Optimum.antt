@@ -10,7 +10,7 @@ use Rattle.iloc_sched.specs.declared.ranking.heuristic.Heuristic.{Heuristic}
 use Rattle.iloc_sched.specs.Greedy.{IsGreedyBy}
 use Rattle.iloc_sched.specs.Heuristics.{priorities_by}
 use Rattle.iloc_sched.specs.Lawful.{IsLawful}
-use Rattle.iloc_sched.specs.Least.{least}
+use Rattle.iloc_sched.specs.LowerBound.Least.{least}
 use Rattle.iloc_optimum.specs.declared.optimizer.Optimum.{Optimum}
 use Rattle.iloc_optimum.specs.declared.optimizer.Sought.{Sought}
 use Rattle.iloc_optimum.specs.Bound.{IsBound}

@@ -1,6 +1,6 @@
 //! What is left of windows where other operations of a share fill cycles.
 ghost use Rattle.std.specs.Prelude.{ℕ, ◌≡◌, ◌+◌, ◌-◌, ◌*◌, ◌<◌, ◌≤◌, ◌&&◌, ◌⊎◌, nat_le, length, IsTrue};
-ghost use Rattle.iloc_sched.specs.Shares.{width};
+ghost use Rattle.iloc_sched.specs.LowerBound.Shares.{width};
 ghost use Rattle.iloc_optimum.specs.Timing.{Within, FitsShares, belongs};
 ghost use Rattle.iloc_optimum.specs.Steps.Inside.{count_inside};
 

@@ -3,7 +3,7 @@
 //! Loads and stores go on one unit alone, and so do products. Where more operations of such a share have their windows
 //! within the outer cycles than the rows around the inner ones can hold, they take slots of the inner ones from all others.
 ghost use Rattle.std.specs.Prelude.{ℕ, ◌≡◌, ◌≤◌, ◌*◌, ◌^◌, length, IsTrue};
-ghost use Rattle.iloc_sched.specs.Shares.{width};
+ghost use Rattle.iloc_sched.specs.LowerBound.Shares.{width};
 ghost use Rattle.iloc_optimum.specs.Timing.{Within, FitsShares};
 
 use crate::crowds::count_inside;

@@ -1,6 +1,6 @@
 //! The best schedule of a block.
 ghost use Rattle.std.specs.Prelude.{◌≡◌, ◌≤◌, ◌<◌, ◌+◌, ◌-◌, ◌^◌, ◌⊎◌, length, map, replicate, IfOk, OnOk};
-ghost use Rattle.iloc_sched.specs.Least.{tails};
+ghost use Rattle.iloc_sched.specs.LowerBound.Least.{tails};
 ghost use Rattle.iloc_sched.specs.Renaming.{renamed};
 ghost use Rattle.iloc_optimum.specs.Optimum.{IsOptimumOf, IsSought, cycles_of};
 ghost use Rattle.iloc_optimum.specs.Steps.Improving.{IsShortened};

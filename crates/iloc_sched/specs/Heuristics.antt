@@ -9,7 +9,7 @@ use Rattle.iloc_sched.specs.declared.ranking.heuristic.Heuristic.{Heuristic}
 use Rattle.iloc_sched.specs.declared.ranking.heuristic.Heuristic.TheVariants.{Chain, Slack, Descendants, Successors, Latency, Order}
 use Rattle.iloc_sched.specs.Delays.{delays}
 use Rattle.iloc_sched.specs.Priority.{priorities, priority}
-use Rattle.iloc_sched.specs.Starts.{start}
+use Rattle.iloc_sched.specs.LowerBound.Starts.{start}
 
 -- the length of the longest chain of delays through operation i
 abbrev pub through : Latencies → List Op → ℕ → ℕ

@@ -10,7 +10,7 @@ use Rattle.iloc_timed.specs.Cycles.{cycles}
 use Rattle.iloc_timed.specs.Timed.{timed_outcome}
 use Rattle.iloc_sched.specs.Priority.{priority}
 use Rattle.iloc_sched.specs.Heuristics.{through, slack}
-use Rattle.iloc_sched.specs.Least.{least}
+use Rattle.iloc_sched.specs.LowerBound.Least.{least}
 use Rattle.iloc_sched.specs.Lawful.{IsLawful}
 use Rattle.iloc_sched.specs.Greedy.{IsGreedy, IsGreedyBy}
 

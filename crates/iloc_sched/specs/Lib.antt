@@ -1,15 +1,11 @@
 pub mod Renaming
 pub mod Delays
-pub mod Near
-pub mod Pairs
 pub mod Priority
-pub mod Starts
 pub mod Lawful
 pub mod Greedy
-pub mod GraphOf
 pub mod Heuristics
 pub mod Scheduled
-pub mod Shares
-pub mod Least
 pub mod Laws
 pub mod Steps
+pub mod Graph
+pub mod LowerBound

@@ -23,7 +23,7 @@ pub struct ByRegister {
 }
 
 impl ByRegister {
-    ghost use Rattle.iloc_sched.specs.Steps.ByRegister.{number_at, Sets};
+    ghost use Rattle.iloc_sched.specs.Steps.Renaming.ByRegister.{number_at, Sets};
 
     /// No register has a number.
     pub fn new(alloc: Global) -> ByRegister

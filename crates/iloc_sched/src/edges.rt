@@ -14,14 +14,15 @@ ghost use Rattle.iloc_meaning.specs.Trace.{op_at};
 ghost use Rattle.iloc_sched.specs.Renaming.{IsRenamed};
 
 pub mod delay_pairs;
+pub(crate) mod kinds;
 pub mod lasts;
 pub mod later;
 
 use crate::edges::lasts::Lasts;
-use crate::kinds::Operations;
 use crate::registers::{OperandRegisters, Uses};
 use iloc_ops::{MAX_OPS, NoMemory, Reg};
 use iloc_timed::{Kind, Latencies};
+use kinds::Operations;
 use std::alloc::Global;
 
 /// At most so many edges are kept for each operation.
@@ -53,10 +54,10 @@ impl Edges {
     ghost use Rattle.std.specs.Prelude.{None, ◌++◌, ◌∷◌, []};
     ghost use Rattle.iloc_sched.specs.Steps.Members.{In};
     ghost use Rattle.iloc_sched.specs.Steps.Graph.{IsGraphOf};
-    ghost use Rattle.iloc_sched.specs.Steps.Lasts.{IsNext, loads_before};
-    ghost use Rattle.iloc_sched.specs.Steps.Registers.{listed};
-    ghost use Rattle.iloc_sched.specs.Steps.PartialGraph.{HasCapacity, IsPartialGraph, KeepsFrame, KeepsCapacity, Grows, AddsFrom, CoversUse, CoversUses, CoversMemory};
-    ghost use Rattle.iloc_sched.specs.Steps.Successors.{leads_into};
+    ghost use Rattle.iloc_sched.specs.Steps.Edges.Lasts.{IsNext, loads_before};
+    ghost use Rattle.iloc_sched.specs.Steps.Renaming.Registers.{listed};
+    ghost use Rattle.iloc_sched.specs.Steps.Edges.PartialGraph.{HasCapacity, IsPartialGraph, KeepsFrame, KeepsCapacity, Grows, AddsFrom, CoversUse, CoversUses, CoversMemory};
+    ghost use Rattle.iloc_sched.specs.Steps.Ranking.Successors.{leads_into};
     ghost use Rattle.iloc_sched.specs.Steps.Views.{edge_at, graph_of, IsEmptied};
 
     /// No operation and no edge.

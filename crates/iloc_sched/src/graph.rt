@@ -3,15 +3,15 @@ ghost use Rattle.std.specs.Prelude.{ℕ, ◌≡◌, ◌≤◌, ◌<◌, ◌+◌,
 ghost use Rattle.iloc_ops.specs.declared.op.Op.{Op};
 ghost use Rattle.iloc_timed.specs.Kinds.{kind};
 ghost use Rattle.iloc_sched.specs.Delays.{IsDelayPair};
-ghost use Rattle.iloc_sched.specs.GraphOf.{GraphOf, of_block};
+ghost use Rattle.iloc_sched.specs.Graph.GraphOf.{GraphOf, of_block};
 ghost use Rattle.iloc_sched.specs.Heuristics.{priorities_by};
-ghost use Rattle.iloc_sched.specs.Least.{tails, least_of};
-ghost use Rattle.iloc_sched.specs.Near.{IsNearPair};
+ghost use Rattle.iloc_sched.specs.LowerBound.Least.{tails, least_of};
+ghost use Rattle.iloc_sched.specs.Graph.Near.{IsNearPair};
 ghost use Rattle.iloc_sched.specs.Priority.{priorities};
 ghost use Rattle.iloc_sched.specs.Renaming.{renamed};
-ghost use Rattle.iloc_sched.specs.Starts.{starts};
+ghost use Rattle.iloc_sched.specs.LowerBound.Starts.{starts};
 ghost use Rattle.iloc_sched.specs.declared.edges.Edge.{Edge as edge_value};
-ghost use Rattle.iloc_sched.specs.Steps.SoundGraph.{IsSound};
+ghost use Rattle.iloc_sched.specs.Steps.Edges.SoundGraph.{IsSound};
 
 use crate::edges::Edge;
 use crate::edges::lasts::Lasts;
@@ -38,11 +38,11 @@ pub struct Graph {
 }
 
 impl Model for Graph {
-    ghost use Rattle.iloc_sched.specs.GraphOf.{GraphOf};
+    ghost use Rattle.iloc_sched.specs.Graph.GraphOf.{GraphOf};
 
     ghost Value = { GraphOf };
 
-    ghost use Rattle.iloc_sched.specs.Steps.SoundGraph.{IsOfBlock};
+    ghost use Rattle.iloc_sched.specs.Steps.Edges.SoundGraph.{IsOfBlock};
 
     ghost view = { λ g. record { ops = g.tables.ops.items; latencies = g.tables.latencies } };
 

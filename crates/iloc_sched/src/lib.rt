@@ -7,7 +7,6 @@ mod by_register;
 mod cycle;
 mod edges;
 mod graph;
-mod kinds;
 pub mod laws;
 mod lower_bound;
 mod ranking;

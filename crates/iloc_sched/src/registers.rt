@@ -1,7 +1,7 @@
 //! The registers of an operation.
 ghost use Rattle.std.specs.Prelude.{◌≡◌};
 ghost use Rattle.iloc_ops.specs.Registers.{used};
-ghost use Rattle.iloc_sched.specs.Steps.Registers.{listed};
+ghost use Rattle.iloc_sched.specs.Steps.Renaming.Registers.{listed};
 
 use iloc_ops::{Op, Reg, defines, uses};
 
@@ -32,7 +32,7 @@ fn uses_of(op: &Op) -> Uses
 }
 
 impl OperandRegisters {
-    ghost use Rattle.iloc_sched.specs.Steps.Registers.{AreRegistersOf};
+    ghost use Rattle.iloc_sched.specs.Steps.Renaming.Registers.{AreRegistersOf};
 
     /// The registers of an operation.
     pub fn of(op: &Op) -> OperandRegisters

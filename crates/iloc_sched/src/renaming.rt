@@ -21,9 +21,9 @@ pub(crate) struct Names {
 impl Names {
     ghost use Rattle.std.specs.Prelude.{None, Some};
     ghost use Rattle.iloc_ops.specs.declared.op.Reg.{Reg};
-    ghost use Rattle.iloc_sched.specs.Steps.NamingWalk.{NamesNext, NamesUse, NamesDefinition, NamesAll, Named, next_renamed};
-    ghost use Rattle.iloc_sched.specs.Steps.CurrentNames.{current_of};
-    ghost use Rattle.iloc_sched.specs.Steps.Registers.{AreRegistersOf};
+    ghost use Rattle.iloc_sched.specs.Steps.Renaming.NamingWalk.{NamesNext, NamesUse, NamesDefinition, NamesAll, Named, next_renamed};
+    ghost use Rattle.iloc_sched.specs.Steps.Renaming.CurrentNames.{current_of};
+    ghost use Rattle.iloc_sched.specs.Steps.Renaming.Registers.{AreRegistersOf};
     ghost use Rattle.iloc_sched.specs.declared.registers.Uses.TheVariants.{Nothing, One, Two};
 
     /// Names for blocks, one after another.

@@ -2,13 +2,13 @@
 ghost use Rattle.std.specs.Prelude.{◌≡◌, ◌≤◌, ◌+◌, ◌*◌, List, length, IfOk, OnOk};
 ghost use Rattle.iloc_ops.specs.declared.op.Op.{Op};
 ghost use Rattle.iloc_timed.specs.declared.latencies.Latencies.{Latencies as latencies_value};
-ghost use Rattle.iloc_sched.specs.GraphOf.{of_block};
+ghost use Rattle.iloc_sched.specs.Graph.GraphOf.{of_block};
 ghost use Rattle.iloc_sched.specs.Greedy.{IsGreedyBy};
 ghost use Rattle.iloc_sched.specs.Heuristics.{priorities_by};
 ghost use Rattle.iloc_sched.specs.Priority.{priorities};
 ghost use Rattle.iloc_sched.specs.Renaming.{renamed};
 ghost use Rattle.iloc_sched.specs.Scheduled.{IsTheSchedule};
-ghost use Rattle.iloc_sched.specs.Steps.SoFar.{IsPlan};
+ghost use Rattle.iloc_sched.specs.Steps.Cycle.SoFar.{IsPlan};
 
 use crate::cycle::calendar::LONGEST_DELAY;
 use crate::cycle::order::Order;

@@ -4,8 +4,8 @@ ghost use Rattle.iloc_ops.specs.declared.op.Op.{Op};
 ghost use Rattle.iloc_sched.specs.Renaming.{is_nop, renamed, without_nops, IsRenamed};
 
 use crate::edges::Edges;
+use crate::edges::kinds::{Operations, fill_kinds};
 use crate::edges::lasts::Lasts;
-use crate::kinds::{Operations, fill_kinds};
 use crate::ranking::priority::fill_latencies;
 use crate::registers::OperandRegisters;
 use crate::renaming::{Names, is_nop};
@@ -25,9 +25,9 @@ pub struct Tables {
 }
 
 impl Tables {
-    ghost use Rattle.iloc_sched.specs.Steps.Filling.{CanHold, IsFilling, IsGathered};
-    ghost use Rattle.iloc_sched.specs.Steps.Registers.{AreRegistersOf};
-    ghost use Rattle.iloc_sched.specs.Steps.SoundGraph.{IsSound};
+    ghost use Rattle.iloc_sched.specs.Steps.Edges.Filling.{CanHold, IsFilling, IsGathered};
+    ghost use Rattle.iloc_sched.specs.Steps.Renaming.Registers.{AreRegistersOf};
+    ghost use Rattle.iloc_sched.specs.Steps.Edges.SoundGraph.{IsSound};
     ghost use Rattle.iloc_sched.specs.Steps.Views.{IsEmptied};
 
     /// The tables of no operation.

@@ -7,9 +7,8 @@ use Rattle.iloc_ops.specs.Registers.{defined}
 use Rattle.iloc_meaning.specs.declared.effect.Effect.{Effect}
 use Rattle.iloc_meaning.specs.declared.effect.Effect.TheVariants.{Faults, Gives, Writes, Emits, Nothing}
 use Rattle.iloc_meaning.specs.Address.{is_good}
-use Rattle.iloc_meaning.specs.Memory.{word_at}
+use Rattle.iloc_meaning.specs.Memory.{word_at, ScratchView}
 use Rattle.iloc_meaning.specs.Registers.{Values, value_of}
-use Rattle.iloc_meaning.specs.Scratch.{ScratchView}
 use Rattle.iloc_meaning.specs.Effect.{effect}
 use Rattle.iloc_meaning.specs.Outcome.{is_fault, has_fault, emitted_by}
 use Rattle.iloc_meaning.proofs.Effects.{effect_same, results_go}

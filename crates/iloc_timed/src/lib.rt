@@ -10,7 +10,6 @@ mod row;
 mod run;
 mod schedule;
 mod simulator;
-mod slots;
 mod spelling;
 mod timing;
 mod wheel;

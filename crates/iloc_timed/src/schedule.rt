@@ -3,10 +3,12 @@ ghost use Rattle.std.specs.Prelude.{◌≡◌, ◌≤◌, length, vec_len, IfOk,
 ghost use Rattle.iloc_timed.specs.Rows.{IsTable};
 ghost use Rattle.iloc_timed.specs.Schedule.{IsReason};
 
+mod slots;
+
 use crate::build_fault::BuildFault;
 use crate::row::Row;
-use crate::slots::{first_bad_row, first_not_once};
 use iloc_ops::Op;
+use slots::{first_bad_row, first_not_once};
 use std::alloc::{AllocError, Global};
 use std::marker::Model;
 

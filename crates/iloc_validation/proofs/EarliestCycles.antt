@@ -12,7 +12,7 @@ use Rattle.iloc_timed.proofs.Greatest.{le_fold_max}
 use Rattle.iloc_sched.specs.Steps.Members.{In}
 use Rattle.iloc_sched.proofs.Basics.Members.{in_map, from_map}
 use Rattle.iloc_sched.proofs.Basics.Maxima.{fold_max_each, fold_max_reached}
-use Rattle.iloc_validation.specs.declared.waits.Waits.{Waits}
+use Rattle.iloc_validation.specs.declared.verification.waits.Waits.{Waits}
 use Rattle.iloc_validation.specs.Steps.Waits.{memory_by, earliest, wait_of, noted}
 
 -- an operation that is noted raises the waits by its delays

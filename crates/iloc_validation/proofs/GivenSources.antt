@@ -9,7 +9,7 @@ use Rattle.iloc_meaning.specs.Trace.{op_at, is_register}
 use Rattle.iloc_meaning.proofs.Cases.{by_bool}
 use Rattle.iloc_validation.specs.declared.reading.holders.Holders.{Holders}
 use Rattle.iloc_validation.specs.ByTheBook.{given}
-use Rattle.iloc_validation.specs.Steps.Holders.{holder, ChangesOnly}
+use Rattle.iloc_validation.specs.Steps.Tracks.Holders.{holder, ChangesOnly}
 
 -- what holds of each item of a list, and of one more behind them
 pub push_more : {X : Type 0} (P : ℕ → X → Type 0) (xs : List X) (x d : X) (n : ℕ) → length xs ≡ n

@@ -21,7 +21,7 @@ use Rattle.iloc_timed.specs.Timed as timed
 use Rattle.iloc_timed.specs.Timed.{Issued, register_in, word_in, timed_outcome, timed_outcome_of}
 use Rattle.iloc_sched.specs.Delays.{uses_result, when, memory_delays, delays}
 use Rattle.iloc_sched.specs.Lawful.{IsLawful}
-use Rattle.iloc_sched.specs.Least.{least}
+use Rattle.iloc_sched.specs.LowerBound.Least.{least}
 use Rattle.iloc_sched.specs.Renaming.{source, numbering, name_of, without_nops, renamed, IsRenamed}
 use Rattle.iloc_sched.specs.Renaming.Source.{Result}
 use Rattle.iloc_sched.specs.Steps.Members.{In}

@@ -15,7 +15,7 @@ use Rattle.iloc_validation.specs.declared.reading.Reading.{Reading}
 use Rattle.iloc_validation.specs.declared.reading.run.Run.{Run}
 use Rattle.iloc_validation.specs.declared.reading.sources.Sources.TheVariants.{Nothing}
 use Rattle.iloc_validation.specs.ByTheBook.{read}
-use Rattle.iloc_validation.specs.Steps.Holders.{holder}
+use Rattle.iloc_validation.specs.Steps.Tracks.Holders.{holder}
 use Rattle.iloc_validation.specs.Steps.Readings.{reading_at, reading_of, with_noted, AreNoted}
 use Rattle.iloc_validation.specs.Steps.Sources.{sources_of}
 use Rattle.iloc_validation.specs.Steps.Tracks.{Tracks}

@@ -28,8 +28,8 @@ use Rattle.iloc_validation.specs.declared.reading.holders.Holders.{Holders}
 use Rattle.iloc_validation.specs.declared.reading.run.Arrival.{Arrival}
 use Rattle.iloc_validation.specs.declared.reading.run.Run.{Run}
 use Rattle.iloc_validation.specs.ByTheBook.{due, read}
-use Rattle.iloc_validation.specs.Steps.Holders.{holder}
-use Rattle.iloc_validation.specs.Steps.Arrivals.{landed_at, mark, marked_by, marked, with_slot, sent_as}
+use Rattle.iloc_validation.specs.Steps.Tracks.Holders.{holder}
+use Rattle.iloc_validation.specs.Steps.Tracks.Arrivals.{landed_at, mark, marked_by, marked, with_slot, sent_as}
 use Rattle.iloc_validation.specs.Steps.Tracks.{Tracks}
 use Rattle.iloc_validation.proofs.ReadValues.{agree, value_of, value_mapped, read_in}
 

@@ -1,7 +1,5 @@
 -- What the code does piece by piece, as steps of proof: no contract of a public function names them.
 pub mod Sources
-pub mod Holders
-pub mod Arrivals
 pub mod Tracks
 pub mod Readings
 pub mod Waits

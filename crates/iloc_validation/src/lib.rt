@@ -12,7 +12,6 @@ mod pairing;
 mod reading;
 mod renumbering;
 mod verification;
-mod waits;
 
 pub use counterparts::lacking::{Lacking, without_counterpart};
 pub use decision::{Decision, decide};

@@ -4,7 +4,7 @@ ghost use Rattle.iloc_ops.specs.Registers.{used};
 ghost use Rattle.iloc_meaning.specs.Trace.{op_at};
 ghost use Rattle.iloc_timed.specs.Limits.{MAX_ROWS};
 ghost use Rattle.iloc_timed.specs.Rows.{IsTable};
-ghost use Rattle.iloc_validation.specs.Steps.Holders.{holder};
+ghost use Rattle.iloc_validation.specs.Steps.Tracks.Holders.{holder};
 ghost use Rattle.iloc_validation.specs.Readings.{reading_at, reading_of, sources_of};
 ghost use Rattle.iloc_validation.specs.Steps.Readings.{with_noted};
 

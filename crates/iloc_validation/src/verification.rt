@@ -4,14 +4,16 @@ ghost use Rattle.iloc_validation.specs.ByTheBook.{IsScheduleUnder};
 ghost use Rattle.iloc_validation.specs.Steps.Pairing.{LeadsBack};
 ghost use Rattle.iloc_validation.specs.Steps.Sides.{AreSides, IsKept};
 
+mod waits;
+
 use crate::label::have_one_label;
 use crate::pairing::Pairing;
 use crate::reading::Reading;
 use crate::reading::sources::{Sources, are_same};
-use crate::waits::waits_of;
 use iloc_ops::{NoMemory, Op};
 use iloc_timed::{Latencies, Schedule};
 use std::alloc::Global;
+use waits::waits_of;
 
 /// A block without its `nop`s and rows for it, with what their operations read.
 #[derive(Clone, Copy)]

@@ -8,7 +8,7 @@ use Rattle.iloc_board.specs.declared.step.Step.{Step}
 use Rattle.iloc_board.specs.declared.step.Step.TheVariants.{Look, Try, Hand}
 use Rattle.iloc_board.specs.declared.step.Reply.{Reply}
 use Rattle.iloc_board.specs.declared.step.Reply.TheVariants.{Took, Handed}
-use Rattle.iloc_board.specs.declared.journal.Journal.{Journal}
+use Rattle.iloc_board.specs.declared.step.Journal.{Journal}
 use Rattle.iloc_board.specs.declared.board.seat_view.Role.TheVariants.{Root, Pass, Spent}
 use Rattle.iloc_board.specs.declared.board.seat_view.SeatView.{SeatView}
 use Rattle.iloc_board.specs.Core.{opening, played, found, missed}

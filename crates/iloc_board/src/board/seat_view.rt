@@ -1,5 +1,5 @@
 //! What the holder of a seat at the board's table knows. It is in proofs alone: no value of it is made.
-use crate::journal::Journal;
+use crate::step::Journal;
 use std::collections::LinkedList;
 
 /// Whose seat it is.

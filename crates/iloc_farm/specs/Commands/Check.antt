@@ -14,15 +14,15 @@ use Rattle.iloc_judge.specs.declared.task.CheckOptions.{CheckOptions}
 use Rattle.iloc_judge.specs.declared.task.Form.{Form}
 use Rattle.iloc_judge.specs.declared.task.Form.TheVariants as forms
 use Rattle.iloc_judge.specs.Checked.{IsCheck, passes}
-use Rattle.iloc_judge.specs.Json.{quoted}
+use Rattle.iloc_judge.specs.Entry.Json.{quoted}
 use Rattle.iloc_judge.specs.Unread.{IsUnread}
 use Rattle.iloc_farm.specs.Listing.{head_as}
-use Rattle.iloc_farm.specs.Rows.{ListsRows}
+use Rattle.iloc_farm.specs.Listing.Rows.{ListsRows}
 use Rattle.iloc_farm.specs.Schedules.{IsTheGreedy}
 use Rattle.iloc_farm.specs.declared.commands.Finding.{Finding}
 use Rattle.iloc_args.specs.declared.request.Request.{Request}
 use Rattle.iloc_rows.specs.EitherSlot.{placed}
-use Rattle.iloc_farm.specs.Command.{Command, of_rows}
+use Rattle.iloc_farm.specs.Commands.Command.{Command, of_rows}
 use Rattle.iloc_farm.specs.Commands.Optimize.{IsSoughtIf}
 use Rattle.iloc_farm.specs.Commands.Run.{initial_memory}
 

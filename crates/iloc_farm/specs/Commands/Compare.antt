@@ -6,7 +6,7 @@ use Rattle.std.specs.Option.{option_map_or}
 use Rattle.std.specs.Fmt.{decimal}
 use Rattle.iloc_ops.specs.declared.file.Block.{Block}
 use Rattle.iloc_timed.specs.declared.latencies.Latencies.{Latencies}
-use Rattle.iloc_sched.specs.Least.{least}
+use Rattle.iloc_sched.specs.LowerBound.Least.{least}
 use Rattle.iloc_sched.specs.declared.ranking.heuristic.Heuristic.{Heuristic}
 use Rattle.iloc_sched.specs.declared.ranking.heuristic.Heuristic.TheVariants.{Chain, Slack, Descendants, Successors, Latency, Order}
 use Rattle.iloc_optimum.specs.declared.optimizer.Sought.{Sought}
@@ -16,7 +16,7 @@ use Rattle.iloc_farm.specs.declared.commands.compare.ComparedCycles.{ComparedCyc
 use Rattle.iloc_farm.specs.Entries.{IsListingAfter}
 use Rattle.iloc_farm.specs.Listing.{field, head_as, opening_as}
 use Rattle.iloc_farm.specs.Schedules.{IsCount}
-use Rattle.iloc_farm.specs.Command.{Command, Shared, of_files}
+use Rattle.iloc_farm.specs.Commands.Command.{Command, Shared, of_files}
 use Rattle.iloc_farm.specs.Commands.Optimize.{IsSoughtIf}
 
 -- the place of a heuristic among them

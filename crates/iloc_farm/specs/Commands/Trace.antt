@@ -6,11 +6,12 @@ use Rattle.iloc_trace.specs.Events.{events}
 use Rattle.iloc_trace.specs.Listing.{trace_lines}
 use Rattle.iloc_args.specs.declared.request.Request.{Request}
 use Rattle.iloc_farm.specs.Commands.Run.{initial_memory, no_ending}
-use Rattle.iloc_farm.specs.Commands.TraceRows.{Traces}
+use Rattle.iloc_farm.specs.Commands.Trace.Rows.{Traces}
 use Rattle.iloc_farm.specs.Listing.{block_head}
 use Rattle.iloc_farm.specs.Schedules.{IsTheGreedy}
-use Rattle.iloc_farm.specs.Command.{Command, of_files_or_rows}
+use Rattle.iloc_farm.specs.Commands.Command.{Command, of_files_or_rows}
 use Rattle.iloc_farm.specs.Entries.{IsListingOf}
+pub mod Rows
 
 -- the entry of block k: its number and its name, and what its greedy schedule does on the request's memory
 pub record IsTraceEntry (request : Request) (k : ℕ) (b : Block) (entry : List ℕ) (found : Unit {0}) : Type 0 where

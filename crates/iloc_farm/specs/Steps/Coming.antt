@@ -2,9 +2,9 @@
 use Rattle.std.specs.Prelude.{ℕ, List, Option, Result, MatchResult}
 use Rattle.iloc_board.specs.Finished.{ReceiptView}
 use Rattle.iloc_args.specs.declared.request.Request.{Request}
-use Rattle.iloc_farm.specs.Apart.{Held}
-use Rattle.iloc_farm.specs.Causes.{IsCaused, causes_of}
-use Rattle.iloc_farm.specs.Command.{Command, Input}
+use Rattle.iloc_farm.specs.Run.Apart.{Held}
+use Rattle.iloc_farm.specs.Run.Causes.{IsCaused, causes_of}
+use Rattle.iloc_farm.specs.Commands.Command.{Command, Input}
 use Rattle.iloc_farm.specs.Run.{ListsBy, input_of}
 use Rattle.iloc_farm.specs.Work.{HasReceiptFrom}
 use Rattle.iloc_farm.specs.declared.commands.Listed.{Listed}

@@ -4,7 +4,7 @@ ghost use Rattle.std.specs.Option.{option_copied};
 ghost use Rattle.iloc_ops.specs.Limits.{MAX_BLOCKS};
 ghost use Rattle.iloc_ops.specs.declared.file.Block.{Block as block_value};
 ghost use Rattle.iloc_timed.specs.declared.latencies.Latencies.{Latencies as latencies_value};
-ghost use Rattle.iloc_sched.specs.GraphOf.{of_block};
+ghost use Rattle.iloc_sched.specs.Graph.GraphOf.{of_block};
 ghost use Rattle.iloc_farm.specs.Commands.Compare as compare;
 ghost use Rattle.iloc_farm.specs.Schedules.{IsCount};
 ghost use Rattle.iloc_farm.specs.Steps.Tallies.{counted, limit_of};

@@ -1,4 +1,6 @@
 //! `explain`: why blocks' schedules take their cycles.
+mod rows;
+
 use crate::lister::Lister;
 use crate::listing::{count_of, push_block_head, push_total_of};
 use iloc_args::Request;

@@ -2,7 +2,7 @@
 ghost use Rattle.std.specs.Prelude.{IfErr, IfOk};
 ghost use Rattle.iloc_farm.specs.Commands.Lint.{ListsLinted};
 ghost use Rattle.iloc_farm.specs.Run.{Lists};
-ghost use Rattle.iloc_farm.specs.Causes.{IsCaused, of_reading};
+ghost use Rattle.iloc_farm.specs.Run.Causes.{IsCaused, of_reading};
 
 use crate::commands::{Finding, Listed};
 use crate::fault::RunFault;

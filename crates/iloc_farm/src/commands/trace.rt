@@ -1,4 +1,6 @@
 //! `trace`: what blocks' schedules do on the timed machine, cycle by cycle.
+mod rows;
+
 use crate::lister::{Lister, initial_memory};
 use crate::listing::push_block_head;
 use iloc_args::Request;

@@ -2,7 +2,7 @@
 ghost use Rattle.std.specs.Prelude.{◌≡◌, ◌<◌, ◌≤◌, ◌+◌, ◌++◌, length, IfOk, OnErr, OnOk};
 ghost use Rattle.std.specs.Io.KnownBytes.{Appends};
 ghost use Rattle.std.specs.List.{flat_map};
-ghost use Rattle.iloc_farm.specs.Device.{WritesFront};
+ghost use Rattle.iloc_farm.specs.Run.Device.{WritesFront};
 ghost use Rattle.iloc_farm.specs.Steps.Joined.{Joins};
 ghost use Rattle.iloc_farm.specs.Steps.Text.{empty_rows};
 

@@ -1,7 +1,7 @@
 //! Writing texts, short ones joined.
 ghost use Rattle.std.specs.Prelude.{◌≡◌, [], ◌++◌, OnErr, OnOk};
 ghost use Rattle.std.specs.Io.KnownBytes.{Appends};
-ghost use Rattle.iloc_farm.specs.Device.{WritesFront};
+ghost use Rattle.iloc_farm.specs.Run.Device.{WritesFront};
 ghost use Rattle.iloc_farm.specs.Steps.Joined.{Joins};
 
 use std::io::Write;

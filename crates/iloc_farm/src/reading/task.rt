@@ -1,11 +1,11 @@
 //! Reading a task, whose blocks are in a text of their own, and apart from it the rows that somebody hands in.
 ghost use Rattle.std.specs.Prelude.{IfErr, IfOk};
 ghost use Rattle.iloc_rows.specs.Laws.{AreWithinLimits};
-ghost use Rattle.iloc_farm.specs.Apart.{Holds, ReadsApart, ReadsTask};
-ghost use Rattle.iloc_farm.specs.Causes.{IsCaused, of_rows_apart, of_task};
+ghost use Rattle.iloc_farm.specs.Run.Apart.{Holds, ReadsApart, ReadsTask};
+ghost use Rattle.iloc_farm.specs.Run.Causes.{IsCaused, of_rows_apart, of_task};
 
 use crate::fault::{FarmFault, RunFault, TaskFault};
-use crate::texts::Texts;
+use crate::reading::texts::Texts;
 use iloc_ops::Blocks;
 use iloc_rows::laws::submissions_apart_are_within_limits;
 use iloc_rows::{RowsFault, Submission, read_rows, read_task};

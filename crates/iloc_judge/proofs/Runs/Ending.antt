@@ -7,7 +7,7 @@ use Rattle.iloc_meaning.specs.Outcome.{has_fault, emitted}
 use Rattle.iloc_meaning.proofs.MemoryWords.{good_word}
 use Rattle.iloc_timed.specs.Timed.{Issued, word_in, executed_in, timed_outcome_of}
 use Rattle.iloc_judge.specs.declared.symbols.Symbols.{Symbols}
-use Rattle.iloc_judge.specs.Difference.{AreAlike}
+use Rattle.iloc_judge.specs.Verdict.Difference.{AreAlike}
 use Rattle.iloc_judge.specs.Steps.Terms.{Meaning}
 use Rattle.iloc_judge.specs.Steps.Symbols.{some_bad}
 use Rattle.iloc_judge.specs.Steps.Tracking.{Stands, Ends}

@@ -16,7 +16,7 @@ use Rattle.iloc_judge.specs.declared.table.node.Binary.{Binary}
 use Rattle.iloc_judge.specs.declared.table.node.Binary.TheVariants.{Sum, Product, ShiftLeft, ShiftRight}
 use Rattle.iloc_judge.specs.declared.table.node.Node.{Node}
 use Rattle.iloc_judge.specs.declared.table.node.Node.TheVariants.{Known, Offset, Scaled, Combined, Word, Start, Epoch, Empty, Leaf, Fork}
-use Rattle.iloc_judge.specs.Memory.{IsMemory}
+use Rattle.iloc_judge.specs.Verdict.Memory.{IsMemory}
 use Rattle.iloc_judge.specs.Steps.Terms.{Meaning, IsMeaning, Means, node_at, base_word, key_of, computed, word_or_zero}
 use Rattle.iloc_judge.specs.Steps.Order.{names_below, base_below, IsOrdered}
 

@@ -1,10 +1,10 @@
 -- Which verdicts can be listed: outputs are counted from 1.
 use Rattle.std.specs.Prelude.{◌+◌, ◌<◌, ◌^◌, List, length}
 use Rattle.iloc_timed.specs.declared.row.Row.{Row}
-use Rattle.iloc_judge.specs.declared.comparison.Comparison.{Comparison}
-use Rattle.iloc_judge.specs.declared.comparison.Comparison.TheVariants as of
-use Rattle.iloc_judge.specs.declared.difference.Difference.{Difference}
-use Rattle.iloc_judge.specs.declared.difference.Difference.TheVariants.{Output}
+use Rattle.iloc_judge.specs.declared.verdict.comparison.Comparison.{Comparison}
+use Rattle.iloc_judge.specs.declared.verdict.comparison.Comparison.TheVariants as of
+use Rattle.iloc_judge.specs.declared.verdict.difference.Difference.{Difference}
+use Rattle.iloc_judge.specs.declared.verdict.difference.Difference.TheVariants.{Output}
 use Rattle.iloc_judge.specs.declared.verdict.Verdict.{Verdict}
 use Rattle.iloc_judge.specs.declared.verdict.Verdict.TheVariants.{Units, Lawful, Unlawful, Undecided}
 

@@ -1,8 +1,8 @@
 -- A difference of one kind alone.
 use Rattle.std.specs.Prelude.{List, ℤ}
-use Rattle.iloc_judge.specs.declared.difference.Difference.{Difference}
-use Rattle.iloc_judge.specs.declared.difference.Difference.TheVariants.{Output, Word, Fault, NoFault}
-use Rattle.iloc_judge.specs.Difference.{IsFirstOutput, IsLowestWord}
+use Rattle.iloc_judge.specs.declared.verdict.difference.Difference.{Difference}
+use Rattle.iloc_judge.specs.declared.verdict.difference.Difference.TheVariants.{Output, Word, Fault, NoFault}
+use Rattle.iloc_judge.specs.Verdict.Difference.{IsFirstOutput, IsLowestWord}
 
 -- the difference is the first output that differs
 abbrev pub IsOutput : List ℤ → List ℤ → Difference → Type 0

@@ -2,9 +2,9 @@
 use Rattle.std.specs.Prelude.{List, ℤ}
 use Rattle.iloc_meaning.specs.Outcome.{outcome}
 use Rattle.iloc_timed.specs.Timed.{timed_outcome}
-use Rattle.iloc_judge.specs.declared.difference.Difference.{Difference}
+use Rattle.iloc_judge.specs.declared.verdict.difference.Difference.{Difference}
 use Rattle.iloc_judge.specs.declared.refutation.Trial.{Trial}
-use Rattle.iloc_judge.specs.Difference.{IsDifference}
+use Rattle.iloc_judge.specs.Verdict.Difference.{IsDifference}
 
 -- on this memory the rows' outcome differs from the block's, there
 abbrev pub DiffersAt : Trial → List ℤ → Difference → Type 0

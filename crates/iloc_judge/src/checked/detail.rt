@@ -2,16 +2,16 @@
 ghost use Rattle.std.specs.Prelude.{◌≡◌, ◌+◌, ◌<◌, ◌^◌, ◌++◌, length, OnOk, codes};
 ghost use Rattle.std.specs.List.{flat_map};
 ghost use Rattle.std.specs.Fmt.{decimal};
-ghost use Rattle.iloc_judge.specs.Listing as listed;
+ghost use Rattle.iloc_judge.specs.Entry.Listing as listed;
 ghost use Rattle.iloc_judge.specs.Steps.Counted.{IsCounted, CanBeCompared, CanBeListed};
 
 use super::reason::push_reasons;
 use super::unit_rule::push_broken_rule;
-use crate::comparison::Comparison;
-use crate::difference::Difference;
 use crate::refutation::probe::Probe;
 use crate::verdict::Verdict;
-use crate::void::Void;
+use crate::verdict::comparison::Comparison;
+use crate::verdict::difference::Difference;
+use crate::verdict::void::Void;
 use iloc_ops::{NoMemory, Op, push_number, push_op};
 use iloc_timed::{Row, push_row};
 

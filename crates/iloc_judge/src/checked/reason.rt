@@ -1,7 +1,7 @@
 //! The lines that say why rows aren't a schedule of their block by the book.
 ghost use Rattle.std.specs.Prelude.{◌≡◌, ◌++◌, OnOk};
 ghost use Rattle.std.specs.List.{flat_map};
-ghost use Rattle.iloc_judge.specs.Reasons as told;
+ghost use Rattle.iloc_judge.specs.Entry.Reasons as told;
 
 use iloc_ops::{NoMemory, Reg, push_number, push_op};
 use iloc_reasons::{Fact, Reasons};

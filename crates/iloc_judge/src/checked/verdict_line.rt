@@ -1,6 +1,6 @@
 //! The line with a verdict and the numbers that go with it, or the row of a table that has these.
 ghost use Rattle.std.specs.Prelude.{◌≡◌, ◌++◌, OnOk};
-ghost use Rattle.iloc_judge.specs.Listing as listed;
+ghost use Rattle.iloc_judge.specs.Entry.Listing as listed;
 
 use crate::checked::Checked;
 use iloc_ops::{NoMemory, push_column, push_number};

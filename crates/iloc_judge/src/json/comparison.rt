@@ -2,14 +2,14 @@
 ghost use Rattle.std.specs.Prelude.{◌≡◌, ◌++◌, OnOk, codes};
 ghost use Rattle.std.specs.List.{flat_map};
 ghost use Rattle.std.specs.Fmt.{decimal};
-ghost use Rattle.iloc_judge.specs.Json as json;
+ghost use Rattle.iloc_judge.specs.Entry.Json as json;
 ghost use Rattle.iloc_judge.specs.Steps.Counted.{CanBeCompared, IsCounted};
 
 use super::value::{push_literal, push_number_member, push_op_member, push_word_member};
-use crate::comparison::Comparison;
-use crate::difference::Difference;
 use crate::refutation::probe::Probe;
-use crate::void::Void;
+use crate::verdict::comparison::Comparison;
+use crate::verdict::difference::Difference;
+use crate::verdict::void::Void;
 use iloc_ops::{NoMemory, push_number};
 
 /// Appends why a block's outcome says nothing.

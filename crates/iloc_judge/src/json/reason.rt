@@ -1,7 +1,7 @@
 //! Why rows aren't a schedule of their block by the book, in JSON.
 ghost use Rattle.std.specs.Prelude.{◌≡◌, ◌++◌, OnOk, codes};
 ghost use Rattle.std.specs.List.{flat_map};
-ghost use Rattle.iloc_judge.specs.Json as json;
+ghost use Rattle.iloc_judge.specs.Entry.Json as json;
 
 use super::value::{push_issue_members, push_literal, push_number_member, push_op_member};
 use iloc_ops::{NoMemory, Op, Reg, push_number};

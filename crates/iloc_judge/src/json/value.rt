@@ -1,7 +1,7 @@
 //! Values and members of JSON.
 ghost use Rattle.std.specs.Prelude.{◌≡◌, ◌++◌, ◌<◌, OnOk};
 ghost use Rattle.std.specs.List.{flat_map};
-ghost use Rattle.iloc_judge.specs.Json as json;
+ghost use Rattle.iloc_judge.specs.Entry.Json as json;
 
 use iloc_ops::{NoMemory, Op, push_number, push_op};
 use iloc_validation::Issue;

@@ -1,6 +1,6 @@
 //! What memories are made up of.
 
-use crate::agreement::{is_marked, marks};
+use crate::judgement::agreement::{is_marked, marks};
 use crate::table::Table;
 use crate::table::node::Node;
 use iloc_meaning::{Memory, WORDS};

@@ -1,6 +1,6 @@
 //! Made-up memories with no more words than are found to matter.
 ghost use Rattle.std.specs.Prelude.{◌<◌, IfOk};
-ghost use Rattle.iloc_judge.specs.Memory.{memory_of};
+ghost use Rattle.iloc_judge.specs.Verdict.Memory.{memory_of};
 ghost use Rattle.iloc_judge.specs.Steps.Refuting.{DiffersAt};
 
 use crate::refutation::{Refutation, Trial, refutation_on};

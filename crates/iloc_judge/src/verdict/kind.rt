@@ -1,6 +1,6 @@
 //! Verdicts by the word that is listed.
 ghost use Rattle.std.specs.Prelude.{◌≡◌};
-ghost use Rattle.iloc_judge.specs.Listing as listed;
+ghost use Rattle.iloc_judge.specs.Entry.Listing as listed;
 
 /// What is found of rows, by the word that is listed.
 #[derive(Clone, Copy, Debug, PartialEq, Eq)]

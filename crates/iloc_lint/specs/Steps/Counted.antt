@@ -5,7 +5,7 @@ use Rattle.iloc_text.specs.declared.fault.ReadFault.{ReadFault}
 use Rattle.iloc_text.specs.declared.fault.ReadFault.TheVariants.{TooManyBlocks, TooManyOperations}
 use Rattle.iloc_text.specs.Files.{Reading, IsWithin, block_count, ops_of}
 use Rattle.iloc_lint.specs.Faults.{CountsAs, ops_in}
-use Rattle.iloc_lint.specs.declared.counts.Counts.{Counts}
+use Rattle.iloc_lint.specs.declared.faults.counts.Counts.{Counts}
 
 -- the counts are those of lines with these readings
 pub record Count (readings : List Reading) (counts : Counts) : Type 0 where

@@ -15,7 +15,7 @@ use Rattle.iloc_meaning.proofs.Cases.{by_bool}
 use Rattle.iloc_sched.specs.Delays.{delays}
 use Rattle.iloc_sched.specs.Priority.{priorities}
 use Rattle.iloc_sched.specs.Greedy.{is_ready, ready, chosen, IsGreedy, IsGreedyBy}
-use Rattle.iloc_sched.specs.Steps.Choosing.{IsChosenSoFar}
+use Rattle.iloc_sched.specs.Steps.Cycle.Choosing.{IsChosenSoFar}
 use Rattle.iloc_sched.specs.Steps.Members.{In}
 use Rattle.iloc_sched.proofs.Basics.Members.{contains_from, not_all, in_filter, from_map, in_range_from, from_range}
 use Rattle.iloc_sched.proofs.Basics.Maxima.{fold_max_reached}

@@ -11,8 +11,8 @@ use Rattle.iloc_timed.specs.declared.row.Row.{Row}
 use Rattle.iloc_timed.specs.Kinds.{is_load, is_memory, is_mult, is_output}
 use Rattle.iloc_timed.specs.Rows.{issue_cycle}
 use Rattle.iloc_timed.specs.Cycles.{cycles}
-use Rattle.iloc_sched.specs.Starts.{start}
-use Rattle.iloc_sched.specs.Least.{needed, tail, of_kind, from_start, needed_after, needed_by, least_of}
+use Rattle.iloc_sched.specs.LowerBound.Starts.{start}
+use Rattle.iloc_sched.specs.LowerBound.Least.{needed, tail, of_kind, from_start, needed_after, needed_by, least_of}
 use Rattle.iloc_sched.specs.Lawful.{IsLawful}
 use Rattle.iloc_sched.specs.Laws.{LeastBoundsTheCycles, BoundsProveTheOptimum}
 use Rattle.iloc_sched.proofs.Basics.Members.{from_map, from_filter, from_range}

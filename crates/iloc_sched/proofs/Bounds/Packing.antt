@@ -6,9 +6,9 @@ use Rattle.std.proofs.Math.Nat.{div-one}
 use Rattle.std.proofs.lemmas.Bool.Decides.{nat_tests}
 use Rattle.std.proofs.lemmas.List.{get_or-set_same, get_or-set_other, length-set}
 use Rattle.iloc_meaning.proofs.Cases.{by_bool}
-use Rattle.iloc_sched.specs.Least.{count_from, cycles_from, needed}
+use Rattle.iloc_sched.specs.LowerBound.Least.{count_from, cycles_from, needed}
 use Rattle.iloc_sched.specs.Steps.Members.{In}
-use Rattle.iloc_sched.specs.Steps.Packing.{taken_in, IsPacked, link, is_taken, IsLinked}
+use Rattle.iloc_sched.specs.Steps.LowerBound.Packing.{taken_in, IsPacked, link, is_taken, IsLinked}
 use Rattle.iloc_sched.proofs.Basics.Cases.{by_eq, by_lt}
 use Rattle.iloc_sched.proofs.Basics.Members.{in_map, from_map}
 use Rattle.iloc_sched.proofs.Basics.Maxima.{fold_max_each, fold_max_reached}

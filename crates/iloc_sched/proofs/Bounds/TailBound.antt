@@ -18,7 +18,7 @@ use Rattle.iloc_timed.specs.Rows.{row_at, slots, issue_cycle, IsTable}
 use Rattle.iloc_timed.proofs.WholeRuns.{short_latency}
 use Rattle.iloc_sched.specs.Delays.{uses_result, reads_stored, keeps_order, when, memory_delays, delays, IsDelayPair}
 use Rattle.iloc_sched.specs.Priority.{reaches}
-use Rattle.iloc_sched.specs.Least.{count_from, cycles_from, needed, load_tails, behind, tails, tail}
+use Rattle.iloc_sched.specs.LowerBound.Least.{count_from, cycles_from, needed, load_tails, behind, tails, tail}
 use Rattle.iloc_sched.specs.Steps.Members.{In}
 use Rattle.iloc_sched.proofs.Basics.Members.{contains_from, in_left, in_right, from_map, in_filter, from_filter, from_range}
 use Rattle.iloc_sched.proofs.Basics.Maxima.{fold_max_reached}

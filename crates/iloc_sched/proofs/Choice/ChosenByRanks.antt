@@ -14,13 +14,13 @@ use Rattle.iloc_sched.specs.declared.cycle.class.Class.{Class}
 use Rattle.iloc_sched.specs.declared.cycle.class.Class.TheVariants as C
 use Rattle.iloc_sched.specs.declared.cycle.plan.Plan.{Plan}
 use Rattle.iloc_sched.specs.declared.cycle.waiting.Waiting.{Waiting}
-use Rattle.iloc_sched.specs.Steps.Calendar.{has}
-use Rattle.iloc_sched.specs.Steps.Choosing.{GoesBefore, IsChosenSoFar}
+use Rattle.iloc_sched.specs.Steps.Cycle.Calendar.{has}
+use Rattle.iloc_sched.specs.Steps.Cycle.Choosing.{GoesBefore, IsChosenSoFar}
 use Rattle.iloc_sched.specs.Steps.Members.{In}
-use Rattle.iloc_sched.specs.Steps.Classes.{class_of, excludes, is_memory_class, is_product_class}
-use Rattle.iloc_sched.specs.Steps.Progress.{MatchesRows}
+use Rattle.iloc_sched.specs.Steps.Cycle.Classes.{class_of, excludes, is_memory_class, is_product_class}
+use Rattle.iloc_sched.specs.Steps.Cycle.Progress.{MatchesRows}
 use Rattle.iloc_sched.specs.Steps.Views.{graph_of, progress_of}
-use Rattle.iloc_sched.specs.Steps.SoFar.{class_at, rank_of, IsPlan, IsUnderWay, IsOpen, IsBest, Issues, number_of, is_memory_choice, row_with}
+use Rattle.iloc_sched.specs.Steps.Cycle.SoFar.{class_at, rank_of, IsPlan, IsUnderWay, IsOpen, IsBest, Issues, number_of, is_memory_choice, row_with}
 use Rattle.iloc_sched.proofs.Basics.Members.{in_filter, from_filter}
 use Rattle.iloc_sched.proofs.Basics.Ordered.{ordered_filter}
 use Rattle.iloc_sched.proofs.Choice.Ready.{IsReady, ready_means, ready_rises}

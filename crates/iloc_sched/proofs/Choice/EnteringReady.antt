@@ -2,10 +2,10 @@
 -- `issue_first`.
 use Rattle.std.proofs.Common.{◌≡◌, ◌≢◌, ℕ, ◌+◌, ◌%◌, ◌<◌, Bool, true, List, get_or, Some, None, inl, inr, sym, ◌∙◌, subst}
 use Rattle.iloc_sched.specs.declared.cycle.calendar.Calendar.{Calendar}
-use Rattle.iloc_sched.specs.Steps.Calendar.{has, Releases}
+use Rattle.iloc_sched.specs.Steps.Cycle.Calendar.{has, Releases}
 use Rattle.iloc_sched.specs.Steps.Graph.{Graph, IsGraph}
-use Rattle.iloc_sched.specs.Steps.Progress.{Progress, Waits, CanIssue, KeepsPlaces}
-use Rattle.iloc_sched.specs.Steps.SoFar.{IsQueued}
+use Rattle.iloc_sched.specs.Steps.Cycle.Progress.{Progress, Waits, CanIssue, KeepsPlaces}
+use Rattle.iloc_sched.specs.Steps.Cycle.SoFar.{IsQueued}
 use Rattle.iloc_sched.proofs.Ranks.Calendars.{or_true, true_or}
 use Rattle.iloc_sched.proofs.Walking.BucketOfCycle.{due_now, then_due, later_still}
 use Rattle.iloc_sched.proofs.Walking.StillIssuable.{can_issue_still, can_issue_back}

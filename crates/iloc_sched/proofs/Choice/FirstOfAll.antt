@@ -5,7 +5,7 @@ use Rattle.std.proofs.lemmas.Bool.{ltb-true, ltb-false, cases_eq}
 use Rattle.std.proofs.lemmas.Option.{none-some, same_Some}
 use Rattle.iloc_meaning.proofs.Cases.{by_bool}
 use Rattle.iloc_sched.specs.Greedy.{better, first_of_all}
-use Rattle.iloc_sched.specs.Steps.Choosing.{GoesBefore}
+use Rattle.iloc_sched.specs.Steps.Cycle.Choosing.{GoesBefore}
 use Rattle.iloc_sched.specs.Steps.Members.{In}
 use Rattle.iloc_sched.proofs.Basics.Members.{empty_from}
 use Rattle.iloc_sched.proofs.Basics.Rising.{Rises}

@@ -13,7 +13,7 @@ use Rattle.iloc_meaning.proofs.Cases.{by_bool}
 use Rattle.iloc_sched.specs.Renaming.{renamed}
 use Rattle.iloc_sched.specs.Priority.{priorities}
 use Rattle.iloc_sched.specs.Greedy.{ready, chosen, IsGreedy, IsGreedyBy}
-use Rattle.iloc_sched.specs.Steps.Choosing.{IsChosenSoFar}
+use Rattle.iloc_sched.specs.Steps.Cycle.Choosing.{IsChosenSoFar}
 use Rattle.iloc_sched.specs.Steps.Members.{In}
 use Rattle.iloc_sched.proofs.Basics.Members.{from_all, not_all, in_range_from, from_range}
 use Rattle.iloc_sched.proofs.Basics.Slots.{stands_there}

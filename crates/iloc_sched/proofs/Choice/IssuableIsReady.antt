@@ -6,11 +6,11 @@ use Rattle.iloc_timed.specs.declared.row.Row.{Row}
 use Rattle.iloc_timed.specs.Rows.{slots, issue_cycle}
 use Rattle.iloc_sched.specs.Delays.{IsDelayPair}
 use Rattle.iloc_sched.specs.Greedy.{ready}
-use Rattle.iloc_sched.specs.Steps.Choosing.{IsChosenSoFar}
+use Rattle.iloc_sched.specs.Steps.Cycle.Choosing.{IsChosenSoFar}
 use Rattle.iloc_sched.specs.Steps.Members.{In}
-use Rattle.iloc_sched.specs.Near.{IsNear}
+use Rattle.iloc_sched.specs.Graph.Near.{IsNear}
 use Rattle.iloc_sched.specs.Steps.Graph.{Graph, IsGraphOf}
-use Rattle.iloc_sched.specs.Steps.Progress.{Progress, Waits, CanIssue, MatchesRows, count_from}
+use Rattle.iloc_sched.specs.Steps.Cycle.Progress.{Progress, Waits, CanIssue, MatchesRows, count_from}
 use Rattle.iloc_sched.proofs.Choice.Ready.{IsReady, ready_means, ready_from}
 use Rattle.iloc_sched.proofs.Basics.Slots.{stands_there}
 use Rattle.iloc_sched.proofs.Choice.ChosenRows.{chosen_in}

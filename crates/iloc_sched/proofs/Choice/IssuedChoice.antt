@@ -6,11 +6,11 @@ use Rattle.iloc_sched.specs.declared.cycle.calendar.Calendar.{Calendar}
 use Rattle.iloc_sched.specs.declared.cycle.class.Class.{Class}
 use Rattle.iloc_sched.specs.declared.cycle.plan.Plan.{Plan}
 use Rattle.iloc_sched.specs.declared.cycle.waiting.Waiting.{Waiting}
-use Rattle.iloc_sched.specs.Steps.Calendar.{has, offers, HasSameSets, IsFirst, Puts, KeepsRoom, Releases}
-use Rattle.iloc_sched.specs.Steps.Classes.{place_of}
-use Rattle.iloc_sched.specs.Steps.Progress.{Waits, CanIssue, KeepsPlaces}
+use Rattle.iloc_sched.specs.Steps.Cycle.Calendar.{has, offers, HasSameSets, IsFirst, Puts, KeepsRoom, Releases}
+use Rattle.iloc_sched.specs.Steps.Cycle.Classes.{place_of}
+use Rattle.iloc_sched.specs.Steps.Cycle.Progress.{Waits, CanIssue, KeepsPlaces}
 use Rattle.iloc_sched.specs.Steps.Views.{graph_of, issued_list, progress_of, bucket_of, IsSized}
-use Rattle.iloc_sched.specs.Steps.SoFar.{class_at, rank_of, IsRanked, IsPlan, IsCalendar, IsUnderWay, IsBest, Issues}
+use Rattle.iloc_sched.specs.Steps.Cycle.SoFar.{class_at, rank_of, IsRanked, IsPlan, IsCalendar, IsUnderWay, IsBest, Issues}
 use Rattle.iloc_sched.proofs.Basics.Cases.{by_lt}
 use Rattle.iloc_sched.proofs.Choice.EnteringReady.{queued_with_due, queued_after}
 use Rattle.iloc_sched.proofs.Ranks.Calendars.{ranks_apart, same_has, same_room, room_kept, calendar_put, calendar_released}

@@ -9,7 +9,7 @@ use Rattle.iloc_timed.specs.declared.row.Row.{Row}
 use Rattle.iloc_timed.specs.Rows.{row_at, slots, issue_cycle, times_issued, keeps_units, IsTable}
 use Rattle.iloc_sched.specs.Renaming.{renamed}
 use Rattle.iloc_sched.specs.Greedy.{ready, chosen, IsGreedyBy}
-use Rattle.iloc_sched.specs.Steps.Choosing.{IsChosenSoFar}
+use Rattle.iloc_sched.specs.Steps.Cycle.Choosing.{IsChosenSoFar}
 use Rattle.iloc_sched.specs.Steps.Members.{In}
 use Rattle.iloc_sched.proofs.Basics.Members.{in_from}
 use Rattle.iloc_sched.proofs.Basics.Slots.{count_in, stands_there}

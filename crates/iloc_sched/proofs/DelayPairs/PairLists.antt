@@ -10,7 +10,7 @@ use Rattle.iloc_meaning.specs.Trace.{op_at}
 use Rattle.iloc_timed.specs.declared.latencies.Latencies.{Latencies}
 use Rattle.iloc_sched.specs.declared.edges.delay_pairs.Pair.{Pair}
 use Rattle.iloc_sched.specs.Delays.{delays, IsDelayPair}
-use Rattle.iloc_sched.specs.Pairs.{ComesBefore, rising, with_delays, pairs_from, pairs_before, pairs}
+use Rattle.iloc_sched.specs.Graph.Pairs.{ComesBefore, rising, with_delays, pairs_from, pairs_before, pairs}
 use Rattle.iloc_sched.specs.Steps.Members.{In}
 use Rattle.iloc_sched.proofs.Basics.Members.{in_from, contains_from, in_left, in_right, in_map, from_append, from_map}
 use Rattle.iloc_sched.proofs.Basics.Ordered.{Ordered, all_pairs, ordered_append, ordered_map}

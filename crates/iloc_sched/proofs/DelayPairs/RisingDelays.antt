@@ -2,7 +2,7 @@
 use Rattle.std.proofs.Common.{◌≡◌, ℕ, ◌<◌, ◌⊎◌, ◌==◌, nat_lt, List, [], ◌∷◌, refl, arith, inl, inr}
 use Rattle.std.proofs.lemmas.Bool.Decides.{nat_tests}
 use Rattle.iloc_meaning.proofs.Cases.{by_bool}
-use Rattle.iloc_sched.specs.Pairs.{with_delay, rising}
+use Rattle.iloc_sched.specs.Graph.Pairs.{with_delay, rising}
 use Rattle.iloc_sched.specs.Steps.Members.{In}
 use Rattle.iloc_sched.proofs.Basics.Ordered.{Ordered}
 

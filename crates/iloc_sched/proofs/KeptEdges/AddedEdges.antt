@@ -14,11 +14,11 @@ use Rattle.iloc_sched.specs.Renaming.{IsRenamed}
 use Rattle.iloc_sched.specs.declared.edges.Edge.{Edge}
 use Rattle.iloc_sched.specs.declared.edges.lasts.Lasts.{Lasts}
 use Rattle.iloc_sched.specs.Steps.Members.{In}
-use Rattle.iloc_sched.specs.Near.{IsNearPair}
+use Rattle.iloc_sched.specs.Graph.Near.{IsNearPair}
 use Rattle.iloc_sched.specs.Steps.Graph.{Graph}
-use Rattle.iloc_sched.specs.Steps.Lasts.{IsLasts}
-use Rattle.iloc_sched.specs.Steps.ByRegister.{number_at}
-use Rattle.iloc_sched.specs.Steps.PartialGraph.{IsPartialGraph, HasEdge, HasOneMore, Grows, AddsFrom, CoversUse, CoversUses, CoversMemory}
+use Rattle.iloc_sched.specs.Steps.Edges.Lasts.{IsLasts}
+use Rattle.iloc_sched.specs.Steps.Renaming.ByRegister.{number_at}
+use Rattle.iloc_sched.specs.Steps.Edges.PartialGraph.{IsPartialGraph, HasEdge, HasOneMore, Grows, AddsFrom, CoversUse, CoversUses, CoversMemory}
 use Rattle.iloc_sched.specs.Steps.Views.{no_edge}
 use Rattle.iloc_sched.proofs.Basics.Members.{in_from, in_left, in_right, from_append}
 use Rattle.iloc_sched.proofs.Basics.Cases.{not_both, same_some}

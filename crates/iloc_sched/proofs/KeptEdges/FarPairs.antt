@@ -9,7 +9,7 @@ use Rattle.iloc_timed.specs.Kinds.{kind, is_output, is_store}
 use Rattle.iloc_timed.specs.Latency.{latency}
 use Rattle.iloc_sched.specs.Delays.{uses_result, when, memory_delays, IsDelayPair}
 use Rattle.iloc_sched.specs.Steps.Members.{In}
-use Rattle.iloc_sched.specs.Near.{takes_over, IsNear}
+use Rattle.iloc_sched.specs.Graph.Near.{takes_over, IsNear}
 use Rattle.std.proofs.lemmas.Bool.{cases_lt}
 use Rattle.iloc_sched.proofs.Basics.Members.{contains_from, in_from, in_right, from_append}
 use Rattle.iloc_sched.proofs.DelayPairs.DelayBounds.{delay_at_least, kind_delays}

@@ -16,11 +16,11 @@ use Rattle.iloc_sched.specs.Renaming.{IsRenamed}
 use Rattle.iloc_sched.specs.Delays.{uses_result, when, memory_delays, delays, IsDelayPair}
 use Rattle.iloc_sched.specs.declared.edges.lasts.Lasts.{Lasts}
 use Rattle.iloc_sched.specs.Steps.Members.{In}
-use Rattle.iloc_sched.specs.Near.{NoneBetween, IsNear, IsNearPair}
+use Rattle.iloc_sched.specs.Graph.Near.{NoneBetween, IsNear, IsNearPair}
 use Rattle.iloc_sched.specs.Steps.Graph.{Graph, IsLast}
-use Rattle.iloc_sched.specs.Steps.Lasts.{IsLasts}
-use Rattle.iloc_sched.specs.Steps.ByRegister.{number_at}
-use Rattle.iloc_sched.specs.Steps.PartialGraph.{HasEdge, CoversUse, CoversUses, CoversMemory}
+use Rattle.iloc_sched.specs.Steps.Edges.Lasts.{IsLasts}
+use Rattle.iloc_sched.specs.Steps.Renaming.ByRegister.{number_at}
+use Rattle.iloc_sched.specs.Steps.Edges.PartialGraph.{HasEdge, CoversUse, CoversUses, CoversMemory}
 use Rattle.iloc_sched.proofs.Basics.Members.{contains_from, in_from, any_at, from_any, in_left, in_right}
 use Rattle.iloc_sched.proofs.Basics.Registers.{is_register_same, is_register_from}
 use Rattle.iloc_sched.proofs.Basics.LastOnes.{last_is, last_holds}

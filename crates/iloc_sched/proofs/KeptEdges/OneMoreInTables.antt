@@ -16,10 +16,10 @@ use Rattle.iloc_sched.specs.Renaming.{IsRenamed}
 use Rattle.iloc_sched.specs.declared.edges.Edge.{Edge}
 use Rattle.iloc_sched.specs.declared.edges.Edges.{Edges}
 use Rattle.iloc_sched.specs.declared.edges.lasts.Lasts.{Lasts}
-use Rattle.iloc_sched.specs.Near.{IsNear, IsNearPair, takes_over}
+use Rattle.iloc_sched.specs.Graph.Near.{IsNear, IsNearPair, takes_over}
 use Rattle.iloc_sched.specs.Steps.Graph.{Graph, IsLast}
-use Rattle.iloc_sched.specs.Steps.Lasts.{IsLasts, IsNext}
-use Rattle.iloc_sched.specs.Steps.PartialGraph.{IsPartialGraph}
+use Rattle.iloc_sched.specs.Steps.Edges.Lasts.{IsLasts, IsNext}
+use Rattle.iloc_sched.specs.Steps.Edges.PartialGraph.{IsPartialGraph}
 use Rattle.iloc_sched.specs.Steps.Views.{graph_of}
 use Rattle.iloc_sched.proofs.Basics.Cases.{by_eq}
 use Rattle.iloc_sched.proofs.Basics.LastOnes.{last_same}

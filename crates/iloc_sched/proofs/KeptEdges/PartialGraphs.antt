@@ -6,9 +6,9 @@ use Rattle.iloc_timed.specs.declared.latencies.Latencies.{Latencies}
 use Rattle.iloc_timed.specs.Kinds.{kind}
 use Rattle.iloc_timed.specs.Latency.{latency}
 use Rattle.iloc_sched.specs.Delays.{IsDelayPair}
-use Rattle.iloc_sched.specs.Near.{IsNear, IsNearPair}
+use Rattle.iloc_sched.specs.Graph.Near.{IsNear, IsNearPair}
 use Rattle.iloc_sched.specs.Steps.Graph.{Graph, IsLast, IsGraphOf}
-use Rattle.iloc_sched.specs.Steps.PartialGraph.{IsPartialGraph, HasEdge, HasOneMore, Grows}
+use Rattle.iloc_sched.specs.Steps.Edges.PartialGraph.{IsPartialGraph, HasEdge, HasOneMore, Grows}
 use Rattle.iloc_sched.proofs.DelayPairs.DelayBounds.{delay_at_least, delay_at_most}
 use Rattle.iloc_sched.proofs.Basics.Cases.{by_eq, by_lt}
 use Rattle.iloc_sched.proofs.Basics.LastOnes.{last_same, last_here, last_before}

@@ -9,7 +9,7 @@ use Rattle.iloc_timed.specs.declared.latencies.Latencies.{Latencies}
 use Rattle.iloc_sched.specs.Delays.{delays, IsDelayPair}
 use Rattle.iloc_sched.specs.Heuristics.{waits_for, depends, depends_on}
 use Rattle.iloc_sched.specs.Steps.Members.{In}
-use Rattle.iloc_sched.specs.Steps.Dependents.{Reaches}
+use Rattle.iloc_sched.specs.Steps.Ranking.Dependents.{Reaches}
 use Rattle.iloc_sched.proofs.Basics.Members.{contains_from, in_from, any_at, from_any, in_range_from, from_range}
 use Rattle.std.proofs.lemmas.Bool.{eqb-true}
 

@@ -13,7 +13,7 @@ use Rattle.iloc_ops.specs.declared.op.Op.{Op}
 use Rattle.iloc_timed.specs.declared.latencies.Latencies.{Latencies}
 use Rattle.iloc_meaning.proofs.Cases.{by_bool}
 use Rattle.iloc_sched.specs.Heuristics.{depends_on, descendants}
-use Rattle.iloc_sched.specs.Steps.Dependents.{AreMarked}
+use Rattle.iloc_sched.specs.Steps.Ranking.Dependents.{AreMarked}
 use Rattle.iloc_sched.proofs.Basics.CountedRanges.{count_range, none_in_range}
 use Rattle.iloc_sched.proofs.PriorityValues.Dependents.{depends_within}
 

@@ -8,12 +8,12 @@ use Rattle.iloc_meaning.specs.Trace.{op_at}
 use Rattle.iloc_timed.specs.declared.latencies.Latencies.{Latencies}
 use Rattle.iloc_timed.specs.Latency.{latency}
 use Rattle.iloc_sched.specs.Priority.{priorities}
-use Rattle.iloc_sched.specs.Starts.{starts}
+use Rattle.iloc_sched.specs.LowerBound.Starts.{starts}
 use Rattle.iloc_sched.specs.declared.edges.Edge.{Edge}
 use Rattle.iloc_sched.specs.declared.tables.Tables.{Tables}
 use Rattle.iloc_sched.specs.Steps.Chains.{IsChainOut, AreRaised, ArePrioritiesFrom, AreStartsBefore}
 use Rattle.iloc_sched.specs.Steps.Graph.{Graph, IsGraphOf}
-use Rattle.iloc_sched.specs.Steps.SoundGraph.{IsSound}
+use Rattle.iloc_sched.specs.Steps.Edges.SoundGraph.{IsSound}
 use Rattle.iloc_sched.specs.Steps.Views.{graph_of, edge_at}
 use Rattle.iloc_sched.proofs.PriorityValues.Chains.{ends_within, raise_from, over_pairs}
 use Rattle.iloc_sched.proofs.PriorityValues.Longest.{length-priorities, priority_least}

@@ -4,7 +4,7 @@ use Rattle.std.proofs.Common.{◌≡◌, ℕ, ◌+◌, ◌-◌, ◌<◌, ◌≤�
 use Rattle.iloc_ops.specs.declared.op.Op.{Op}
 use Rattle.iloc_timed.specs.declared.latencies.Latencies.{Latencies}
 use Rattle.iloc_sched.specs.Priority.{priorities, priority}
-use Rattle.iloc_sched.specs.Starts.{start}
+use Rattle.iloc_sched.specs.LowerBound.Starts.{start}
 use Rattle.iloc_sched.specs.Heuristics.{through, longest, slack}
 use Rattle.iloc_sched.proofs.Basics.Members.{in_at}
 use Rattle.iloc_sched.proofs.Basics.Maxima.{fold_max_each}

@@ -6,7 +6,7 @@ use Rattle.iloc_ops.specs.declared.op.Op.{Op}
 use Rattle.iloc_meaning.specs.Trace.{op_at}
 use Rattle.iloc_timed.specs.declared.latencies.Latencies.{Latencies}
 use Rattle.iloc_sched.specs.Delays.{delays, IsDelayPair}
-use Rattle.iloc_sched.specs.Starts.{arrivals, starts_before, starts, start}
+use Rattle.iloc_sched.specs.LowerBound.Starts.{arrivals, starts_before, starts, start}
 use Rattle.iloc_sched.specs.Steps.Members.{In}
 use Rattle.iloc_sched.specs.Steps.Chains.{IsChainInto}
 use Rattle.std.proofs.lemmas.Bool.{cases_eq}

@@ -16,8 +16,8 @@ use Rattle.iloc_sched.specs.Delays.{delays, uses_result, reads_stored, keeps_ord
 use Rattle.iloc_sched.specs.Heuristics.{waits_for, successors}
 use Rattle.iloc_sched.specs.declared.edges.later.Later.{Later}
 use Rattle.iloc_sched.specs.Steps.Members.{In}
-use Rattle.iloc_sched.specs.Near.{IsNear}
-use Rattle.iloc_sched.specs.Steps.Successors.{waits_by_kind, waits_by_use, waiting_for, from_on, AreNoted, AreCounted}
+use Rattle.iloc_sched.specs.Graph.Near.{IsNear}
+use Rattle.iloc_sched.specs.Steps.Ranking.Successors.{waits_by_kind, waits_by_use, waiting_for, from_on, AreNoted, AreCounted}
 use Rattle.iloc_sched.proofs.Basics.Cases.{by_eq}
 use Rattle.iloc_sched.proofs.Basics.CountedRanges.{count_first, count_range, none_in_range, count_sum, count_most}
 use Rattle.iloc_sched.proofs.Basics.Members.{contains_from, in_left}

@@ -11,10 +11,10 @@ use Rattle.iloc_timed.specs.declared.latencies.Latencies.{Latencies}
 use Rattle.iloc_timed.specs.Kinds.{kind, is_load, is_store}
 use Rattle.iloc_timed.specs.Latency.{latency, latency_of}
 use Rattle.iloc_sched.specs.Delays.{when}
-use Rattle.iloc_sched.specs.Least.{needed, load_tails, tails, tail}
+use Rattle.iloc_sched.specs.LowerBound.Least.{needed, load_tails, tails, tail}
 use Rattle.iloc_sched.specs.Steps.Members.{In}
 use Rattle.iloc_sched.specs.Steps.Chains.{IsChainOut}
-use Rattle.iloc_sched.specs.Steps.Tails.{loads_from, chain_tail, store_tail, tail_by}
+use Rattle.iloc_sched.specs.Steps.LowerBound.Tails.{loads_from, chain_tail, store_tail, tail_by}
 use Rattle.iloc_sched.proofs.Basics.Members.{contains_from, from_append}
 use Rattle.iloc_sched.proofs.PriorityValues.Longest.{chain_own, chain_pairs, chain_reached}
 use Rattle.iloc_sched.proofs.Bounds.Swept.{in_drop, needed_most}

@@ -6,10 +6,10 @@ use Rattle.iloc_meaning.specs.Trace.{op_at}
 use Rattle.iloc_timed.specs.declared.latencies.Latencies.{Latencies}
 use Rattle.iloc_timed.specs.Latency.{latency}
 use Rattle.iloc_sched.specs.Delays.{IsDelayPair}
-use Rattle.iloc_sched.specs.Least.{tails, tail}
+use Rattle.iloc_sched.specs.LowerBound.Least.{tails, tail}
 use Rattle.iloc_sched.specs.Steps.Chains.{IsFrom}
 use Rattle.iloc_sched.specs.Steps.Graph.{Graph, IsGraphOf}
-use Rattle.iloc_sched.specs.Steps.Tails.{chain_tail, IsTailed}
+use Rattle.iloc_sched.specs.Steps.LowerBound.Tails.{chain_tail, IsTailed}
 use Rattle.iloc_sched.proofs.PriorityValues.Chains.{at_most, settle, over_pairs}
 use Rattle.iloc_sched.proofs.PriorityValues.Tails.{is_tail, length-tails}
 use Rattle.iloc_sched.proofs.Bounds.TailBound.{tail_most}

@@ -12,7 +12,7 @@ use Rattle.iloc_meaning.proofs.Cases.{by_bool}
 use Rattle.iloc_sched.specs.Delays.{IsDelayPair}
 use Rattle.iloc_sched.specs.Heuristics.{waits_for}
 use Rattle.iloc_sched.specs.Steps.Graph.{Graph, IsGraphOf, IsLast}
-use Rattle.iloc_sched.specs.Steps.Successors.{waits_by_kind, waits_by_use, leads_into, adds_one, IsCounting}
+use Rattle.iloc_sched.specs.Steps.Ranking.Successors.{waits_by_kind, waits_by_use, leads_into, adds_one, IsCounting}
 use Rattle.iloc_sched.proofs.Basics.Cases.{by_eq, by_lt, by_option}
 use Rattle.iloc_sched.proofs.PriorityValues.Dependents.{pair_waits}
 use Rattle.iloc_sched.proofs.PriorityValues.Successors.{use_pair}

@@ -5,10 +5,10 @@ use Rattle.iloc_sched.specs.declared.cycle.calendar.Calendar.{Calendar}
 use Rattle.iloc_sched.specs.declared.cycle.class.Class.{Class}
 use Rattle.iloc_sched.specs.declared.cycle.class.Class.TheVariants as C
 use Rattle.iloc_sched.specs.declared.cycle.plan.Plan.{Plan}
-use Rattle.iloc_sched.specs.Steps.Calendar.{has, IsWithin, HasRoom, KeepsRoom, HasSameSets, Puts, Releases}
-use Rattle.iloc_sched.specs.Steps.Classes.{place_of, excludes}
-use Rattle.iloc_sched.specs.Steps.RankSets.{rank_bit}
-use Rattle.iloc_sched.specs.Steps.SoFar.{class_at, rank_of, KeepsOut, IsPlan, IsCalendar}
+use Rattle.iloc_sched.specs.Steps.Cycle.Calendar.{has, IsWithin, HasRoom, KeepsRoom, HasSameSets, Puts, Releases}
+use Rattle.iloc_sched.specs.Steps.Cycle.Classes.{place_of, excludes}
+use Rattle.iloc_sched.specs.Steps.Cycle.RankSets.{rank_bit}
+use Rattle.iloc_sched.specs.Steps.Cycle.SoFar.{class_at, rank_of, KeepsOut, IsPlan, IsCalendar}
 use Rattle.iloc_sched.specs.Steps.Views.{bucket_of}
 use Rattle.iloc_meaning.proofs.Cases.{by_bool}
 use Rattle.iloc_sched.proofs.Basics.Cases.{by_eq}

@@ -2,7 +2,7 @@
 use Rattle.std.proofs.Common.{◌≡◌, ◌≢◌, ℕ, zero, suc, ◌+◌, ◌*◌, ◌/◌, ◌%◌, ◌<◌, List, length, get_or, set, replicate, ap, ap₂, sym, ◌∙◌, refl, arith, get_or-set_other}
 use Rattle.std.specs.Int.{bit_at}
 use Rattle.std.proofs.lemmas.Grind.{get_or-set_at}
-use Rattle.iloc_sched.specs.Steps.RankSets.{word_at, rank_bit}
+use Rattle.iloc_sched.specs.Steps.Cycle.RankSets.{word_at, rank_bit}
 use Rattle.iloc_sched.proofs.Basics.Cases.{by_eq}
 
 pub by_both : {P : Type 0} → (t s u w : ℕ) → (t ≡ s → u ≡ w → P) → ((t ≡ s → u ≡ w → ⊥) → P) → P

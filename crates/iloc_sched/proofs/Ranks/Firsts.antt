@@ -4,7 +4,7 @@ use Rattle.std.specs.Int.{bit_at, bit_not, trailing_zeros}
 use Rattle.std.specs.Int.Count.{count_trailing_zeros, trailing_of_zero}
 use Rattle.std.proofs.lemmas.Nat.{and_le_l}
 use Rattle.std.proofs.lemmas.Nat.Bits.{bit_at_and, bit_at_not, bit_at-trailing_zeros}
-use Rattle.iloc_sched.specs.Steps.RankSets.{word_at, rank_bit, open_bit, HoldsBits, IsFirstBit, IsFirstWithin, IsSearched}
+use Rattle.iloc_sched.specs.Steps.Cycle.RankSets.{word_at, rank_bit, open_bit, HoldsBits, IsFirstBit, IsFirstWithin, IsSearched}
 use Rattle.iloc_sched.proofs.Basics.Cases.{by_eq}
 use Rattle.iloc_sched.proofs.Ranks.WordBits.{no_bit}
 

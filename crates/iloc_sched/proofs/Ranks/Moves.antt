@@ -4,7 +4,7 @@ use Rattle.std.specs.Int.{bit_at}
 use Rattle.std.proofs.lemmas.Bool.{cases_eq}
 use Rattle.std.proofs.lemmas.Nat.Bits.{bit_at_or, bit_at-lt}
 use lib.Bits.{or_zero_r}
-use Rattle.iloc_sched.specs.Steps.RankSets.{word_at, rank_bit, open_bit, IsSummary, MovesAt, NotesMoved, HoldsBits}
+use Rattle.iloc_sched.specs.Steps.Cycle.RankSets.{word_at, rank_bit, open_bit, IsSummary, MovesAt, NotesMoved, HoldsBits}
 use Rattle.iloc_sched.proofs.Basics.Cases.{by_eq}
 use Rattle.iloc_sched.proofs.Ranks.WordBits.{no_bit}
 use Rattle.iloc_sched.proofs.Ranks.Cells.{cell_same, cell_other}

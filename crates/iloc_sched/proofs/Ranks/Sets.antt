@@ -8,9 +8,9 @@ use Rattle.std.specs.Vec.{with_items}
 use Rattle.std.proofs.lemmas.List.{with_items_is}
 use Rattle.iloc_sched.specs.declared.cycle.calendar.Calendar.{Calendar}
 use Rattle.iloc_sched.specs.declared.cycle.class.Class.{Class}
-use Rattle.iloc_sched.specs.Steps.Calendar.{has, offers, IsFirst, KeepsRoom, Puts, Releases}
-use Rattle.iloc_sched.specs.Steps.Classes.{place_of}
-use Rattle.iloc_sched.specs.Steps.RankSets.{word_at, rank_bit, IsSummary, AddsBit, TakesBit, MovesAt, NotesMoved, HoldsBits, open_bit, IsFirstWithin}
+use Rattle.iloc_sched.specs.Steps.Cycle.Calendar.{has, offers, IsFirst, KeepsRoom, Puts, Releases}
+use Rattle.iloc_sched.specs.Steps.Cycle.Classes.{place_of}
+use Rattle.iloc_sched.specs.Steps.Cycle.RankSets.{word_at, rank_bit, IsSummary, AddsBit, TakesBit, MovesAt, NotesMoved, HoldsBits, open_bit, IsFirstWithin}
 use Rattle.iloc_sched.proofs.Basics.Cases.{by_eq, by_lt}
 use Rattle.iloc_sched.proofs.Ranks.Calendars.{place_small}
 use Rattle.iloc_sched.proofs.Ranks.Firsts.{none_open}

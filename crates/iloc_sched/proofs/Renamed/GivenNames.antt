@@ -7,7 +7,7 @@ use Rattle.iloc_ops.specs.declared.op.Reg.{Reg}
 use Rattle.iloc_meaning.proofs.Cases.{by_bool}
 use Rattle.iloc_sched.specs.Renaming.{Source, is_source, struck, place_of}
 use Rattle.iloc_sched.specs.Renaming.Source.{Start, Result}
-use Rattle.iloc_sched.specs.Steps.NamingWalk.{Stands, also, also_all, number_of, Follows, NamesNext}
+use Rattle.iloc_sched.specs.Steps.Renaming.NamingWalk.{Stands, also, also_all, number_of, Follows, NamesNext}
 use Rattle.iloc_sched.proofs.Renamed.Sources.{is_source-refl, is_source-true, is_source-false, stands_left, stands_right}
 
 regroup : (a b c : Bool) → ((a || b) || c) ≡ (b || (a || c))

@@ -10,7 +10,7 @@ use Rattle.iloc_meaning.specs.Trace.{op_at, is_register}
 use Rattle.iloc_meaning.proofs.Cases.{by_bool}
 use Rattle.iloc_sched.specs.Renaming.{Source, source, own_source, mentions, mentions_before, numbering, renamed_op, renamed_by}
 use Rattle.iloc_sched.specs.Renaming.Source.{Result}
-use Rattle.iloc_sched.specs.Steps.NamingWalk.{Stands}
+use Rattle.iloc_sched.specs.Steps.Renaming.NamingWalk.{Stands}
 use Rattle.iloc_sched.specs.Steps.Members.{In}
 use Rattle.iloc_sched.proofs.Basics.Members.{in_map}
 use Rattle.iloc_sched.proofs.Renamed.Sources.{is_source-refl, stands_in, stands_left, stands_right, stands_struck}

@@ -10,7 +10,7 @@ use Rattle.iloc_ops.specs.Registers.{used, defined}
 use Rattle.iloc_meaning.specs.Trace.{op_at}
 use Rattle.iloc_meaning.proofs.Cases.{by_bool}
 use Rattle.iloc_sched.specs.Renaming.{Source, is_source, struck, source, own_source, mentions, mentions_before, numbering, place_of, name_of}
-use Rattle.iloc_sched.specs.Steps.NamingWalk.{Stands, also, also_all, numbering_with}
+use Rattle.iloc_sched.specs.Steps.Renaming.NamingWalk.{Stands, also, also_all, numbering_with}
 use Rattle.iloc_sched.specs.Steps.Members.{In}
 use Rattle.iloc_sched.proofs.Renamed.Sources.{is_source-refl, stands_left, stands_right}
 use Rattle.std.proofs.Math.Path.{fun_ext}

@@ -16,7 +16,7 @@ use Rattle.iloc_meaning.proofs.Cases.{by_bool}
 use Rattle.iloc_meaning.proofs.Effects.{effect_same, effect-with_registers}
 use Rattle.iloc_sched.specs.Renaming.{source, numbering, place_of, name_of, renamed_by, is_nop, without_nops, renamed, IsRenamed}
 use Rattle.iloc_sched.specs.Renaming.Source.{Result}
-use Rattle.iloc_sched.specs.Steps.NamingWalk.{Stands}
+use Rattle.iloc_sched.specs.Steps.Renaming.NamingWalk.{Stands}
 use Rattle.iloc_sched.specs.Steps.Members.{In}
 use Rattle.iloc_sched.proofs.Basics.Members.{in_from}
 use Rattle.iloc_sched.proofs.Renamed.Sources.{place_apart, name_apart}

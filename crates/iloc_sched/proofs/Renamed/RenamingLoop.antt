@@ -12,7 +12,7 @@ use Rattle.iloc_meaning.specs.Trace.{op_at, is_register}
 use Rattle.iloc_meaning.proofs.Cases.{by_bool}
 use Rattle.iloc_sched.specs.Renaming.{Source, is_source, source, own_source, numbering, name_of, renamed_op, renamed_by, is_nop, without_nops, renamed}
 use Rattle.iloc_sched.specs.Renaming.Source.{Result}
-use Rattle.iloc_sched.specs.Steps.NamingWalk.{Stands, also, also_all, Follows, NamesNext, NamesUse, NamesDefinition, Named, numbering_with, UsesNamed, NextNamed, NamesAll, next_renamed}
+use Rattle.iloc_sched.specs.Steps.Renaming.NamingWalk.{Stands, also, also_all, Follows, NamesNext, NamesUse, NamesDefinition, Named, numbering_with, UsesNamed, NextNamed, NamesAll, next_renamed}
 use Rattle.iloc_sched.specs.Steps.Members.{In}
 use Rattle.iloc_sched.proofs.Basics.Members.{in_map}
 use Rattle.iloc_sched.proofs.Renamed.MentionedSources.{use_numbered, definition_numbered, length-renamed_by}

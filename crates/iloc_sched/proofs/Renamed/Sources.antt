@@ -6,7 +6,7 @@ use Rattle.iloc_ops.specs.declared.op.Reg.{Reg}
 use Rattle.iloc_meaning.proofs.Cases.{by_bool}
 use Rattle.iloc_sched.specs.Renaming.{Source, is_source, struck, place_of, name_of}
 use Rattle.iloc_sched.specs.Renaming.Source.{Start, Result}
-use Rattle.iloc_sched.specs.Steps.NamingWalk.{Stands}
+use Rattle.iloc_sched.specs.Steps.Renaming.NamingWalk.{Stands}
 use Rattle.iloc_sched.specs.Steps.Members.{In}
 
 pub is_source-refl : (s : Source) → is_source s s ≡ true

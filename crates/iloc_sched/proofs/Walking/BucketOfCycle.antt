@@ -2,7 +2,7 @@
 use Rattle.std.proofs.Common.{◌≡◌, ◌≢◌, ℕ, ◌+◌, ◌%◌, ◌<◌, ◌≤◌, Bool, true, false, Option, None, ◌⊎◌, inl, inr, sym, ◌∙◌, ap, subst, arith}
 use Rattle.std.proofs.lemmas.Bool.{true≢false}
 use Rattle.iloc_sched.specs.Steps.Graph.{Graph, IsGraph}
-use Rattle.iloc_sched.specs.Steps.Progress.{Progress, Waits, CanIssue}
+use Rattle.iloc_sched.specs.Steps.Cycle.Progress.{Progress, Waits, CanIssue}
 use Rattle.iloc_sched.proofs.Basics.Cases.{by_eq, by_lt}
 
 pub earliest_bound : (graph : Graph) (w : Progress) (f i : ℕ) (at : Option ℕ) → IsGraph graph → Waits graph w f i at

@@ -11,13 +11,13 @@ use Rattle.iloc_sched.specs.declared.cycle.class.Class.{Class}
 use Rattle.iloc_sched.specs.declared.cycle.plan.Plan.{Plan}
 use Rattle.iloc_sched.specs.declared.cycle.waiting.OperationState.{OperationState}
 use Rattle.iloc_sched.specs.declared.cycle.waiting.Waiting.{Waiting}
-use Rattle.iloc_sched.specs.Steps.Calendar.{has, HasRoom, KeepsRoom, Puts}
-use Rattle.iloc_sched.specs.Steps.Classes.{place_of, excludes}
+use Rattle.iloc_sched.specs.Steps.Cycle.Calendar.{has, HasRoom, KeepsRoom, Puts}
+use Rattle.iloc_sched.specs.Steps.Cycle.Classes.{place_of, excludes}
 use Rattle.iloc_sched.specs.Steps.Graph.{Graph, IsGraph}
-use Rattle.iloc_sched.specs.Steps.Progress.{Progress, Waits}
+use Rattle.iloc_sched.specs.Steps.Cycle.Progress.{Progress, Waits}
 use Rattle.iloc_sched.specs.Steps.Views.{graph_of, issued_in, unmet_in, earliest_in, issued_list, unmet_list, earliest_list, progress_of, IsSized}
-use Rattle.iloc_sched.specs.Steps.SoFar.{class_at, rank_of, KeepsOut, IsPlan, IsCalendar, IsSoFar}
-use Rattle.iloc_sched.specs.Steps.Opening.{not_issued, IsOpening}
+use Rattle.iloc_sched.specs.Steps.Cycle.SoFar.{class_at, rank_of, KeepsOut, IsPlan, IsCalendar, IsSoFar}
+use Rattle.iloc_sched.specs.Steps.Cycle.Opening.{not_issued, IsOpening}
 use Rattle.iloc_sched.proofs.Basics.Cases.{by_eq, not_both}
 use Rattle.iloc_sched.proofs.Ranks.Calendars.{place_small, room_kept, room_trans, ranks_apart, kept_put, keeps_out_more}
 use Rattle.iloc_sched.proofs.Ranks.Cells.{by_both, read_replicate}

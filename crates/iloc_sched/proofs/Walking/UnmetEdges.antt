@@ -2,7 +2,7 @@
 use Rattle.std.proofs.Common.{◌≡◌, ◌≢◌, ℕ, zero, suc, ◌+◌, ◌<◌, ◌≤◌, Bool, true, false, ◌⊎◌, inl, inr, refl, sym, ap, subst, arith}
 use Rattle.std.proofs.lemmas.Bool.{cases_eq}
 use Rattle.iloc_meaning.proofs.Cases.{by_bool}
-use Rattle.iloc_sched.specs.Steps.Progress.{count_from, one_if}
+use Rattle.iloc_sched.specs.Steps.Cycle.Progress.{count_from, one_if}
 use Rattle.iloc_sched.proofs.Basics.Cases.{by_eq}
 
 pub not_true : {P : Type 0} → (b : Bool) → b ≡ false → b ≡ true → P

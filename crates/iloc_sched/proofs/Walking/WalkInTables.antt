@@ -7,7 +7,7 @@ use Rattle.iloc_sched.specs.declared.cycle.waiting.OperationState.{OperationStat
 use Rattle.iloc_sched.specs.declared.cycle.waiting.Waiting.{Waiting}
 use Rattle.iloc_sched.specs.declared.cycle.calendar.Calendar.{Calendar}
 use Rattle.iloc_sched.specs.Steps.Graph.{Graph, IsLast, IsGraph}
-use Rattle.iloc_sched.specs.Steps.Progress.{Progress, Waits, CanIssue, IsFrom, KeepsPlaces}
+use Rattle.iloc_sched.specs.Steps.Cycle.Progress.{Progress, Waits, CanIssue, IsFrom, KeepsPlaces}
 use Rattle.iloc_sched.specs.Steps.Views.{edge_at, graph_of, issued_list, unmet_list, earliest_list, progress_of, bucket_of, IsSized}
 use Rattle.iloc_sched.proofs.Walking.EdgeWalk.{begins, some_unmet, moves, Enters}
 use Rattle.iloc_sched.proofs.Walking.TableReads.{issued_size, unmet_size, earliest_size, earliest_read}

@@ -7,7 +7,7 @@ use Rattle.iloc_timed.specs.declared.latencies.Latencies.{Latencies}
 use Rattle.iloc_timed.specs.Latency.{latency}
 use Rattle.iloc_sched.specs.Delays.{IsDelayPair}
 use Rattle.iloc_sched.specs.Priority.{priority}
-use Rattle.iloc_sched.specs.Starts.{start}
+use Rattle.iloc_sched.specs.LowerBound.Starts.{start}
 use Rattle.iloc_sched.specs.Steps.Graph.{Graph}
 
 -- the chain of an operation is at least its base and each d + value(j) over its pairs (i, j, d), and it is one of these;

@@ -4,7 +4,7 @@ use Rattle.iloc_ops.specs.declared.op.Op.{Op}
 use Rattle.iloc_timed.specs.declared.latencies.Latencies.{Latencies}
 use Rattle.iloc_sched.specs.Delays.{IsDelayPair}
 use Rattle.iloc_sched.specs.declared.cycle.calendar.TheConstants.{LONGEST_DELAY}
-use Rattle.iloc_sched.specs.Near.{IsNear}
+use Rattle.iloc_sched.specs.Graph.Near.{IsNear}
 
 -- edges by number: those into operation j are the ones from `start j` up to `start (j + 1)`; of those out of
 -- operation i the last is `head i`, and the one before edge x is `previous x`

@@ -5,8 +5,8 @@ use Rattle.iloc_sched.specs.declared.edges.Edges.{Edges}
 use Rattle.iloc_sched.specs.declared.cycle.waiting.OperationState.{OperationState}
 use Rattle.iloc_sched.specs.declared.cycle.waiting.Waiting.{Waiting}
 use Rattle.iloc_sched.specs.Steps.Graph.{Graph}
-use Rattle.iloc_sched.specs.Steps.Progress.{Progress}
-use Rattle.iloc_sched.specs.Steps.Calendar.{has}
+use Rattle.iloc_sched.specs.Steps.Cycle.Progress.{Progress}
+use Rattle.iloc_sched.specs.Steps.Cycle.Calendar.{has}
 use Rattle.iloc_sched.specs.declared.cycle.calendar.Calendar.{Calendar}
 
 abbrev pub no_edge : Edge

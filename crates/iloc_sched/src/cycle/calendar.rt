@@ -4,7 +4,7 @@
 //! priorities compare: in blocks of a hundred operations heaps take 40 instructions and 3 mispredicted branches more for each
 //! operation, with ranking. Sets stand side by side: words w of all sets follow each other.
 ghost use Rattle.std.specs.Prelude.{ℕ, ◌≡◌, ◌≢◌, ◌+◌, ◌*◌, ◌/◌, ◌%◌, ◌<◌, ◌≤◌, length, OnOk};
-ghost use Rattle.iloc_sched.specs.Steps.RankSets.{IsSummary, IsFirstWithin};
+ghost use Rattle.iloc_sched.specs.Steps.Cycle.RankSets.{IsSummary, IsFirstWithin};
 
 use crate::cycle::class::Class;
 use crate::cycle::words::{
@@ -53,8 +53,8 @@ pub struct Calendar {
 
 impl Calendar {
     ghost use Rattle.std.specs.Prelude.{◌||◌, true, false};
-    ghost use Rattle.iloc_sched.specs.Steps.Classes.{place_of};
-    ghost use Rattle.iloc_sched.specs.Steps.Calendar.{has, offers, IsWithin, HasRoom, KeepsRoom, HasSameSets, Puts, Releases, Takes, IsFirst};
+    ghost use Rattle.iloc_sched.specs.Steps.Cycle.Classes.{place_of};
+    ghost use Rattle.iloc_sched.specs.Steps.Cycle.Calendar.{has, offers, IsWithin, HasRoom, KeepsRoom, HasSameSets, Puts, Releases, Takes, IsFirst};
 
     /// No rank, and capacity for none.
     pub fn new(alloc: Global) -> Calendar

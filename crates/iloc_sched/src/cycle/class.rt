@@ -17,7 +17,7 @@ pub enum Class {
 }
 
 impl Class {
-    ghost use Rattle.iloc_sched.specs.Steps.Classes.{class_of, excludes, place_of};
+    ghost use Rattle.iloc_sched.specs.Steps.Cycle.Classes.{class_of, excludes, place_of};
 
     /// The class of a kind of operations.
     pub fn of(kind: Kind) -> Class

@@ -31,7 +31,7 @@ fn end_of(priorities: &[u32]) -> usize
 }
 
 impl Order {
-    ghost use Rattle.iloc_sched.specs.Steps.Order.{AreRanks};
+    ghost use Rattle.iloc_sched.specs.Steps.Cycle.Order.{AreRanks};
 
     /// No operation.
     pub fn new(alloc: Global) -> Order {

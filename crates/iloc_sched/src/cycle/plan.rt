@@ -17,7 +17,7 @@ pub struct Plan<'a> {
 }
 
 impl<'a> Plan<'a> {
-    ghost use Rattle.iloc_sched.specs.Steps.SoFar.{class_at};
+    ghost use Rattle.iloc_sched.specs.Steps.Cycle.SoFar.{class_at};
 
     /// The class of an operation.
     #[inline(always)]

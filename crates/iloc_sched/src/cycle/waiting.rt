@@ -4,8 +4,8 @@
 //! are gone through. Whose last edge was one of them goes into the bucket of the cycle at which the last of its sources'
 //! results has arrived.
 ghost use Rattle.std.specs.Prelude.{ℕ, false, ◌≡◌, ◌+◌, ◌^◌, ◌<◌, ◌≤◌, length, slice_set, OnOk};
-ghost use Rattle.iloc_sched.specs.Steps.Calendar.{has};
-ghost use Rattle.iloc_sched.specs.Steps.SoFar.{IsPlan};
+ghost use Rattle.iloc_sched.specs.Steps.Cycle.Calendar.{has};
+ghost use Rattle.iloc_sched.specs.Steps.Cycle.SoFar.{IsPlan};
 
 use crate::cycle::calendar::{Calendar, LONGEST_DELAY};
 use crate::cycle::plan::Plan;
@@ -39,9 +39,9 @@ pub struct Waiting {
 
 impl Waiting {
     ghost use Rattle.std.specs.Prelude.{None, Some};
-    ghost use Rattle.iloc_sched.specs.Steps.Progress.{Waits, CanIssue, KeepsPlaces};
+    ghost use Rattle.iloc_sched.specs.Steps.Cycle.Progress.{Waits, CanIssue, KeepsPlaces};
     ghost use Rattle.iloc_sched.specs.Steps.Views.{graph_of, issued_list, unmet_list, earliest_list, progress_of, IsSized};
-    ghost use Rattle.iloc_sched.specs.Steps.SoFar.{IsCalendar, waiting_count};
+    ghost use Rattle.iloc_sched.specs.Steps.Cycle.SoFar.{IsCalendar, waiting_count};
 
     /// No operation.
     pub fn new(alloc: Global) -> Waiting

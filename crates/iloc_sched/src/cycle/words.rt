@@ -1,7 +1,7 @@
 //! The words of sets of ranks.
 ghost use Rattle.std.specs.Prelude.{ℕ, ◌≡◌, ◌≢◌, ◌+◌, ◌*◌, ◌/◌, ◌%◌, ◌<◌, ◌≤◌, length, slice_index, OnOk, OnErr};
 ghost use Rattle.std.specs.Int.{bit_at, trailing_zeros, w64};
-ghost use Rattle.iloc_sched.specs.Steps.RankSets.{word_at, AddsBit, TakesBit, MovesAt, HoldsBits, IsFirstBit, IsFirstWithin, IsSearched, NotesMoved, open_bit};
+ghost use Rattle.iloc_sched.specs.Steps.Cycle.RankSets.{word_at, AddsBit, TakesBit, MovesAt, HoldsBits, IsFirstBit, IsFirstWithin, IsSearched, NotesMoved, open_bit};
 
 use crate::cycle::calendar::{KEPT_OUT, READY, SETS};
 use iloc_ops::NoMemory;

@@ -3,7 +3,7 @@ ghost use Rattle.std.specs.Prelude.{◌≡◌, ◌<◌, ◌≤◌, ◌↔◌, �
 ghost use Rattle.std.specs.List.{AllPairs};
 ghost use Rattle.iloc_sched.specs.Renaming.{IsRenamed};
 ghost use Rattle.iloc_sched.specs.Delays.{uses_result, reads_stored, keeps_order, delays, IsDelayPair};
-ghost use Rattle.iloc_sched.specs.Pairs.{ComesBefore, rising, with_delays, pairs_from, pairs};
+ghost use Rattle.iloc_sched.specs.Graph.Pairs.{ComesBefore, rising, with_delays, pairs_from, pairs};
 
 use arrayvec::ArrayVec;
 use iloc_ops::{MAX_OPS, NoMemory, Op, defines, uses};

@@ -6,7 +6,7 @@ ghost use Rattle.iloc_meaning.specs.Trace.{op_at};
 ghost use Rattle.iloc_timed.specs.Kinds.{kind};
 
 use crate::by_register::ByRegister;
-use crate::kinds::Operations;
+use crate::edges::kinds::Operations;
 use iloc_ops::{MAX_OPS, NoMemory, Reg};
 use iloc_timed::Kind;
 use std::alloc::Global;
@@ -25,7 +25,7 @@ pub struct Lasts {
 }
 
 impl Lasts {
-    ghost use Rattle.iloc_sched.specs.Steps.Lasts.{IsLasts, NotesDefiner, NotesKind, loads_before};
+    ghost use Rattle.iloc_sched.specs.Steps.Edges.Lasts.{IsLasts, NotesDefiner, NotesKind, loads_before};
 
     /// Before the first operation of a list.
     pub fn new(alloc: Global) -> Lasts

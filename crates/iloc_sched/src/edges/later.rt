@@ -14,7 +14,7 @@ pub struct Later {
 }
 
 impl Later {
-    ghost use Rattle.iloc_sched.specs.Steps.Successors.{waiting_for, waits_by_kind};
+    ghost use Rattle.iloc_sched.specs.Steps.Ranking.Successors.{waiting_for, waits_by_kind};
 
     /// No operation comes later.
     pub fn none() -> Later

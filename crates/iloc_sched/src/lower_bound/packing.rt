@@ -1,6 +1,6 @@
 //! Numbers packed into places.
 ghost use Rattle.std.specs.Prelude.{ℕ, ◌≡◌, ◌+◌, ◌<◌, ◌≤◌, ◌^◌, ◌∷◌, [], false, true, List, length, IfOk};
-ghost use Rattle.iloc_sched.specs.Least.{needed};
+ghost use Rattle.iloc_sched.specs.LowerBound.Least.{needed};
 
 use iloc_ops::NoMemory;
 use std::alloc::Global;
@@ -16,7 +16,7 @@ pub struct Packing {
 }
 
 impl Packing {
-    ghost use Rattle.iloc_sched.specs.Steps.Packing.{IsPacking, IsLinked, AreTaken, AreTakenAlike, is_taken};
+    ghost use Rattle.iloc_sched.specs.Steps.LowerBound.Packing.{IsPacking, IsLinked, AreTaken, AreTakenAlike, is_taken};
 
     /// So many free places.
     pub fn new(alloc: Global, places: u32) -> Result<Packing, NoMemory>

@@ -1,6 +1,6 @@
 //! Operations that share slots.
 ghost use Rattle.std.specs.Prelude.{◌≡◌};
-ghost use Rattle.iloc_sched.specs.Shares.{shares, width};
+ghost use Rattle.iloc_sched.specs.LowerBound.Shares.{shares, width};
 
 use iloc_timed::Kind;
 

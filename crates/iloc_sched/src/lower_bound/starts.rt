@@ -1,7 +1,7 @@
 //! The starts of operations.
 ghost use Rattle.std.specs.Prelude.{◌≡◌, OnOk};
-ghost use Rattle.iloc_sched.specs.Starts.{starts};
-ghost use Rattle.iloc_sched.specs.Steps.SoundGraph.{IsSound};
+ghost use Rattle.iloc_sched.specs.LowerBound.Starts.{starts};
+ghost use Rattle.iloc_sched.specs.Steps.Edges.SoundGraph.{IsSound};
 
 use crate::tables::Tables;
 use iloc_ops::NoMemory;

@@ -2,10 +2,10 @@
 ghost use Rattle.std.specs.Prelude.{ℕ, ◌≡◌, ◌+◌, ◌*◌, ◌<◌, ◌≤◌, ◌^◌, ◌∷◌, ◌++◌, List, length, OnOk};
 ghost use Rattle.iloc_timed.specs.Kinds.{is_load};
 ghost use Rattle.iloc_sched.specs.Delays.{when};
-ghost use Rattle.iloc_sched.specs.Least.{needed, tails};
-ghost use Rattle.iloc_sched.specs.Steps.Packing.{IsPacking};
-ghost use Rattle.iloc_sched.specs.Steps.SoundGraph.{IsSound};
-ghost use Rattle.iloc_sched.specs.Steps.Tails.{tail_by, IsTailed};
+ghost use Rattle.iloc_sched.specs.LowerBound.Least.{needed, tails};
+ghost use Rattle.iloc_sched.specs.Steps.LowerBound.Packing.{IsPacking};
+ghost use Rattle.iloc_sched.specs.Steps.Edges.SoundGraph.{IsSound};
+ghost use Rattle.iloc_sched.specs.Steps.LowerBound.Tails.{tail_by, IsTailed};
 ghost use Rattle.iloc_sched.specs.Steps.Views.{graph_of};
 
 use crate::lower_bound::packing::Packing;

@@ -3,8 +3,8 @@ ghost use Rattle.std.specs.Prelude.{ℕ, ◌≡◌, ◌≤◌, ◌<◌, ◌+◌,
 ghost use Rattle.std.specs.Int.{bit_at};
 ghost use Rattle.std.specs.List.{range_with_len};
 ghost use Rattle.iloc_sched.specs.Heuristics.{descendants};
-ghost use Rattle.iloc_sched.specs.Steps.Dependents.{AreMarked};
-ghost use Rattle.iloc_sched.specs.Steps.SoundGraph.{IsSound};
+ghost use Rattle.iloc_sched.specs.Steps.Ranking.Dependents.{AreMarked};
+ghost use Rattle.iloc_sched.specs.Steps.Edges.SoundGraph.{IsSound};
 
 use crate::tables::Tables;
 use iloc_ops::NoMemory;

@@ -1,7 +1,7 @@
 //! By what the ready operations are ranked.
 ghost use Rattle.std.specs.Prelude.{◌≡◌, replicate, OnOk};
 ghost use Rattle.iloc_sched.specs.Heuristics.{priorities_by};
-ghost use Rattle.iloc_sched.specs.Steps.SoundGraph.{IsSound};
+ghost use Rattle.iloc_sched.specs.Steps.Edges.SoundGraph.{IsSound};
 
 use crate::ranking::descendants::count_descendants;
 use crate::ranking::priority::{copy_latencies, fill_chains};

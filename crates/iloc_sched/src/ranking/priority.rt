@@ -2,7 +2,7 @@
 ghost use Rattle.std.specs.Prelude.{◌≡◌, map, OnOk};
 ghost use Rattle.iloc_timed.specs.Latency.{latency, latency_of};
 ghost use Rattle.iloc_sched.specs.Priority.{priorities};
-ghost use Rattle.iloc_sched.specs.Steps.SoundGraph.{IsSound};
+ghost use Rattle.iloc_sched.specs.Steps.Edges.SoundGraph.{IsSound};
 
 use crate::tables::Tables;
 use iloc_ops::NoMemory;

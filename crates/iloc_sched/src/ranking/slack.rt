@@ -2,7 +2,7 @@
 ghost use Rattle.std.specs.Prelude.{ℕ, ◌≡◌, ◌<◌, ◌+◌, ◌^◌, length, map, slice_index, OnOk};
 ghost use Rattle.std.specs.List.{range_with_len};
 ghost use Rattle.iloc_sched.specs.Heuristics.{through};
-ghost use Rattle.iloc_sched.specs.Steps.SoundGraph.{IsSound};
+ghost use Rattle.iloc_sched.specs.Steps.Edges.SoundGraph.{IsSound};
 
 use crate::lower_bound::starts::fill_starts;
 use crate::ranking::priority::fill_chains;

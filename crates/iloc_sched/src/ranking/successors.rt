@@ -2,8 +2,8 @@
 ghost use Rattle.std.specs.Prelude.{ℕ, ◌≡◌, ◌≤◌, ◌<◌, ◌+◌, ◌*◌, if◌then◌else◌, length, map, slice_index, replicate};
 ghost use Rattle.std.specs.List.{range_with_len};
 ghost use Rattle.iloc_sched.specs.Heuristics.{successors};
-ghost use Rattle.iloc_sched.specs.Steps.SoundGraph.{IsSound};
-ghost use Rattle.iloc_sched.specs.Steps.Successors.{waits_by_kind, waits_by_use, adds_one};
+ghost use Rattle.iloc_sched.specs.Steps.Edges.SoundGraph.{IsSound};
+ghost use Rattle.iloc_sched.specs.Steps.Ranking.Successors.{waits_by_kind, waits_by_use, adds_one};
 ghost use Rattle.iloc_sched.specs.Steps.Views.{graph_of};
 
 use crate::edges::delay_pairs::{keeps_order, reads_stored};

@@ -5,8 +5,10 @@ use Rattle.iloc_timed.specs.Timed.{Issued, register_in}
 use Rattle.iloc_timed.specs.Steps.Wheel.{AreUnderWay}
 use Rattle.iloc_timed.specs.Steps.Machine.{landed, AllLand}
 use Rattle.iloc_validation.specs.declared.reading.run.Run.{Run}
-use Rattle.iloc_validation.specs.Steps.Holders.{holder}
-use Rattle.iloc_validation.specs.Steps.Arrivals.{mark, sent_as}
+use Rattle.iloc_validation.specs.Steps.Tracks.Holders.{holder}
+use Rattle.iloc_validation.specs.Steps.Tracks.Arrivals.{mark, sent_as}
+pub mod Arrivals
+pub mod Holders
 
 -- registers hold the numbers that were due before cycle c, and the rest is under way
 pub record Tracks (c : ℕ) (log : List Issued) (run : Run) : Type 0 where

@@ -4,8 +4,8 @@ ghost use Rattle.iloc_ops.specs.declared.op.Reg.{Reg as Register};
 ghost use Rattle.iloc_meaning.specs.Trace.{op_at};
 ghost use Rattle.iloc_timed.specs.Latency.{latency};
 ghost use Rattle.iloc_timed.specs.Timed.{Issued};
-ghost use Rattle.iloc_validation.specs.Steps.Holders.{holder};
-ghost use Rattle.iloc_validation.specs.Steps.Arrivals.{landed_at, with_slot, marked};
+ghost use Rattle.iloc_validation.specs.Steps.Tracks.Holders.{holder};
+ghost use Rattle.iloc_validation.specs.Steps.Tracks.Arrivals.{landed_at, with_slot, marked};
 
 use crate::reading::holders::Holders;
 use iloc_ops::{NoMemory, Op, Reg, defines};

@@ -2,7 +2,7 @@ use Rattle.std.proofs.Common.{◌∙◌, ◌++◌, length, ap, refl, sym}
 use Rattle.std.proofs.lemmas.Result.{on_ok_weaker}
 use Rattle.iloc_timed.specs.Cycles.{cycles}
 use Rattle.iloc_sched.specs.Heuristics.{priorities_by}
-use Rattle.iloc_sched.specs.Least.{least, least_of}
+use Rattle.iloc_sched.specs.LowerBound.Least.{least, least_of}
 use Rattle.iloc_sched.specs.Renaming.{without_nops}
 use Rattle.iloc_sched.proofs.PriorityValues.Named.{length-priorities_by}
 use Rattle.iloc_sched.proofs.Renamed.MentionedSources.{length-renamed_by}

@@ -1,7 +1,7 @@
 use Rattle.std.proofs.Common.{◌≡◌, ◌≤◌, ◌++◌, arith, ap, ◌∙◌, length, Err, IfErr, sym, subst}
 use Rattle.std.proofs.lemmas.Result.{err_from_is_err_and}
 use Rattle.iloc_ops.specs.Limits.{MAX_BLOCKS}
-use Rattle.iloc_farm.specs.Causes.{IsCaused, of_file}
+use Rattle.iloc_farm.specs.Run.Causes.{IsCaused, of_file}
 use Rattle.iloc_farm.proofs.Entries.{entries_long, whole_listing}
 use Rattle.iloc_farm.proofs.Streamed.{ends_file}
 use Rattle.iloc_farm.proofs.lister.listed_as_read.Goals as goal

@@ -1,6 +1,6 @@
 use Rattle.std.proofs.Common.{◌∙◌, Err, IfErr, ap, sym, subst}
 use Rattle.std.proofs.lemmas.Result.{err_from_is_err_and}
-use Rattle.iloc_farm.specs.Causes.{IsCaused, of_file}
+use Rattle.iloc_farm.specs.Run.Causes.{IsCaused, of_file}
 use Rattle.iloc_farm.proofs.Streamed.{ends_file}
 use Rattle.iloc_farm.proofs.reading.read_blocks.Goals as goal
 

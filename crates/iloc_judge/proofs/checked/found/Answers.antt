@@ -1,7 +1,7 @@
 use Rattle.std.proofs.Common.{ap, refl, ◌∙◌}
 use Rattle.iloc_timed.proofs.Standing.{numbered_from}
-use Rattle.iloc_sched.specs.GraphOf.{GraphOf}
-use Rattle.iloc_sched.specs.Least.{least_of}
+use Rattle.iloc_sched.specs.Graph.GraphOf.{GraphOf}
+use Rattle.iloc_sched.specs.LowerBound.Least.{least_of}
 use Rattle.iloc_judge.proofs.checked.found.Goals as goal
 
 pub cycles_of-requires-clause-numbered : goal.cycles_of-requires-clause-numbered

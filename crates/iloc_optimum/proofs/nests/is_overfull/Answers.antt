@@ -1,6 +1,6 @@
 use Rattle.std.proofs.Common.{◌≡◌, ◌∙◌, ◌+◌, ◌-◌, ◌*◌, ◌<◌, ◌≤◌, length, ap, arith}
 use Rattle.iloc_sched.specs.declared.lower_bound.share.Share.TheVariants.{All}
-use Rattle.iloc_sched.specs.Shares.{width}
+use Rattle.iloc_sched.specs.LowerBound.Shares.{width}
 use Rattle.iloc_optimum.specs.Steps.Inside.{count_inside}
 use Rattle.iloc_optimum.proofs.FullCycles.{is_less}
 use Rattle.iloc_optimum.proofs.OverfullNests.{most_nested}

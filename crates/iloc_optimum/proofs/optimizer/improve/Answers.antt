@@ -1,7 +1,7 @@
 use Rattle.std.proofs.Common.{◌≡◌, ◌∙◌, ◌≤◌, ◌+◌, ◌-◌, length, sym, ap, subst, arith}
 use Rattle.std.proofs.lemmas.List.{length-map, length-replicate}
 use Rattle.iloc_timed.specs.Kinds.{kind}
-use Rattle.iloc_sched.specs.Least.{tails}
+use Rattle.iloc_sched.specs.LowerBound.Least.{tails}
 use Rattle.iloc_sched.proofs.PriorityValues.Tails.{length-tails}
 use Rattle.iloc_optimum.specs.Bound.{IsBound}
 use Rattle.iloc_optimum.specs.Found.{IsFound}

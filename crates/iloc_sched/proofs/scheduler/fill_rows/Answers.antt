@@ -1,6 +1,6 @@
 use Rattle.std.proofs.Common.{◌≡◌, ◌+◌, ◌≤◌, [], length, sym, subst, ap, arith}
 use Rattle.iloc_timed.specs.Rows.{row_at, slots}
-use Rattle.iloc_sched.specs.Steps.SoFar.{IsSoFar, waiting_count}
+use Rattle.iloc_sched.specs.Steps.Cycle.SoFar.{IsSoFar, waiting_count}
 use Rattle.iloc_sched.proofs.Choice.NextRow.{few_rows, greedy_at_end}
 use Rattle.iloc_sched.proofs.Walking.FirstStates.{so_far_opened}
 use Rattle.iloc_sched.proofs.scheduler.fill_rows.Goals as goal

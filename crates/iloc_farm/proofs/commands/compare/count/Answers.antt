@@ -1,5 +1,5 @@
 use Rattle.std.proofs.Common.{ap, ◌∙◌}
-use Rattle.iloc_sched.specs.GraphOf.{GraphOf}
+use Rattle.iloc_sched.specs.Graph.GraphOf.{GraphOf}
 use Rattle.iloc_farm.specs.Listing.{cycles_of}
 use Rattle.iloc_farm.proofs.Listers.{is_count}
 use Rattle.iloc_farm.proofs.commands.compare.count.Goals as goal

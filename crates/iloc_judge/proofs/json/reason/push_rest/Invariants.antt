@@ -1,7 +1,7 @@
 use Rattle.std.proofs.Common.{◌≡◌, ◌++◌, take}
 use Rattle.std.specs.Prelude.{codes}
 use Rattle.std.specs.List.{flat_map}
-use Rattle.iloc_judge.specs.Json.{fact_value}
+use Rattle.iloc_judge.specs.Entry.Json.{fact_value}
 use Rattle.iloc_judge.proofs.json.reason.push_rest.Given as goal
 
 abbrev pub invariant-loop-fact : goal.invariant-loop-fact

@@ -1,6 +1,6 @@
 use Rattle.std.proofs.Common.{◌≡◌, ◌++◌, take}
 use Rattle.std.specs.List.{flat_map}
-use Rattle.iloc_judge.specs.Json.{escaped}
+use Rattle.iloc_judge.specs.Entry.Json.{escaped}
 use Rattle.iloc_judge.proofs.json.value.push_all_escaped.Given as goal
 
 abbrev pub invariant-loop-byte : goal.invariant-loop-byte

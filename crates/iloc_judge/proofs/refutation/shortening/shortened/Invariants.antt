@@ -1,4 +1,4 @@
-use Rattle.iloc_judge.specs.Memory.{memory_of}
+use Rattle.iloc_judge.specs.Verdict.Memory.{memory_of}
 use Rattle.iloc_judge.specs.Steps.Refuting.{DiffersAt}
 use Rattle.iloc_judge.proofs.refutation.shortening.shortened.Given as goal
 

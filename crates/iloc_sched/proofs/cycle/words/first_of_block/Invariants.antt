@@ -1,4 +1,4 @@
-use Rattle.iloc_sched.specs.Steps.RankSets.{IsSearched}
+use Rattle.iloc_sched.specs.Steps.Cycle.RankSets.{IsSearched}
 use Rattle.iloc_sched.proofs.cycle.words.first_of_block.Given as goal
 
 abbrev pub invariant-loop-left : goal.invariant-loop-left

@@ -1,5 +1,5 @@
 use Rattle.std.proofs.Common.{◌≡◌, subst, arith}
-use Rattle.iloc_sched.specs.Steps.RankSets.{NotesMoved}
+use Rattle.iloc_sched.specs.Steps.Cycle.RankSets.{NotesMoved}
 use Rattle.iloc_sched.proofs.Ranks.Moves.{noting_start, noting_more}
 use Rattle.iloc_sched.proofs.cycle.words.move_summary.Goals as goal
 

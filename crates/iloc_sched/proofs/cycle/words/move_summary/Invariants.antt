@@ -1,4 +1,4 @@
-use Rattle.iloc_sched.specs.Steps.RankSets.{NotesMoved}
+use Rattle.iloc_sched.specs.Steps.Cycle.RankSets.{NotesMoved}
 use Rattle.iloc_sched.proofs.cycle.words.move_summary.Given as goal
 
 abbrev pub invariant-loop-class : goal.invariant-loop-class

@@ -1,6 +1,6 @@
 use Rattle.std.proofs.Common.{ℕ, ◌≡◌, ◌+◌, length, get_or, ◌∙◌, ap, arith}
 use Rattle.std.specs.Global.{Vec}
-use Rattle.iloc_sched.specs.Steps.PartialGraph.{CoversUses}
+use Rattle.iloc_sched.specs.Steps.Edges.PartialGraph.{CoversUses}
 use Rattle.iloc_sched.specs.Steps.Views.{graph_of}
 use Rattle.iloc_sched.proofs.KeptEdges.PartialGraphs.{closed}
 use Rattle.iloc_sched.proofs.KeptEdges.NearPairs.{near_is_covered}

@@ -1,7 +1,7 @@
 use Rattle.std.proofs.Common.{ℕ, ◌<◌, length, take, sym, subst, arith}
 use Rattle.std.proofs.lemmas.List.{take_more, take_all}
 use Rattle.iloc_sched.specs.Steps.Members.{In}
-use Rattle.iloc_sched.specs.Steps.PartialGraph.{AddsFrom}
+use Rattle.iloc_sched.specs.Steps.Edges.PartialGraph.{AddsFrom}
 use Rattle.iloc_sched.specs.Steps.Views.{graph_of}
 use Rattle.iloc_sched.proofs.Basics.Members.{in_at}
 use Rattle.iloc_sched.proofs.KeptEdges.AddedEdges.{adds_more}

@@ -1,7 +1,7 @@
 use Rattle.std.proofs.Common.{subst}
 use Rattle.iloc_timed.specs.declared.kind.Kind.TheVariants as K
 use Rattle.iloc_sched.specs.Steps.Members.{In}
-use Rattle.iloc_sched.specs.Steps.PartialGraph.{AddsFrom}
+use Rattle.iloc_sched.specs.Steps.Edges.PartialGraph.{AddsFrom}
 use Rattle.iloc_sched.specs.Steps.Views.{graph_of}
 use Rattle.iloc_sched.proofs.KeptEdges.ListedKinds.{kind_read}
 use Rattle.iloc_sched.proofs.KeptEdges.AddedEdges.{memory_load, memory_output, memory_store}

@@ -1,8 +1,8 @@
 use Rattle.std.proofs.Common.{◌≡◌, ◌<◌, length, get_or, Some, sym, ◌∙◌, arith}
 use Rattle.iloc_meaning.specs.Trace.{op_at}
 use Rattle.iloc_timed.specs.Latency.{latency}
-use Rattle.iloc_sched.specs.Steps.ByRegister.{number_at}
-use Rattle.iloc_sched.specs.Steps.PartialGraph.{Grows, CoversUse}
+use Rattle.iloc_sched.specs.Steps.Renaming.ByRegister.{number_at}
+use Rattle.iloc_sched.specs.Steps.Edges.PartialGraph.{Grows, CoversUse}
 use Rattle.iloc_sched.specs.Steps.Views.{graph_of}
 use Rattle.iloc_sched.proofs.KeptEdges.ListedKinds.{latency_listed}
 use Rattle.iloc_sched.proofs.KeptEdges.NearPairs.{definer_there}

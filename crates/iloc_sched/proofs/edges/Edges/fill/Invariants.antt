@@ -1,6 +1,6 @@
 use Rattle.std.proofs.Common.{◌≡◌, ◌+◌, ◌*◌, ◌≤◌, length}
-use Rattle.iloc_sched.specs.Steps.Lasts.{IsLasts}
-use Rattle.iloc_sched.specs.Steps.PartialGraph.{HasCapacity, IsPartialGraph}
+use Rattle.iloc_sched.specs.Steps.Edges.Lasts.{IsLasts}
+use Rattle.iloc_sched.specs.Steps.Edges.PartialGraph.{HasCapacity, IsPartialGraph}
 use Rattle.iloc_sched.specs.Steps.Views.{graph_of}
 use Rattle.iloc_sched.proofs.edges.Edges.fill.Given as goal
 

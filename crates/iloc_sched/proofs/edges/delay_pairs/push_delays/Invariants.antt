@@ -1,5 +1,5 @@
 use Rattle.std.proofs.Common.{◌≡◌, ◌++◌, take}
-use Rattle.iloc_sched.specs.Pairs.{with_delays}
+use Rattle.iloc_sched.specs.Graph.Pairs.{with_delays}
 use Rattle.iloc_sched.proofs.edges.delay_pairs.push_delays.Given as goal
 
 abbrev pub invariant-loop-delay : goal.invariant-loop-delay

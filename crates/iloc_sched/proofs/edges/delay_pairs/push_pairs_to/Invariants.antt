@@ -1,5 +1,5 @@
 use Rattle.std.proofs.Common.{◌≡◌, ◌++◌}
-use Rattle.iloc_sched.specs.Pairs.{pairs_from}
+use Rattle.iloc_sched.specs.Graph.Pairs.{pairs_from}
 use Rattle.iloc_sched.proofs.edges.delay_pairs.push_pairs_to.Given as goal
 
 abbrev pub invariant-loop-first : goal.invariant-loop-first

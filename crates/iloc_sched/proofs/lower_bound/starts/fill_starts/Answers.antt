@@ -2,7 +2,7 @@ use Rattle.std.proofs.Common.{rules, ℕ, take, [], ◌++◌, ◌-◌, ◌≡◌
 use Rattle.std.specs.Prelude.{replicate}
 use Rattle.std.proofs.lemmas.List.{get_or_read}
 use Rattle.iloc_sched.specs.declared.edges.Edge.{Edge}
-use Rattle.iloc_sched.specs.Starts.{start}
+use Rattle.iloc_sched.specs.LowerBound.Starts.{start}
 use Rattle.iloc_sched.specs.Steps.Chains.{AreStartsBefore}
 use Rattle.iloc_sched.specs.Steps.Views.{graph_of}
 use Rattle.iloc_sched.proofs.PriorityValues.Chains.{raise_to}

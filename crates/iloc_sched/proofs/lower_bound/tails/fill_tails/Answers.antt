@@ -7,12 +7,12 @@ use Rattle.iloc_timed.specs.declared.latencies.Latencies.{Latencies}
 use Rattle.iloc_timed.specs.Kinds.{kind, is_load}
 use Rattle.iloc_timed.specs.Latency.{latency}
 use Rattle.iloc_sched.specs.Delays.{when}
-use Rattle.iloc_sched.specs.Least.{needed, load_tails, tails, tail}
+use Rattle.iloc_sched.specs.LowerBound.Least.{needed, load_tails, tails, tail}
 use Rattle.iloc_sched.specs.declared.lower_bound.packing.Packing.{Packing}
 use Rattle.iloc_sched.specs.declared.tables.Tables.{Tables}
-use Rattle.iloc_sched.specs.Steps.Packing.{IsPacking}
-use Rattle.iloc_sched.specs.Steps.SoundGraph.{IsSound}
-use Rattle.iloc_sched.specs.Steps.Tails.{loads_from, chain_tail, tail_by, IsTailed}
+use Rattle.iloc_sched.specs.Steps.LowerBound.Packing.{IsPacking}
+use Rattle.iloc_sched.specs.Steps.Edges.SoundGraph.{IsSound}
+use Rattle.iloc_sched.specs.Steps.LowerBound.Tails.{loads_from, chain_tail, tail_by, IsTailed}
 use Rattle.iloc_sched.specs.Steps.Views.{graph_of}
 use Rattle.iloc_sched.proofs.KeptEdges.ListedKinds.{kind_listed}
 use Rattle.iloc_sched.proofs.PriorityValues.Found.{none_raised}

@@ -1,6 +1,6 @@
 use Rattle.std.proofs.Common.{◌≡◌, ◌+◌, ◌*◌, length}
-use Rattle.iloc_sched.specs.Steps.Packing.{IsPacking}
-use Rattle.iloc_sched.specs.Steps.Tails.{loads_from, IsTailed}
+use Rattle.iloc_sched.specs.Steps.LowerBound.Packing.{IsPacking}
+use Rattle.iloc_sched.specs.Steps.LowerBound.Tails.{loads_from, IsTailed}
 use Rattle.iloc_sched.specs.Steps.Views.{graph_of}
 use Rattle.iloc_sched.proofs.lower_bound.tails.fill_tails.Given as goal
 

@@ -1,9 +1,9 @@
 use Rattle.std.proofs.Common.{ℕ, ◌≡◌, ◌+◌, ◌-◌, ◌<◌, ◌≤◌, List, length, get_or, sym, subst, arith}
 use Rattle.std.proofs.lemmas.List.{get_or_read}
 use Rattle.iloc_sched.specs.declared.tables.Tables.{Tables}
-use Rattle.iloc_sched.specs.Least.{tail}
-use Rattle.iloc_sched.specs.Steps.SoundGraph.{IsSound}
-use Rattle.iloc_sched.specs.Steps.Tails.{chain_tail, IsTailed}
+use Rattle.iloc_sched.specs.LowerBound.Least.{tail}
+use Rattle.iloc_sched.specs.Steps.Edges.SoundGraph.{IsSound}
+use Rattle.iloc_sched.specs.Steps.LowerBound.Tails.{chain_tail, IsTailed}
 use Rattle.iloc_sched.specs.Steps.Views.{graph_of, edge_at}
 use Rattle.iloc_sched.proofs.PriorityValues.Found.{read_edge, raise_read}
 use Rattle.iloc_sched.proofs.PriorityValues.Tails.{is_tail}

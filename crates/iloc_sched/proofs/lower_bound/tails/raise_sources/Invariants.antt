@@ -1,5 +1,5 @@
 use Rattle.std.proofs.Common.{◌≤◌}
-use Rattle.iloc_sched.specs.Steps.Tails.{IsTailed}
+use Rattle.iloc_sched.specs.Steps.LowerBound.Tails.{IsTailed}
 use Rattle.iloc_sched.specs.Steps.Views.{graph_of}
 use Rattle.iloc_sched.proofs.lower_bound.tails.raise_sources.Given as goal
 

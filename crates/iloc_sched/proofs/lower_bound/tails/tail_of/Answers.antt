@@ -1,9 +1,9 @@
 use Rattle.std.proofs.Common.{◌≡◌, ◌+◌, ◌++◌, max, sym, ◌∙◌, ap, subst}
 use Rattle.iloc_timed.specs.Kinds.{is_load}
 use Rattle.iloc_sched.specs.Delays.{when}
-use Rattle.iloc_sched.specs.Least.{needed}
-use Rattle.iloc_sched.specs.Steps.Packing.{is_taken, IsPacking}
-use Rattle.iloc_sched.specs.Steps.Tails.{tail_by}
+use Rattle.iloc_sched.specs.LowerBound.Least.{needed}
+use Rattle.iloc_sched.specs.Steps.LowerBound.Packing.{is_taken, IsPacking}
+use Rattle.iloc_sched.specs.Steps.LowerBound.Tails.{tail_by}
 use Rattle.iloc_sched.proofs.Bounds.Packing.{packed_needed}
 use Rattle.iloc_sched.proofs.lower_bound.tails.tail_of.Goals as goal
 

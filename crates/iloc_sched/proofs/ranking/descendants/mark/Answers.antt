@@ -2,7 +2,7 @@ use Rattle.std.proofs.Common.{ℕ, ◌≡◌, ◌+◌, ◌-◌, List, length, se
 use Rattle.std.specs.Int.Bits.{bit_or}
 use Rattle.std.proofs.lemmas.List.{get_or_read}
 use Rattle.iloc_sched.specs.declared.edges.Edge.{Edge}
-use Rattle.iloc_sched.specs.Steps.Dependents.{IsMarked}
+use Rattle.iloc_sched.specs.Steps.Ranking.Dependents.{IsMarked}
 use Rattle.iloc_sched.specs.Steps.Views.{graph_of}
 use Rattle.iloc_sched.proofs.PriorityValues.DependentsFound.{marked_none, marked_more, marked_all}
 use Rattle.iloc_sched.proofs.PriorityValues.Found.{read_edge}

@@ -1,4 +1,4 @@
-use Rattle.iloc_sched.specs.Steps.Dependents.{IsMarked}
+use Rattle.iloc_sched.specs.Steps.Ranking.Dependents.{IsMarked}
 use Rattle.iloc_sched.specs.Steps.Views.{graph_of}
 use Rattle.iloc_sched.proofs.ranking.descendants.mark.Given as goal
 

@@ -3,7 +3,7 @@ use Rattle.std.specs.List.{range_with_len}
 use Rattle.std.proofs.lemmas.List.{ext_get_or}
 use Rattle.std.proofs.lemmas.List.FromFn.{length-map-range_with_len, get_or-map-range_with_len}
 use Rattle.iloc_sched.specs.Priority.{priority}
-use Rattle.iloc_sched.specs.Starts.{starts, start}
+use Rattle.iloc_sched.specs.LowerBound.Starts.{starts, start}
 use Rattle.iloc_sched.specs.Heuristics.{through}
 use Rattle.iloc_sched.proofs.PriorityValues.Longest.{length-priorities, priority_most}
 use Rattle.iloc_sched.proofs.PriorityValues.Starts.{length-starts, start_most}

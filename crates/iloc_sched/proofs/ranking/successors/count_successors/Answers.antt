@@ -3,7 +3,7 @@ use Rattle.std.proofs.lemmas.List.{get_or_read, get_or-set_same, get_or-set_othe
 use Rattle.iloc_ops.specs.declared.op.Op.{Op}
 use Rattle.iloc_timed.specs.declared.kind.Kind.TheVariants.{Store}
 use Rattle.iloc_timed.specs.declared.latencies.Latencies.{Latencies}
-use Rattle.iloc_sched.specs.Steps.Successors.{waiting_for, AreCounted, AreNoted}
+use Rattle.iloc_sched.specs.Steps.Ranking.Successors.{waiting_for, AreCounted, AreNoted}
 use Rattle.iloc_sched.proofs.Basics.Cases.{by_eq}
 use Rattle.iloc_sched.proofs.KeptEdges.ListedKinds.{kind_listed}
 use Rattle.iloc_sched.proofs.PriorityValues.Successors.{none_counted, one_counted, all_counted, none_noted, one_noted, noted_few, waiting_few, counted_few}

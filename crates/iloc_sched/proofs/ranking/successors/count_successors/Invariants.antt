@@ -1,4 +1,4 @@
-use Rattle.iloc_sched.specs.Steps.Successors.{AreCounted, AreNoted}
+use Rattle.iloc_sched.specs.Steps.Ranking.Successors.{AreCounted, AreNoted}
 use Rattle.iloc_sched.proofs.ranking.successors.count_successors.Given as goal
 
 abbrev pub invariant-loop-j : goal.invariant-loop-j

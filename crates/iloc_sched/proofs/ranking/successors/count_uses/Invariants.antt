@@ -1,5 +1,5 @@
 use Rattle.std.proofs.Common.{◌+◌, ◌≤◌}
-use Rattle.iloc_sched.specs.Steps.Successors.{IsCounting}
+use Rattle.iloc_sched.specs.Steps.Ranking.Successors.{IsCounting}
 use Rattle.iloc_sched.specs.Steps.Views.{graph_of}
 use Rattle.iloc_sched.proofs.ranking.successors.count_uses.Given as goal
 

@@ -1,7 +1,7 @@
 use Rattle.std.proofs.Common.{◌≡◌, ◌*◌, ◌≤◌, take}
 use Rattle.iloc_sched.specs.Renaming.{without_nops, numbering, renamed_by}
-use Rattle.iloc_sched.specs.Steps.NamingWalk.{Named}
-use Rattle.iloc_sched.specs.Steps.CurrentNames.{current_of}
+use Rattle.iloc_sched.specs.Steps.Renaming.NamingWalk.{Named}
+use Rattle.iloc_sched.specs.Steps.Renaming.CurrentNames.{current_of}
 use Rattle.iloc_sched.proofs.renaming.Names.rename_block.Given as goal
 
 abbrev pub invariant-loop-op : goal.invariant-loop-op

@@ -1,8 +1,8 @@
 use Rattle.std.proofs.Common.{◌≡◌, [], length, map, sym, ◌∙◌, ap, subst, arith}
 use Rattle.iloc_timed.specs.Kinds.{kind}
 use Rattle.iloc_timed.specs.Latency.{latency}
-use Rattle.iloc_sched.specs.Steps.Lasts.{IsLasts}
-use Rattle.iloc_sched.specs.Steps.PartialGraph.{IsPartialGraph}
+use Rattle.iloc_sched.specs.Steps.Edges.Lasts.{IsLasts}
+use Rattle.iloc_sched.specs.Steps.Edges.PartialGraph.{IsPartialGraph}
 use Rattle.iloc_sched.specs.Steps.Views.{graph_of}
 use Rattle.iloc_sched.proofs.tables.Tables.clear.Goals as goal
 

@@ -3,8 +3,8 @@ use Rattle.std.specs.Global.{Vec}
 use Rattle.iloc_sched.specs.declared.edges.Edge.{Edge}
 use Rattle.iloc_ops.specs.declared.op.Op.{Op}
 use Rattle.iloc_timed.specs.Latency.{latency_of}
-use Rattle.iloc_sched.specs.Steps.Lasts.{IsLasts}
-use Rattle.iloc_sched.specs.Steps.PartialGraph.{IsPartialGraph}
+use Rattle.iloc_sched.specs.Steps.Edges.Lasts.{IsLasts}
+use Rattle.iloc_sched.specs.Steps.Edges.PartialGraph.{IsPartialGraph}
 use Rattle.iloc_sched.specs.Steps.Views.{graph_of}
 use Rattle.iloc_sched.proofs.KeptEdges.OneMoreInTables.{is_next, partial_grown, kinds_more, latencies_more, size_more}
 use Rattle.iloc_sched.proofs.tables.Tables.push.Goals as goal

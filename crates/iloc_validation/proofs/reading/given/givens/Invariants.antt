@@ -3,7 +3,7 @@ use Rattle.iloc_ops.specs.declared.op.Reg.{Reg}
 use Rattle.iloc_ops.specs.Registers.{used}
 use Rattle.iloc_meaning.specs.Trace.{op_at}
 use Rattle.iloc_validation.specs.ByTheBook.{given}
-use Rattle.iloc_validation.specs.Steps.Holders.{holder}
+use Rattle.iloc_validation.specs.Steps.Tracks.Holders.{holder}
 use Rattle.iloc_validation.specs.Steps.Sources.{sources_of, sources_at}
 use Rattle.iloc_validation.proofs.reading.given.givens.Given as goal
 

@@ -1,5 +1,5 @@
 use Rattle.std.proofs.Common.{◌∙◌, ap, subst, sym}
-use Rattle.iloc_sched.specs.GraphOf.{GraphOf}
+use Rattle.iloc_sched.specs.Graph.GraphOf.{GraphOf}
 use Rattle.iloc_farm.specs.Commands.Check.{options_of}
 use Rattle.iloc_farm.specs.Commands.Optimize.{IsSoughtIf}
 use Rattle.iloc_farm.proofs.Checks.{check_listed, small_check}

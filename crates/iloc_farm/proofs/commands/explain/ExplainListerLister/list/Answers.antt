@@ -1,6 +1,6 @@
 use Rattle.std.proofs.Common.{◌++◌, ap, subst, ◌∙◌}
 use Rattle.std.specs.Prelude.{codes}
-use Rattle.iloc_sched.specs.GraphOf.{GraphOf}
+use Rattle.iloc_sched.specs.Graph.GraphOf.{GraphOf}
 use Rattle.iloc_explain.specs.Listing.{IsExplanation}
 use Rattle.iloc_farm.proofs.Listers.{explain_listed}
 use Rattle.iloc_farm.proofs.commands.explain.ExplainListerLister.list.Goals as goal

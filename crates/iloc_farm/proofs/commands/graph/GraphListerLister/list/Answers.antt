@@ -1,5 +1,5 @@
 use Rattle.std.proofs.Common.{◌++◌, ◌∙◌, ap, refl, subst}
-use Rattle.iloc_sched.specs.GraphOf.{GraphOf}
+use Rattle.iloc_sched.specs.Graph.GraphOf.{GraphOf}
 use Rattle.iloc_graph.specs.Listing.{IsCluster}
 use Rattle.iloc_farm.proofs.Listers.{graph_listed, if_ok}
 use Rattle.iloc_farm.proofs.commands.graph.GraphListerLister.list.Goals as goal

@@ -1,5 +1,5 @@
 use Rattle.std.proofs.Common.{ap, subst}
-use Rattle.iloc_sched.specs.GraphOf.{GraphOf}
+use Rattle.iloc_sched.specs.Graph.GraphOf.{GraphOf}
 use Rattle.iloc_optimum.specs.Optimum.{IsOptimumOf}
 use Rattle.iloc_farm.proofs.Listers.{optimum_is}
 use Rattle.iloc_farm.proofs.commands.optimize.OptimizeListerFarmedLister.answer.Goals as goal

@@ -3,7 +3,7 @@ use Rattle.std.proofs.lemmas.List.{drop_all}
 use Rattle.std.proofs.lemmas.Result.{on_err_weaker, on_ok_weaker}
 use Rattle.std.specs.Io.KnownBytes.{Appends}
 use Rattle.std.specs.List.{flat_map}
-use Rattle.iloc_farm.specs.Device.{WritesFront}
+use Rattle.iloc_farm.specs.Run.Device.{WritesFront}
 use Rattle.iloc_farm.proofs.Joining.{buffer_failed, buffer_written, none_joined, part_failed, part_joined}
 use Rattle.iloc_farm.proofs.Written.{next_entry, on_err}
 use Rattle.iloc_farm.proofs.listing.text.Listing.write_to.Goals as goal

@@ -1,7 +1,7 @@
 use Rattle.std.proofs.Common.{◌≡◌, ◌≢◌, ◌*◌, ◌/◌, ◌+◌, ◌<◌, ◌≤◌, length, sym, subst, ◌∙◌, arith, length-set}
 use Rattle.std.proofs.lemmas.List.{get_or_read}
-use Rattle.iloc_sched.specs.Steps.Classes.{place_of}
-use Rattle.iloc_sched.specs.Steps.RankSets.{word_at, HoldsBits, IsFirstWithin, IsSearched}
+use Rattle.iloc_sched.specs.Steps.Cycle.Classes.{place_of}
+use Rattle.iloc_sched.specs.Steps.Cycle.RankSets.{word_at, HoldsBits, IsFirstWithin, IsSearched}
 use Rattle.iloc_sched.proofs.Ranks.Sets.{open_there}
 use Rattle.iloc_sched.proofs.Ranks.Summaries.{IsSummary-searched}
 use Rattle.iloc_sched.proofs.cycle.calendar.Calendar.first_in_block.Goals as goal

@@ -1,7 +1,7 @@
 use Rattle.std.proofs.Common.{◌*◌, ◌+◌, ◌<◌, ◌≤◌, sym, subst}
 use Rattle.std.specs.Vec.{with_items}
-use Rattle.iloc_sched.specs.Steps.Classes.{place_of}
-use Rattle.iloc_sched.specs.Steps.RankSets.{AddsBit}
+use Rattle.iloc_sched.specs.Steps.Cycle.Classes.{place_of}
+use Rattle.iloc_sched.specs.Steps.Cycle.RankSets.{AddsBit}
 use Rattle.iloc_sched.proofs.Ranks.Sets.{puts_from, adds_back}
 use Rattle.iloc_sched.proofs.Ranks.Summaries.{IsSummary-kept_out}
 use Rattle.iloc_sched.proofs.cycle.calendar.Calendar.keep_out_if.Goals as goal

@@ -1,5 +1,5 @@
 use Rattle.std.proofs.Common.{◌∙◌, ap}
-use Rattle.iloc_sched.specs.Steps.Classes.{class_of}
+use Rattle.iloc_sched.specs.Steps.Cycle.Classes.{class_of}
 use Rattle.iloc_sched.proofs.KeptEdges.ListedKinds.{kind_listed}
 use Rattle.iloc_sched.proofs.cycle.plan.Plan.class_of.Goals as goal
 

@@ -1,8 +1,8 @@
 use Rattle.std.proofs.Common.{◌≡◌, ◌+◌, ◌<◌, ap, sym, subst, ◌∙◌}
 use Rattle.iloc_sched.specs.declared.cycle.calendar.Calendar.{Calendar}
-use Rattle.iloc_sched.specs.Steps.Calendar.{has}
-use Rattle.iloc_sched.specs.Steps.Progress.{Waits, IsFrom}
-use Rattle.iloc_sched.specs.Steps.SoFar.{IsCalendar}
+use Rattle.iloc_sched.specs.Steps.Cycle.Calendar.{has}
+use Rattle.iloc_sched.specs.Steps.Cycle.Progress.{Waits, IsFrom}
+use Rattle.iloc_sched.specs.Steps.Cycle.SoFar.{IsCalendar}
 use Rattle.iloc_sched.specs.Steps.Views.{graph_of, progress_of}
 use Rattle.iloc_sched.proofs.Walking.WalkInTables.{started, places_as_before, from_previous}
 use Rattle.iloc_sched.proofs.cycle.waiting.Waiting.issue.Goals as goal

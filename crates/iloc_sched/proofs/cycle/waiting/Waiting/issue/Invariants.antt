@@ -1,7 +1,7 @@
 use Rattle.std.proofs.Common.{ℕ, ◌≡◌, ◌+◌, slice_set, Some}
-use Rattle.iloc_sched.specs.Steps.Calendar.{has}
-use Rattle.iloc_sched.specs.Steps.Progress.{Waits, KeepsPlaces, IsFrom, edges_left}
-use Rattle.iloc_sched.specs.Steps.SoFar.{IsCalendar}
+use Rattle.iloc_sched.specs.Steps.Cycle.Calendar.{has}
+use Rattle.iloc_sched.specs.Steps.Cycle.Progress.{Waits, KeepsPlaces, IsFrom, edges_left}
+use Rattle.iloc_sched.specs.Steps.Cycle.SoFar.{IsCalendar}
 use Rattle.iloc_sched.specs.Steps.Views.{graph_of, issued_list, progress_of, IsSized}
 use Rattle.iloc_sched.proofs.cycle.waiting.Waiting.issue.Given as goal
 

@@ -1,10 +1,10 @@
 use Rattle.std.proofs.Common.{◌≡◌, ◌+◌, ◌-◌, ◌<◌, ◌≤◌, ◌||◌, length, ap, None, nat_eq, refl, ◌∙◌, subst, arith}
 use Rattle.iloc_sched.specs.declared.cycle.waiting.OperationState.{OperationState}
 use Rattle.iloc_sched.specs.declared.cycle.waiting.Waiting.{Waiting}
-use Rattle.iloc_sched.specs.Steps.Calendar.{has, HasRoom, Puts}
-use Rattle.iloc_sched.specs.Steps.Classes.{place_of}
-use Rattle.iloc_sched.specs.Steps.Opening.{IsOpening}
-use Rattle.iloc_sched.specs.Steps.SoFar.{rank_of}
+use Rattle.iloc_sched.specs.Steps.Cycle.Calendar.{has, HasRoom, Puts}
+use Rattle.iloc_sched.specs.Steps.Cycle.Classes.{place_of}
+use Rattle.iloc_sched.specs.Steps.Cycle.Opening.{IsOpening}
+use Rattle.iloc_sched.specs.Steps.Cycle.SoFar.{rank_of}
 use Rattle.iloc_sched.specs.Steps.Views.{graph_of}
 use Rattle.iloc_sched.proofs.Ranks.Calendars.{within_kept}
 use Rattle.iloc_sched.proofs.Walking.FirstStates.{opening_none, opening_more, none_issued, all_opened, all_sized, all_calendar, none_ready}

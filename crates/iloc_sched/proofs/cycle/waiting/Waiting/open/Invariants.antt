@@ -1,6 +1,6 @@
 use Rattle.std.proofs.Common.{◌≡◌, ◌≤◌}
 use Rattle.std.specs.Prelude.{vec_capacity, vec_len}
-use Rattle.iloc_sched.specs.Steps.Opening.{IsOpening}
+use Rattle.iloc_sched.specs.Steps.Cycle.Opening.{IsOpening}
 use Rattle.iloc_sched.specs.Steps.Views.{graph_of}
 use Rattle.iloc_sched.proofs.cycle.waiting.Waiting.open.Given as goal
 

@@ -3,9 +3,9 @@ use Rattle.std.proofs.lemmas.Bool.{eqb-true}
 use Rattle.iloc_sched.specs.declared.edges.Edge.{Edge}
 use Rattle.iloc_sched.specs.declared.cycle.waiting.Waiting.{Waiting}
 use Rattle.iloc_sched.specs.declared.cycle.calendar.Calendar.{Calendar}
-use Rattle.iloc_sched.specs.Steps.Calendar.{has, IsWithin, KeepsRoom, Puts}
-use Rattle.iloc_sched.specs.Steps.Progress.{Waits}
-use Rattle.iloc_sched.specs.Steps.SoFar.{rank_of}
+use Rattle.iloc_sched.specs.Steps.Cycle.Calendar.{has, IsWithin, KeepsRoom, Puts}
+use Rattle.iloc_sched.specs.Steps.Cycle.Progress.{Waits}
+use Rattle.iloc_sched.specs.Steps.Cycle.SoFar.{rank_of}
 use Rattle.iloc_sched.specs.Steps.Views.{graph_of, bucket_of, unmet_list, earliest_list, progress_of}
 use Rattle.iloc_sched.proofs.Ranks.Calendars.{calendar_put, puts_as, puts_enters}
 use Rattle.iloc_sched.proofs.Walking.EdgeWalk.{Enters}

@@ -1,5 +1,5 @@
 use Rattle.std.proofs.Common.{ℕ, ◌≡◌, ◌+◌, ◌∷◌, max, false, List, set, sym, ap, subst, ◌∙◌, arith}
-use Rattle.iloc_sched.specs.Steps.Packing.{is_taken, IsPacked}
+use Rattle.iloc_sched.specs.Steps.LowerBound.Packing.{is_taken, IsPacked}
 use Rattle.iloc_sched.proofs.Bounds.Packing.{packed_needed, packed_more, needed_more, needed_own, put_now, put_other, put_linked}
 use Rattle.iloc_sched.proofs.lower_bound.packing.Packing.add.Goals as goal
 

@@ -1,6 +1,6 @@
 use Rattle.std.proofs.Common.{ℕ, ◌≡◌, ◌≢◌, ◌<◌, ◌≤◌, true, List, length, set, sym, ◌∙◌, arith}
 use Rattle.std.proofs.lemmas.List.{get_or_read, length-set}
-use Rattle.iloc_sched.specs.Steps.Packing.{link, is_taken, IsLinked}
+use Rattle.iloc_sched.specs.Steps.LowerBound.Packing.{link, is_taken, IsLinked}
 use Rattle.iloc_sched.proofs.Basics.Cases.{by_lt}
 use Rattle.iloc_sched.proofs.Bounds.Packing.{link_near, ahead, further, shorter_alike, shorter_linked}
 use Rattle.iloc_sched.proofs.lower_bound.packing.Packing.first_free.Goals as goal

@@ -1,5 +1,5 @@
 use Rattle.std.proofs.Common.{◌≡◌, ◌-◌, ◌<◌, ◌≤◌, length}
-use Rattle.iloc_sched.specs.Steps.Packing.{IsLinked, AreTaken, AreTakenAlike}
+use Rattle.iloc_sched.specs.Steps.LowerBound.Packing.{IsLinked, AreTaken, AreTakenAlike}
 use Rattle.iloc_sched.proofs.lower_bound.packing.Packing.first_free.Given as goal
 
 abbrev pub invariant-loop-place : goal.invariant-loop-place

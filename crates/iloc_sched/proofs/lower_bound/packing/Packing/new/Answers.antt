@@ -1,5 +1,5 @@
 use Rattle.iloc_sched.proofs.Bounds.Packing.{free_linked, from_free, packed_none}
-use Rattle.iloc_sched.specs.Steps.Packing.{is_taken}
+use Rattle.iloc_sched.specs.Steps.LowerBound.Packing.{is_taken}
 use Rattle.iloc_sched.proofs.lower_bound.packing.Packing.new.Goals as goal
 
 pub returns-clause-empty : goal.returns-clause-empty

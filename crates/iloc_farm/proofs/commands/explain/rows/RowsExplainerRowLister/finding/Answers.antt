@@ -1,0 +1,12 @@
+use Rattle.std.proofs.Common.{◌∙◌, ap, rules, tests}
+use Rattle.std.proofs.lemmas.Iterator.{YieldsList-from_slice}
+use Rattle.std.proofs.lemmas.Iterator.Search.{all_from_yields_List}
+use Rattle.iloc_judge.specs.declared.explained.ExplainedRows.{ExplainedRows}
+use Rattle.iloc_farm.specs.Fault.{finding_of}
+use Rattle.iloc_farm.proofs.commands.explain.rows.RowsExplainerRowLister.finding.Goals as goal
+
+pub returns : goal.returns
+returns c =
+    let all = all_from_yields_List (λ (one : ExplainedRows). one.is_lawful) _ _ c.all.result c.all.ensures.ran (YieldsList-from_slice c.args.found.now cc)
+    (λ x b q k. search (rules, tests)) in
+    c.of.ensures ∙ ap finding_of all

@@ -1,6 +1,0 @@
-use Rattle.std.proofs.Common.{◌≡◌, map, take}
-use Rattle.iloc_timed.specs.Kinds.{kind}
-use Rattle.iloc_sched.proofs.kinds.fill_kinds.Given as goal
-
-abbrev pub invariant-loop-op : goal.invariant-loop-op
-invariant-loop-op l = l.kinds.items ≡ map kind (take l.op-index l.ops)

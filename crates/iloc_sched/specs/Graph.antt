@@ -1,0 +1,4 @@
+-- The dependence graph of a block.
+pub mod GraphOf
+pub mod Near
+pub mod Pairs

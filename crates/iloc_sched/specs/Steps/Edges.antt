@@ -1,0 +1,5 @@
+-- How the kept edges are made.
+pub mod Filling
+pub mod Lasts
+pub mod PartialGraph
+pub mod SoundGraph

@@ -1,0 +1,32 @@
+-- The parts of a tail, and what holds while tails are found.
+use Rattle.std.specs.Prelude.{ℕ, suc, ◌+◌, max, if◌then◌else◌, List, fold, drop}
+use Rattle.iloc_ops.specs.declared.op.Op.{Op}
+use Rattle.iloc_meaning.specs.Trace.{op_at}
+use Rattle.iloc_timed.specs.declared.kind.Kind.{Kind}
+use Rattle.iloc_timed.specs.declared.latencies.Latencies.{Latencies}
+use Rattle.iloc_timed.specs.Kinds.{is_store}
+use Rattle.iloc_timed.specs.Latency.{latency}
+use Rattle.iloc_sched.specs.Priority.{reaches}
+use Rattle.iloc_sched.specs.LowerBound.Least.{needed, load_tails, behind, tails, tail}
+use Rattle.iloc_sched.specs.Steps.Chains.{AreRaised}
+use Rattle.iloc_sched.specs.Steps.Graph.{Graph}
+
+-- the tails of the loads from operation i on
+abbrev pub loads_from : Latencies → List Op → ℕ → List ℕ
+loads_from lat ops i = load_tails (drop i ops) (drop i (tails lat ops))
+
+-- the part of a tail that latency and delays leave, and that of the rule of stores
+abbrev pub chain_tail : Latencies → List Op → ℕ → ℕ
+chain_tail lat ops i = fold max (latency lat (op_at ops i))
+    (reaches lat (op_at ops i) (drop (suc i) ops) (drop (suc i) (tails lat ops)))
+
+abbrev pub store_tail : Latencies → List Op → ℕ → ℕ
+store_tail lat ops i = behind lat (op_at ops i) (drop (suc i) ops) (drop (suc i) (tails lat ops))
+
+-- a tail by these parts
+abbrev pub tail_by : Kind → ℕ → ℕ → List ℕ → ℕ
+tail_by k chain latency loads = if is_store k then max chain (latency + needed 1 loads) else chain
+
+-- the tails while they are found from the last: those from operation j on are there, and the edges from x on are done
+abbrev pub IsTailed : Latencies → List Op → Graph → List ℕ → ℕ → ℕ → Type 0
+IsTailed lat ops graph = AreRaised lat ops graph (chain_tail lat ops) (tail lat ops)

@@ -1,0 +1,3 @@
+-- How priorities are found.
+pub mod Dependents
+pub mod Successors
