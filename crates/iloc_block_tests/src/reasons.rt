@@ -1,5 +1,4 @@
 //! Why rows aren't issued as their block asks for: each form on a few rows.
-ghost use Rattle.std.specs.Prelude.{◌≤◌, length, IfOk};
 
 use crate::asserted::assert_list;
 use crate::written::{Issue as Slots, USUAL, block_of, build, latencies};

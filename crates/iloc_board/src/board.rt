@@ -1,5 +1,5 @@
 //! The board: a row of words that threads share.
-ghost use Rattle.std.specs.Prelude.{◌≡◌, ℕ, ◌+◌, ◌<◌, true, false, [], IfOk, IfErr, OnOk};
+ghost use Rattle.std.specs.Prelude.{◌≡◌, ◌+◌, ◌<◌, true, false, [], IfOk, IfErr, OnOk};
 ghost use Rattle.iloc_board.specs.declared.step.Step.TheVariants as step;
 ghost use Rattle.iloc_board.specs.declared.board.state.State.TheVariants as about;
 ghost use Rattle.iloc_board.specs.Core.{is_holding, state_after};

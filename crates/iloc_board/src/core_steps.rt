@@ -1,8 +1,6 @@
 //! The core of the board as a function: what any list of steps leads to.
-ghost use Rattle.std.specs.Prelude.{◌≡◌, ℕ, ◌<◌, ◌≤◌, IfOk, length, List};
-ghost use Rattle.std.specs.Option.{unwrap_or};
+ghost use Rattle.std.specs.Prelude.{◌≡◌, ℕ, ◌<◌, ◌≤◌, IfOk, length};
 ghost use Rattle.std.specs.BTreeMap.{get};
-ghost use Rattle.std.specs.Ordering.{nat_cmp};
 ghost use Rattle.iloc_board.specs.Limits.{MOST_JOBS};
 ghost use Rattle.iloc_board.specs.Core.{Core, IsWithin, worker_of, look_reply, try_reply, hand_reply, reply_at, reply_to, state_after, after, opening};
 ghost use Rattle.iloc_board.specs.History.{IsExact};

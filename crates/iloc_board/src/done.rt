@@ -1,5 +1,5 @@
 //! A board that was closed when all its jobs were done.
-ghost use Rattle.std.specs.Prelude.{◌≡◌, ℕ, IfOk, List};
+ghost use Rattle.std.specs.Prelude.{◌≡◌, IfOk, List};
 ghost use Rattle.iloc_board.specs.declared.step.Step.{Step};
 ghost use Rattle.iloc_board.specs.Collecting.{IsWhole};
 ghost use Rattle.iloc_board.specs.Finished.{IsDoneBy, IsFinished};

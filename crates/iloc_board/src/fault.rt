@@ -1,5 +1,4 @@
 //! Why a call gives up.
-ghost use Rattle.std.specs.Prelude.{◌≡◌};
 
 use std::alloc::{AllocError, AllocFailed};
 use thiserror::Error;

@@ -1,5 +1,3 @@
-ghost use Rattle.std.specs.Prelude.{◌≡◌};
-
 use crate::asserted::assert_list;
 use iloc_board::{AtDesk, Board, FreeGate, Jobs, NoMemory, NoMemoryWith, work, work_at};
 use std::alloc::Global;

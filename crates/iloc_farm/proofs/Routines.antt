@@ -1,5 +1,5 @@
 -- Lists of routines, of what they gave, and of journals.
-use Rattle.std.proofs.Common.{◌≡◌, ℕ, zero, suc, ◌+◌, ◌<◌, List, [], ◌∷◌, ◌++◌, map, length, refl, ap, sym, ◌∙◌, subst, arith}
+use Rattle.std.proofs.Common.{◌≡◌, ℕ, suc, ◌+◌, ◌<◌, List, [], ◌∷◌, ◌++◌, map, length, refl, ap, sym, ◌∙◌, subst, arith}
 use Rattle.std.specs.Prelude.{get_or, replicate, slice_index_or}
 use Rattle.std.proofs.lemmas.List.{append_assoc, get_or-replicate, map-append}
 use Rattle.std.specs.List.{All, AllZip, range_with_len}

@@ -1,5 +1,5 @@
 -- Where a block faults: at which operation, and the address that it reaches.
-use Rattle.std.specs.Prelude.{◌≡◌, ℕ, ◌<◌, Bool, false, Option, Some, None, List, length, ℤ, ◌+ℤ◌}
+use Rattle.std.specs.Prelude.{◌≡◌, ◌<◌, false, Option, Some, None, List, length, ℤ, ◌+ℤ◌}
 use Rattle.iloc_ops.specs.declared.op.Reg.{Reg}
 use Rattle.iloc_ops.specs.declared.op.Op.{Op}
 use Rattle.iloc_ops.specs.declared.op.Op.TheVariants.{Load, Store, Output, LoadAI, StoreAI}

@@ -1,5 +1,5 @@
 //! How far a line reads: along the parts of each operation, to the first byte that belongs to none.
-ghost use Rattle.std.specs.Prelude.{◌≡◌, ◌≤◌, nat_lt, not, true, ◌&&◌, drop, length};
+ghost use Rattle.std.specs.Prelude.{◌≡◌, ◌≤◌, true, ◌&&◌, length};
 ghost use Rattle.std.specs.Char.{is_ascii_digit};
 ghost use Rattle.iloc_lint.specs.Place.{IsPlace};
 ghost use Rattle.iloc_lint.specs.Steps.Longest.{Called, Longest, NumberAt, PartAt, RegisterAt, Rest, SignAt, alternate, blanks_in, comment_in, common_in, digits_in, label_in, parts, word_in};

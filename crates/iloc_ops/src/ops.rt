@@ -5,7 +5,6 @@ ghost use Rattle.std.specs.List.{slice_range};
 
 use crate::no_memory::NoMemory;
 use crate::op::Op;
-use std::alloc::Global;
 use std::fmt;
 use std::marker::Model;
 use std::sync::Arc;

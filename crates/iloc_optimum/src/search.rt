@@ -1,5 +1,5 @@
 //! The search for cycles of issue within windows.
-ghost use Rattle.std.specs.Prelude.{◌≡◌, length, IfOk};
+ghost use Rattle.std.specs.Prelude.{IfOk};
 ghost use Rattle.iloc_optimum.specs.Timing.{IsSized, AreSized};
 ghost use Rattle.iloc_optimum.specs.Found.{IsFound};
 

@@ -1,5 +1,5 @@
 //! What may be a fact of rows, by the numbers of operations, and whether it is one.
-ghost use Rattle.std.specs.Prelude.{◌≡◌, ◌≢◌, ◌<◌, ◌≤◌, ◌⊎◌, true, Some, IfSome, slice_get};
+ghost use Rattle.std.specs.Prelude.{◌≡◌, ◌<◌, ◌⊎◌, true, Some, IfSome, slice_get};
 ghost use Rattle.iloc_ops.specs.Registers.{used};
 ghost use Rattle.iloc_timed.specs.declared.kind.Kind.TheVariants as kinds;
 ghost use Rattle.iloc_sched.specs.Delays.{keeps_order};

@@ -1,5 +1,5 @@
 //! Of which operations of rows the results are read.
-ghost use Rattle.std.specs.Prelude.{IfOk, OnOk, IfSome, ◌≢◌, None, ℕ};
+ghost use Rattle.std.specs.Prelude.{IfOk, OnOk, ◌≢◌, None, ℕ};
 ghost use Rattle.std.specs.BTreeMap.{get};
 ghost use Rattle.std.specs.Ordering.{nat_cmp};
 ghost use Rattle.iloc_reasons.specs.Steps.Sides.{AreNoted, IsNoted};

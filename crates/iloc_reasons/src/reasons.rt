@@ -1,5 +1,5 @@
 //! Why rows aren't issued as their block asks for.
-ghost use Rattle.std.specs.Prelude.{◌≡◌, ◌≤◌, length, IfOk, All};
+ghost use Rattle.std.specs.Prelude.{◌≤◌, length, IfOk, All};
 ghost use Rattle.iloc_sched.specs.Renaming.{without_nops as ops_of};
 ghost use Rattle.iloc_validation.specs.Lawfulness.{AreLeftOut, AreAdded};
 ghost use Rattle.iloc_reasons.specs.Facts.{IsFact};
@@ -14,7 +14,7 @@ use crate::fact::Fact;
 use crate::likeness::{Terms, sources_of, terms_of};
 use crate::read::read_by_some;
 use crate::sides::Sides;
-use iloc_ops::{Block, NoMemory, Op};
+use iloc_ops::{Block, NoMemory};
 use iloc_timed::{Latencies, Schedule};
 use iloc_validation::{Added, LeftOut, givens, readings, without_counterpart, without_nops};
 use std::alloc::Global;

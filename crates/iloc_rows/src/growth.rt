@@ -1,5 +1,5 @@
 //! How what is proposed grows, line by line.
-ghost use Rattle.std.specs.Prelude.{◌≡◌, ◌≤◌, ◌<◌, ◌+◌, ℕ, [], ◌++◌, List, length, vec_len, slice_set, option_map, IfOk, IfSome, OnOk};
+ghost use Rattle.std.specs.Prelude.{◌≡◌, ◌<◌, ◌+◌, ℕ, [], ◌++◌, List, length, vec_len, slice_set, option_map, IfOk, IfSome, OnOk};
 ghost use Rattle.std.specs.Option.{option_copied};
 ghost use Rattle.iloc_text.specs.ScheduleLines.{said_of};
 ghost use Rattle.iloc_rows.specs.Told.{Told, told_of};

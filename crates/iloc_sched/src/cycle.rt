@@ -1,5 +1,5 @@
 //! One cycle of a schedule after another.
-ghost use Rattle.std.specs.Prelude.{ℕ, ◌≡◌, ◌+◌, ◌^◌, ◌<◌, [], length, IfOk, OnOk};
+ghost use Rattle.std.specs.Prelude.{◌≡◌, ◌+◌, ◌^◌, ◌<◌, [], length, IfOk, OnOk};
 ghost use Rattle.iloc_timed.specs.Rows.{row_at, slots};
 ghost use Rattle.iloc_sched.specs.Steps.Cycle.SoFar.{IsPlan, IsUnderWay, IsSoFar, IsBest, IssuesAny, row_with, slot_count, waiting_count};
 ghost use Rattle.iloc_sched.specs.Steps.Views.{issued_list};

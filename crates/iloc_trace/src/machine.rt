@@ -1,11 +1,10 @@
 //! A schedule that is listed in mid-run.
-ghost use Rattle.std.specs.Prelude.{ℕ, ◌≡◌, ◌+◌, ◌++◌, ◌<◌, ◌≤◌, pos, [], List, ℤ, length, fold, option_map, option_to_list, All, IfOk, OnOk, IfSome, IsTrue, not};
+ghost use Rattle.std.specs.Prelude.{ℕ, ◌≡◌, ◌+◌, ◌++◌, ◌<◌, ◌≤◌, pos, [], List, ℤ, length, fold, option_to_list, All, IfOk, OnOk, IfSome, IsTrue, not};
 ghost use Rattle.iloc_ops.specs.declared.op.Reg.{Reg as register};
 ghost use Rattle.iloc_ops.specs.Registers.{defined};
 ghost use Rattle.iloc_meaning.specs.Address.{is_good};
 ghost use Rattle.iloc_meaning.specs.Memory.{word_at};
 ghost use Rattle.iloc_meaning.specs.Registers.{value_of};
-ghost use Rattle.iloc_meaning.specs.Trace.{op_at};
 ghost use Rattle.iloc_timed.specs.declared.latencies.Latencies.{Latencies as latencies};
 ghost use Rattle.iloc_trace.specs.declared.event.Place.TheVariants.{Register as in_register, Word as in_word};
 ghost use Rattle.iloc_trace.specs.Places.{address_read as word_read, sent, target_of, value_at};

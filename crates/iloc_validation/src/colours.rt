@@ -1,6 +1,6 @@
 //! Colours of operations that every pairing keeps. Where the colours of both sides add up to different sums, no pairing
 //! makes the rows a schedule of the block.
-ghost use Rattle.std.specs.Prelude.{◌≡◌, ◌<◌, ◌↔◌, ◌%◌, ◌^◌, ℕ, length, slice_index, sum_by, IsTrue, IfOk, IfNone, IfSome};
+ghost use Rattle.std.specs.Prelude.{◌≡◌, ◌<◌, ◌↔◌, ◌%◌, ◌^◌, ℕ, length, slice_index, sum_by, IsTrue, IfOk};
 ghost use Rattle.iloc_validation.specs.Steps.Colours.{mixed, ArePassed, AreColoured};
 
 mod issue_order;

@@ -9,7 +9,7 @@ ghost use Rattle.iloc_validation.specs.OwnRows.{renumber, AreOwnRows};
 use crate::pairing::Pairing;
 use crate::reading::sources::at;
 use iloc_ops::{Block, NoMemory, Op};
-use iloc_timed::{Latencies, Row, Schedule};
+use iloc_timed::{Row, Schedule};
 use std::alloc::Global;
 
 /// Rows by the book in a block's own numbers.

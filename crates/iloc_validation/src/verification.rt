@@ -1,7 +1,6 @@
 //! Whether rows are a schedule of a block under a pairing of their operations.
 ghost use Rattle.std.specs.Prelude.{◌≡◌, ◌<◌, ◌↔◌, length, slice_index, IsTrue, IfOk};
 ghost use Rattle.iloc_validation.specs.ByTheBook.{IsScheduleUnder};
-ghost use Rattle.iloc_validation.specs.Steps.Pairing.{LeadsBack};
 ghost use Rattle.iloc_validation.specs.Steps.Sides.{AreSides, IsKept};
 
 mod waits;

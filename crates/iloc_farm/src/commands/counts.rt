@@ -1,5 +1,5 @@
 //! `counts`: how many cycles blocks' schedules take.
-ghost use Rattle.std.specs.Prelude.{◌≡◌, ◌≤◌, ◌<◌, ◌^◌, ◌++◌, length, IfOk, OnOk};
+ghost use Rattle.std.specs.Prelude.{◌≡◌, ◌≤◌, ◌<◌, ◌++◌, length, IfOk, OnOk};
 ghost use Rattle.iloc_ops.specs.Limits.{MAX_BLOCKS};
 ghost use Rattle.iloc_farm.specs.Commands.Counts.{count_ending};
 

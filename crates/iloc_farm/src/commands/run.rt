@@ -1,6 +1,6 @@
 //! `run`: what comes of blocks, one operation after another.
 ghost use Rattle.std.specs.Option.{option_copied};
-ghost use Rattle.std.specs.Prelude.{◌&&◌, is_none, ◌≡◌, ◌≤◌, ◌<◌, ◌+◌, ◌^◌, ◌++◌, List, ℕ, length, IfOk, OnOk, codes};
+ghost use Rattle.std.specs.Prelude.{◌&&◌, is_none, ◌≡◌, ◌≤◌, ◌<◌, ◌+◌, ◌^◌, ◌++◌, length, IfOk, OnOk, codes};
 ghost use Rattle.iloc_fault.specs.Place.{IsFaultPlace};
 ghost use Rattle.iloc_fault.specs.declared.place.FaultPlace.{FaultPlace as place_value};
 ghost use Rattle.iloc_meaning.specs.Outcome.{outcome};

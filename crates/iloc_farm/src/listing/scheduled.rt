@@ -1,7 +1,6 @@
 //! Entries of schedules, and the listing of them.
 ghost use Rattle.std.specs.Prelude.{◌≡◌, ◌≤◌, ◌<◌, ◌^◌, ◌++◌, length, map, sum_by, IfOk, OnOk};
 ghost use Rattle.std.specs.List.{flat_map};
-ghost use Rattle.std.specs.Option.{option_copied};
 ghost use Rattle.iloc_ops.specs.Limits.{MAX_BLOCKS};
 ghost use Rattle.iloc_farm.specs.Listing as listed;
 

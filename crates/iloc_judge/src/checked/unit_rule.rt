@@ -1,7 +1,7 @@
 //! Which rule of the units a row breaks.
 ghost use Rattle.std.specs.Prelude.{◌≡◌, ◌++◌, OnOk, find};
 ghost use Rattle.iloc_timed.specs.Rows.{kind_in};
-ghost use Rattle.iloc_judge.specs.UnitRule.{breaks, broken_rule, rule_told, rule_words, unit_rules};
+ghost use Rattle.iloc_judge.specs.UnitRule.{breaks, broken_rule, rule_told, rule_words};
 
 use iloc_ops::{NoMemory, Op};
 use iloc_timed::{Kind, Row};

@@ -15,7 +15,7 @@ pub(crate) struct TermRegisters {
 }
 
 impl TermRegisters {
-    ghost use Rattle.std.specs.Prelude.{◌≢◌, pos};
+    ghost use Rattle.std.specs.Prelude.{pos};
     ghost use Rattle.iloc_ops.specs.declared.op.Reg.{Reg as Register};
     ghost use Rattle.iloc_judge.specs.Steps.Terms.{Adds};
     ghost use Rattle.iloc_judge.specs.Steps.Symbols.{number_in, ChangesOnly};

@@ -1,5 +1,5 @@
 //! The tries of a table: words at keys of 32 bits, the lowest bit first.
-ghost use Rattle.std.specs.Prelude.{◌≡◌, true, List, ℤ, IfOk, IfSome};
+ghost use Rattle.std.specs.Prelude.{◌≡◌, true, List, ℤ, IfOk};
 ghost use Rattle.iloc_judge.specs.Steps.Terms.{Adds, PutsAt, AreHalves, HasNoOther, Meaning, IsMeaning, IsFound};
 
 use crate::table::Table;

@@ -1,5 +1,5 @@
 //! Where two outcomes differ.
-ghost use Rattle.std.specs.Prelude.{ℕ, ◌≡◌, MatchOption};
+ghost use Rattle.std.specs.Prelude.{◌≡◌, MatchOption};
 ghost use Rattle.iloc_judge.specs.Verdict.Difference.{AreAlike, IsDifference};
 ghost use Rattle.iloc_judge.specs.Steps.Difference.{IsOutput, IsWord};
 

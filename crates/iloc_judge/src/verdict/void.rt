@@ -1,6 +1,6 @@
 //! Blocks whose outcome says nothing of rows.
 ghost use Rattle.std.specs.Prelude.{◌≡◌, ◌≢◌, ◌≤◌, ◌↔◌, true, false, length, take, IfOk, IsTrue, MatchOption};
-ghost use Rattle.iloc_meaning.specs.Outcome.{outcome, Runs};
+ghost use Rattle.iloc_meaning.specs.Outcome.{outcome};
 ghost use Rattle.iloc_meaning.specs.declared.outcome.Outcome.TheVariants.{Fault};
 ghost use Rattle.iloc_judge.specs.Verdict.Void.{CanBeJudged, FaultsAt, IsVoid, shows_something};
 

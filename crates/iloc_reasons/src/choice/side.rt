@@ -1,7 +1,7 @@
 //! Which operations of a block have no counterpart in rows, by what they compute.
 
 use super::counts::Counts;
-use super::graph::{Graph, put};
+use super::graph::Graph;
 use crate::terms::{Values, at, mix};
 use iloc_ops::NoMemory;
 use iloc_timed::Kind;

@@ -1,5 +1,5 @@
 //! Operations by their ranks: their places in the order of choice.
-ghost use Rattle.std.specs.Prelude.{ℕ, ◌≡◌, ◌<◌, ◌≤◌, length, slice_index, OnOk};
+ghost use Rattle.std.specs.Prelude.{ℕ, ◌<◌, ◌≤◌, length, slice_index, OnOk};
 
 use crate::cycle::counting::place_by_counting;
 use crate::cycle::keys::{place_by_keys, sort_keys};

@@ -3,7 +3,7 @@
 //! Each operation counts the edges into it whose sources aren't issued. When an operation is issued, the edges out of it
 //! are gone through. Whose last edge was one of them goes into the bucket of the cycle at which the last of its sources'
 //! results has arrived.
-ghost use Rattle.std.specs.Prelude.{ℕ, false, ◌≡◌, ◌+◌, ◌^◌, ◌<◌, ◌≤◌, length, slice_set, OnOk};
+ghost use Rattle.std.specs.Prelude.{ℕ, false, ◌≡◌, ◌+◌, ◌^◌, ◌<◌, length, slice_set, OnOk};
 ghost use Rattle.iloc_sched.specs.Steps.Cycle.Calendar.{has};
 ghost use Rattle.iloc_sched.specs.Steps.Cycle.SoFar.{IsPlan};
 

@@ -1,5 +1,5 @@
 //! The operations after another that may have to wait for it by their kinds.
-ghost use Rattle.std.specs.Prelude.{ℕ, ◌≡◌, ◌+◌, ◌<◌, ◌^◌, if◌then◌else◌};
+ghost use Rattle.std.specs.Prelude.{◌≡◌, ◌+◌, ◌<◌, ◌^◌, if◌then◌else◌};
 ghost use Rattle.iloc_timed.specs.declared.kind.Kind.{Kind};
 ghost use Rattle.iloc_timed.specs.declared.kind.Kind.TheVariants.{Store as StoreKind};
 

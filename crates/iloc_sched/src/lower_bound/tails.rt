@@ -1,5 +1,5 @@
 //! How many cycles are left at least from the issue of each operation.
-ghost use Rattle.std.specs.Prelude.{ℕ, ◌≡◌, ◌+◌, ◌*◌, ◌<◌, ◌≤◌, ◌^◌, ◌∷◌, ◌++◌, List, length, OnOk};
+ghost use Rattle.std.specs.Prelude.{ℕ, ◌≡◌, ◌+◌, ◌*◌, ◌<◌, ◌^◌, ◌∷◌, ◌++◌, List, length, OnOk};
 ghost use Rattle.iloc_timed.specs.Kinds.{is_load};
 ghost use Rattle.iloc_sched.specs.Delays.{when};
 ghost use Rattle.iloc_sched.specs.LowerBound.Least.{needed, tails};

@@ -1,5 +1,5 @@
 //! A reader of a text that comes piece by piece.
-ghost use Rattle.std.specs.Prelude.{◌≡◌, ◌≢◌, ◌+◌, ◌≤◌, ◌++◌, ◌∷◌, [], List, ℕ, length, vec_len, IfOk, IfErr, IsTrue, OnOk, OnErr};
+ghost use Rattle.std.specs.Prelude.{◌≡◌, ◌≢◌, ◌+◌, ◌≤◌, ◌++◌, ◌∷◌, [], List, ℕ, length, vec_len, IfOk, IfErr, IsTrue, OnOk};
 ghost use Rattle.iloc_ops.specs.Limits.{MAX_INPUT};
 ghost use Rattle.iloc_ops.specs.declared.file.Block.{Block as block_value};
 ghost use Rattle.iloc_text.specs.declared.fault.ReadFault.TheVariants.{NoMemory as no_memory};

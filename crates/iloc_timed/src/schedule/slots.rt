@@ -1,5 +1,5 @@
 //! The slots that operations are in.
-ghost use Rattle.std.specs.Prelude.{ℕ, ◌≡◌, ◌≢◌, ◌+◌, ◌<◌, min, length, slice_index, count_by, option_to_list, ◌==◌, MatchOption, IfOk, IfSome};
+ghost use Rattle.std.specs.Prelude.{ℕ, ◌≡◌, ◌+◌, ◌<◌, min, length, slice_index, count_by, option_to_list, ◌==◌, MatchOption, IfOk, IfSome};
 ghost use Rattle.iloc_timed.specs.Rows.{times_issued};
 ghost use Rattle.iloc_timed.specs.Schedule.{AreSound, AreInRange, AreOnce, IsFirstBadRow, IsFirstNotOnce};
 

@@ -1,7 +1,6 @@
 //! The first colours of operations: label, and place among stores and outputs. Every pairing keeps them.
-ghost use Rattle.std.specs.Prelude.{◌≡◌, ◌<◌, ℕ, length, slice_index, IfNone, IfOk, IfSome, OnOk};
+ghost use Rattle.std.specs.Prelude.{◌≡◌, ◌<◌, ℕ, length, slice_index, IfNone, IfOk, IfSome};
 ghost use Rattle.iloc_timed.specs.declared.latencies.Latencies.{Latencies};
-ghost use Rattle.iloc_timed.specs.Rows.{IsTable};
 ghost use Rattle.iloc_validation.specs.Steps.Decisions.{IsExcluded};
 ghost use Rattle.iloc_validation.specs.Steps.FirstColours.{label_colour, opcode_colour, first_here, first_there};
 ghost use Rattle.iloc_validation.specs.Steps.Sides.{AreSides};
@@ -40,8 +39,8 @@ pub(crate) struct Places {
 }
 
 impl Places {
-    ghost use Rattle.std.specs.Prelude.{[], IfSome};
-    ghost use Rattle.iloc_validation.specs.Steps.FirstColours.{first_colour, colour_in, with_op, with_slot, ArePlaces};
+    ghost use Rattle.std.specs.Prelude.{IfSome};
+    ghost use Rattle.iloc_validation.specs.Steps.FirstColours.{first_colour, colour_in, with_op, with_slot};
     ghost use Rattle.iloc_validation.specs.Steps.Numbers.{with_number};
 
     /// Before the first operation.

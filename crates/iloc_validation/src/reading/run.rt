@@ -1,7 +1,6 @@
 //! Rows in mid-run: which results registers hold, and which are under way.
 ghost use Rattle.std.specs.Prelude.{◌≡◌, ◌+◌, ◌<◌, ◌≤◌, ◌∷◌, ℕ, List, [], fold, length, OnOk, IfOk, IfSome};
 ghost use Rattle.iloc_ops.specs.declared.op.Reg.{Reg as Register};
-ghost use Rattle.iloc_meaning.specs.Trace.{op_at};
 ghost use Rattle.iloc_timed.specs.Latency.{latency};
 ghost use Rattle.iloc_timed.specs.Timed.{Issued};
 ghost use Rattle.iloc_validation.specs.Steps.Tracks.Holders.{holder};

@@ -1,4 +1,4 @@
-use Rattle.std.proofs.Common.{◌≡◌, length, ap, ◌∙◌}
+use Rattle.std.proofs.Common.{◌∙◌}
 use Rattle.iloc_graph.proofs.Pairs.{one_more}
 use Rattle.iloc_graph.proofs.Sources.{source_earlier}
 use Rattle.iloc_graph.proofs.nearest.nearest_pairs.Goals as goal

@@ -1,8 +1,8 @@
-use Rattle.std.proofs.Common.{◌∙◌, ◌++◌, ap, map, sum_by, sym}
+use Rattle.std.proofs.Common.{◌∙◌, ◌++◌, ap, sum_by, sym}
 use Rattle.std.proofs.lemmas.List.Sums.{sum-map}
 use Rattle.std.proofs.lemmas.Result.{IfOk-weaker}
 use Rattle.std.specs.List.{flat_map}
-use Rattle.iloc_farm.specs.Listing.{total_of, total_of_all}
+use Rattle.iloc_farm.specs.Listing.{total_of}
 use Rattle.iloc_farm.proofs.listing.scheduled.with_total.Goals as goal
 
 pub returns : goal.returns

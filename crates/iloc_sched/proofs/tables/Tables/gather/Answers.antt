@@ -1,4 +1,4 @@
-use Rattle.std.proofs.Common.{sym, ◌∙◌, take, refl, arith}
+use Rattle.std.proofs.Common.{sym, ◌∙◌, take, arith}
 use Rattle.iloc_sched.proofs.Renamed.RenamingLoop.{nop_passed, op_taken, all_renamed}
 use Rattle.iloc_sched.proofs.KeptEdges.PartialGraphs.{kept_at_end}
 use Rattle.iloc_sched.specs.Steps.Views.{graph_of}

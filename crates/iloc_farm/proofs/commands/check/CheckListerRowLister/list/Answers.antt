@@ -1,4 +1,4 @@
-use Rattle.std.proofs.Common.{◌∙◌, ap, subst, sym}
+use Rattle.std.proofs.Common.{ap, subst, sym}
 use Rattle.iloc_sched.specs.Graph.GraphOf.{GraphOf}
 use Rattle.iloc_farm.specs.Commands.Check.{options_of}
 use Rattle.iloc_farm.specs.Commands.Optimize.{IsSoughtIf}
