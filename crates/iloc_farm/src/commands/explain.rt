@@ -1,5 +1,5 @@
 //! `explain`: why blocks' schedules take their cycles.
-mod rows;
+pub(crate) mod rows;
 
 use crate::lister::Lister;
 use crate::listing::{count_of, push_block_head, push_total_of};

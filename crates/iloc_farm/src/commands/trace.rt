@@ -1,5 +1,5 @@
 //! `trace`: what blocks' schedules do on the timed machine, cycle by cycle.
-mod rows;
+pub(crate) mod rows;
 
 use crate::lister::{Lister, initial_memory};
 use crate::listing::push_block_head;
