@@ -1,7 +1,7 @@
 -- The commands.
 use Rattle.iloc_args.specs.declared.request.Task.{Task}
 use Rattle.iloc_args.specs.declared.request.Task.TheVariants as task
-use Rattle.iloc_farm.specs.Commands.Command.{Command}
+use Rattle.iloc_farm.specs.Commands.Record.{Command}
 use Rattle.iloc_farm.specs.Commands.Check.{check_command}
 use Rattle.iloc_farm.specs.Commands.Compare.{compare_command}
 use Rattle.iloc_farm.specs.Commands.Counts.{counts_command}
@@ -24,7 +24,7 @@ pub mod Explain
 pub mod Graph
 pub mod Check
 pub mod Lint
-pub mod Command
+pub mod Record
 
 abbrev pub command_of : Task → Command
 command_of task.Run = run_command

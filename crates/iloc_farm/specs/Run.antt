@@ -16,7 +16,7 @@ use Rattle.iloc_farm.specs.declared.commands.Finding.{Finding}
 use Rattle.iloc_farm.specs.declared.commands.Finding.TheVariants.{Passed}
 use Rattle.iloc_farm.specs.Run.Apart.{Held, ReadsApart}
 use Rattle.iloc_farm.specs.Run.Causes.{IsCaused, causes_of}
-use Rattle.iloc_farm.specs.Commands.Command.{Command, Input, OfFile, OfRows, OfText, is_of_rows}
+use Rattle.iloc_farm.specs.Commands.Record.{Command, Input, OfFile, OfRows, OfText, is_of_rows}
 use Rattle.iloc_farm.specs.Commands.{command_of}
 use Rattle.iloc_farm.specs.Run.Device.{WritesFront}
 use Rattle.iloc_farm.specs.Entries.{ListsRead}

@@ -8,7 +8,7 @@ use Rattle.iloc_board.specs.Finished.{IsDoneBy, ReceiptView}
 use Rattle.iloc_board.specs.Working.{IsDone}
 use Rattle.iloc_args.specs.declared.request.Request.{Request}
 use Rattle.iloc_args.specs.declared.request.Task.{Task}
-use Rattle.iloc_farm.specs.Commands.Command.{Alone, Listers, Shared}
+use Rattle.iloc_farm.specs.Commands.Record.{Alone, Listers, Shared}
 use Rattle.iloc_farm.specs.Commands.{command_of}
 use Rattle.iloc_farm.specs.Entries.{ListsRead, OfBlock}
 use Rattle.iloc_farm.specs.Run.{IsListingFor}

@@ -1,7 +1,7 @@
 //! The commands: what each lists of what is read, and what it finds.
 ghost use Rattle.std.specs.Prelude.{◌≡◌};
 ghost use Rattle.iloc_farm.specs.Run.Apart.{Held};
-ghost use Rattle.iloc_farm.specs.Commands.Command.{Shared, of_files, of_files_or_rows, of_rows};
+ghost use Rattle.iloc_farm.specs.Commands.Record.{Shared, of_files, of_files_or_rows, of_rows};
 ghost use Rattle.iloc_farm.specs.Commands.{command_of};
 ghost use Rattle.iloc_farm.specs.Entries.{IsListingOf};
 ghost use Rattle.iloc_farm.specs.Fault.{finding_of, finding_of_text, status_of_finding};

@@ -22,7 +22,7 @@ use Rattle.iloc_farm.specs.Schedules.{IsTheGreedy}
 use Rattle.iloc_farm.specs.declared.commands.Finding.{Finding}
 use Rattle.iloc_args.specs.declared.request.Request.{Request}
 use Rattle.iloc_rows.specs.EitherSlot.{placed}
-use Rattle.iloc_farm.specs.Commands.Command.{Command, of_rows}
+use Rattle.iloc_farm.specs.Commands.Record.{Command, of_rows}
 use Rattle.iloc_farm.specs.Commands.Optimize.{IsSoughtIf}
 use Rattle.iloc_farm.specs.Commands.Run.{initial_memory}
 

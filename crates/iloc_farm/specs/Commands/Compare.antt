@@ -16,7 +16,7 @@ use Rattle.iloc_farm.specs.declared.commands.compare.ComparedCycles.{ComparedCyc
 use Rattle.iloc_farm.specs.Entries.{IsListingAfter}
 use Rattle.iloc_farm.specs.Listing.{field, head_as, opening_as}
 use Rattle.iloc_farm.specs.Schedules.{IsCount}
-use Rattle.iloc_farm.specs.Commands.Command.{Command, Shared, of_files}
+use Rattle.iloc_farm.specs.Commands.Record.{Command, Shared, of_files}
 use Rattle.iloc_farm.specs.Commands.Optimize.{IsSoughtIf}
 
 -- the place of a heuristic among them

@@ -7,7 +7,7 @@ use Rattle.iloc_args.specs.declared.request.Request.{Request}
 use Rattle.iloc_farm.specs.Entries.{IsListingAfter}
 use Rattle.iloc_farm.specs.Listing.{field, cycles_of, entries, head_as, opening_as, total_line, total_of_all}
 use Rattle.iloc_farm.specs.Schedules.{IsCount, IsTheGreedy}
-use Rattle.iloc_farm.specs.Commands.Command.{Command, Shared, of_files}
+use Rattle.iloc_farm.specs.Commands.Record.{Command, Shared, of_files}
 
 -- `block K NAME cycles C`, or `K,NAME,C` in a table
 abbrev pub count_line : Bool → ℕ → Option (List ℕ) → ℕ → List ℕ

@@ -6,7 +6,7 @@ use Rattle.iloc_explain.specs.Listing.{IsExplanation}
 use Rattle.iloc_args.specs.declared.request.Request.{Request}
 use Rattle.iloc_farm.specs.Listing.{block_head, cycles_of, total_of_all}
 use Rattle.iloc_farm.specs.Schedules.{IsTheGreedy}
-use Rattle.iloc_farm.specs.Commands.Command.{Command, of_files_or_rows}
+use Rattle.iloc_farm.specs.Commands.Record.{Command, of_files_or_rows}
 use Rattle.iloc_farm.specs.Commands.Explain.Rows.{Explains}
 use Rattle.iloc_farm.specs.Entries.{IsListingOf}
 pub mod Rows

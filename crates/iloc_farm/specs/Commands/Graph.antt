@@ -3,7 +3,7 @@ use Rattle.std.specs.Prelude.{◌≡◌, ℕ, ◌==◌, if◌then◌else◌, Lis
 use Rattle.iloc_ops.specs.declared.file.Block.{Block}
 use Rattle.iloc_graph.specs.Listing.{IsCluster, opening, closing}
 use Rattle.iloc_args.specs.declared.request.Request.{Request}
-use Rattle.iloc_farm.specs.Commands.Command.{Command, of_files}
+use Rattle.iloc_farm.specs.Commands.Record.{Command, of_files}
 use Rattle.iloc_farm.specs.Entries.{IsListingOf}
 
 -- the first block opens the drawing

@@ -3,7 +3,7 @@ use Rattle.std.specs.Prelude.{◌≡◌, ℕ, Bool, List}
 use Rattle.iloc_lint.specs.Listing.{ListsLint}
 use Rattle.iloc_farm.specs.Fault.{finding_of_text}
 use Rattle.iloc_farm.specs.declared.commands.Finding.{Finding}
-use Rattle.iloc_farm.specs.Commands.Command.{Command, OfText, of_no_file}
+use Rattle.iloc_farm.specs.Commands.Record.{Command, OfText, of_no_file}
 
 -- each line that the grammar refuses is listed, and the finding is whether there is none
 abbrev pub ListsLinted : List ℕ → Finding → List ℕ → Type 0

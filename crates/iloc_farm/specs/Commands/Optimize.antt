@@ -7,7 +7,7 @@ use Rattle.iloc_optimum.specs.declared.optimizer.Optimum.{Optimum}
 use Rattle.iloc_optimum.specs.declared.optimizer.Sought.{Sought}
 use Rattle.iloc_optimum.specs.Optimum.{IsOptimumOf, IsSought}
 use Rattle.iloc_farm.specs.Listing.{bound_comment, cycles_of, schedule_entry, total_of_all}
-use Rattle.iloc_farm.specs.Commands.Command.{Command, Shared, of_files}
+use Rattle.iloc_farm.specs.Commands.Record.{Command, Shared, of_files}
 use Rattle.iloc_farm.specs.Entries.{IsListingOf}
 use Rattle.iloc_farm.specs.declared.listing.text.ScheduleEntry.{ScheduleEntry}
 

@@ -13,7 +13,7 @@ use Rattle.iloc_meaning.specs.declared.outcome.Outcome.{Outcome}
 use Rattle.iloc_meaning.specs.declared.outcome.Outcome.TheVariants.{Finished, Fault}
 use Rattle.iloc_args.specs.declared.request.Request.{Request}
 use Rattle.iloc_farm.specs.Listing.{block_head, words_or_fault}
-use Rattle.iloc_farm.specs.Commands.Command.{Command, of_files}
+use Rattle.iloc_farm.specs.Commands.Record.{Command, of_files}
 use Rattle.iloc_farm.specs.Entries.{IsListingOf}
 
 -- the memory that a request has each block start with

@@ -5,7 +5,7 @@ use Rattle.iloc_timed.specs.Schedule.{Table}
 use Rattle.iloc_args.specs.declared.request.Request.{Request}
 use Rattle.iloc_farm.specs.Listing.{cycles_of, schedule_entry, total_of_all}
 use Rattle.iloc_farm.specs.Schedules.{IsTheGreedy}
-use Rattle.iloc_farm.specs.Commands.Command.{Command, Shared, of_files}
+use Rattle.iloc_farm.specs.Commands.Record.{Command, Shared, of_files}
 use Rattle.iloc_farm.specs.Entries.{IsListingOf}
 use Rattle.iloc_farm.specs.declared.listing.text.ScheduleEntry.{ScheduleEntry}
 

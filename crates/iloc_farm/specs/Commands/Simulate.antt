@@ -8,7 +8,7 @@ use Rattle.iloc_args.specs.declared.request.Request.{Request}
 use Rattle.iloc_farm.specs.Commands.Run.{initial_memory, no_ending}
 use Rattle.iloc_farm.specs.Listing.{outcome_entry}
 use Rattle.iloc_farm.specs.Schedules.{IsTheGreedy}
-use Rattle.iloc_farm.specs.Commands.Command.{Command, of_files}
+use Rattle.iloc_farm.specs.Commands.Record.{Command, of_files}
 use Rattle.iloc_farm.specs.Entries.{IsListingOf}
 
 -- The entry of block k: its number and its name, and what its greedy schedule emits on the request's memory, or that it

@@ -9,7 +9,7 @@ use Rattle.iloc_farm.specs.Commands.Run.{initial_memory, no_ending}
 use Rattle.iloc_farm.specs.Commands.Trace.Rows.{Traces}
 use Rattle.iloc_farm.specs.Listing.{block_head}
 use Rattle.iloc_farm.specs.Schedules.{IsTheGreedy}
-use Rattle.iloc_farm.specs.Commands.Command.{Command, of_files_or_rows}
+use Rattle.iloc_farm.specs.Commands.Record.{Command, of_files_or_rows}
 use Rattle.iloc_farm.specs.Entries.{IsListingOf}
 pub mod Rows
 

@@ -11,7 +11,7 @@ use Rattle.iloc_text.specs.declared.fault.ReadFault.{ReadFault}
 use Rattle.iloc_rows.specs.Submissions as submissions
 use Rattle.iloc_rows.specs.declared.fault.RowsFault.{RowsFault}
 use Rattle.iloc_farm.specs.Run.Apart.{AreRefusedApart, HasNoTask, Held}
-use Rattle.iloc_farm.specs.Commands.Command.{Alone, Command, Input, Listers, OfFile, OfRows, OfText, Shared}
+use Rattle.iloc_farm.specs.Commands.Record.{Alone, Command, Input, Listers, OfFile, OfRows, OfText, Shared}
 use Rattle.iloc_farm.specs.declared.fault.FarmFault.TheVariants as farm
 use Rattle.iloc_farm.specs.declared.fault.RunFault.{RunFault}
 use Rattle.iloc_farm.specs.declared.fault.RunFault.TheVariants.{ReadFailed, Text, Rows, Task, Farm, WriteFailed}

@@ -4,7 +4,7 @@ use Rattle.iloc_board.specs.Finished.{ReceiptView}
 use Rattle.iloc_args.specs.declared.request.Request.{Request}
 use Rattle.iloc_farm.specs.Run.Apart.{Held}
 use Rattle.iloc_farm.specs.Run.Causes.{IsCaused, causes_of}
-use Rattle.iloc_farm.specs.Commands.Command.{Command, Input}
+use Rattle.iloc_farm.specs.Commands.Record.{Command, Input}
 use Rattle.iloc_farm.specs.Run.{ListsBy, input_of}
 use Rattle.iloc_farm.specs.Work.{HasReceiptFrom}
 use Rattle.iloc_farm.specs.declared.commands.Listed.{Listed}
