@@ -38,17 +38,26 @@ abbrev pub lost_told : Option Issue → List ℕ
 lost_told None = codes "of the start"
 lost_told (Some issue) = codes "of " ++ issue_told issue
 
+abbrev pub under_way_told : Issue → Issue → ℕ → List ℕ
+under_way_told issue store due =
+    issue_told issue ++ codes " while " ++ issue_told store ++ codes " is under way to row " ++ decimal due
+
+abbrev pub brings_told : Issue → Reg → Issue → ℕ → List ℕ
+brings_told issue register late due =
+    reads_told issue register ++ codes ", which " ++ issue_told late ++ codes " brings in row " ++ decimal due
+
+abbrev pub replaced_told : Issue → Reg → Issue → Option Issue → List ℕ
+replaced_told issue register from lost =
+    reads_told issue register ++ codes " of " ++ issue_told from ++ codes ", no longer " ++ lost_told lost
+
 abbrev pub before_or_after : Issue → Issue → List ℕ
 before_or_after issue other = if nat_lt issue.cycle other.cycle then codes " before " else codes " after "
 
 -- a fact, in the words of its line
 abbrev pub fact_words : Fact → List ℕ
-fact_words (UnderWay issue store due) =
-    issue_told issue ++ codes " while " ++ issue_told store ++ codes " is under way to row " ++ decimal due
-fact_words (Brings issue register late due) =
-    reads_told issue register ++ codes ", which " ++ issue_told late ++ codes " brings in row " ++ decimal due
-fact_words (Replaced issue register from lost) =
-    reads_told issue register ++ codes " of " ++ issue_told from ++ codes ", no longer " ++ lost_told lost
+fact_words (UnderWay issue store due) = under_way_told issue store due
+fact_words (Brings issue register late due) = brings_told issue register late due
+fact_words (Replaced issue register from lost) = replaced_told issue register from lost
 fact_words (NeverRead issue) = issue_told issue ++ codes ", whose result is never read"
 fact_words (Order issue other) = issue_told issue ++ before_or_after issue other ++ issue_told other
 fact_words (For issue op) = issue_told issue ++ codes " for " ++ spelling op

@@ -70,6 +70,56 @@ fn push_lost(text: &mut Vec<u8>, lost: Option<Issue>) -> Result<(), NoMemory>
     }
 }
 
+/// Appends that an operation is issued while a store is under way.
+fn push_under_way(
+    text: &mut Vec<u8>,
+    issue: Issue,
+    store: Issue,
+    due: usize,
+) -> Result<(), NoMemory>
+    ensures { OnOk result (text.new.items ≡ text.old.items ++ told.under_way_told issue store due) }
+{
+    push_issue(text, issue)?;
+    text.extend_from_slice(b" while ")?;
+    push_issue(text, store)?;
+    text.extend_from_slice(b" is under way to row ")?;
+    push_number(text, due as u64)
+}
+
+/// Appends that an operation reads a register to which a result is under way.
+fn push_brings(
+    text: &mut Vec<u8>,
+    issue: Issue,
+    register: Reg,
+    late: Issue,
+    due: usize,
+) -> Result<(), NoMemory>
+    ensures { OnOk result (text.new.items ≡ text.old.items ++ told.brings_told issue register late due) }
+{
+    push_reads(text, issue, register)?;
+    text.extend_from_slice(b", which ")?;
+    push_issue(text, late)?;
+    text.extend_from_slice(b" brings in row ")?;
+    push_number(text, due as u64)
+}
+
+/// Appends that an operation reads in a register a result that came over what was there.
+fn push_replaced(
+    text: &mut Vec<u8>,
+    issue: Issue,
+    register: Reg,
+    from: Issue,
+    lost: Option<Issue>,
+) -> Result<(), NoMemory>
+    ensures { OnOk result (text.new.items ≡ text.old.items ++ told.replaced_told issue register from lost) }
+{
+    push_reads(text, issue, register)?;
+    text.extend_from_slice(b" of ")?;
+    push_issue(text, from)?;
+    text.extend_from_slice(b", no longer ")?;
+    push_lost(text, lost)
+}
+
 /// Whether an operation is issued before another one, in a word.
 fn before_or_after(issue: Issue, other: Issue) -> &'static [u8]
     ensures { result.now ≡ told.before_or_after issue other }
@@ -86,37 +136,19 @@ fn push_fact_words(text: &mut Vec<u8>, fact: &Fact) -> Result<(), NoMemory>
     ensures { OnOk result (text.new.items ≡ text.old.items ++ told.fact_words fact.now) }
 {
     match *fact {
-        Fact::UnderWay { issue, store, due } => {
-            push_issue(text, issue)?;
-            text.extend_from_slice(b" while ")?;
-            push_issue(text, store)?;
-            text.extend_from_slice(b" is under way to row ")?;
-            push_number(text, due as u64)
-        }
+        Fact::UnderWay { issue, store, due } => push_under_way(text, issue, store, due),
         Fact::Brings {
             issue,
             register,
             late,
             due,
-        } => {
-            push_reads(text, issue, register)?;
-            text.extend_from_slice(b", which ")?;
-            push_issue(text, late)?;
-            text.extend_from_slice(b" brings in row ")?;
-            push_number(text, due as u64)
-        }
+        } => push_brings(text, issue, register, late, due),
         Fact::Replaced {
             issue,
             register,
             from,
             lost,
-        } => {
-            push_reads(text, issue, register)?;
-            text.extend_from_slice(b" of ")?;
-            push_issue(text, from)?;
-            text.extend_from_slice(b", no longer ")?;
-            push_lost(text, lost)
-        }
+        } => push_replaced(text, issue, register, from, lost),
         Fact::NeverRead { issue } => {
             push_issue(text, issue)?;
             Ok(text.extend_from_slice(b", whose result is never read")?)
