@@ -113,11 +113,6 @@ held_after_take count c taken h x k looked at e =
     ap (λ t. t ++ (w, k) ∷ []) old ∙ (ap (λ t. filter (is_held d) taken ++ t) (sym one)
     ∙ sym (filter-append (is_held d) taken ((w, k) ∷ [])))
 
-not_both : (a b : Bool) → (a && b) && not (true && (a && b)) ≡ false
-not_both true true = refl
-not_both true false = refl
-not_both false b = refl
-
 and_not : (b : Bool) → b && not b ≡ false
 and_not true = refl
 and_not false = refl

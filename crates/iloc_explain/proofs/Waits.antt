@@ -1,5 +1,5 @@
 -- What an operation waited for stands in the rows of the cycles before, as many as the longest delay has.
-use Rattle.std.proofs.Common.{◌≡◌, ◌<◌, ◌≤◌, ℕ, suc, ◌+◌, ◌-◌, ◌==◌, ◌&&◌, Bool, true, nat_lt, List, [], ◌∷◌, ◌++◌, length, take, drop, filter, min, append_assoc, append-nil, Option, Some, None, option_to_list, arith, refl, sym, ap, ◌∙◌, inl, inr}
+use Rattle.std.proofs.Common.{◌≡◌, ◌<◌, ◌≤◌, ℕ, suc, ◌+◌, ◌-◌, ◌==◌, ◌&&◌, true, nat_lt, List, [], ◌∷◌, ◌++◌, length, take, drop, filter, min, append_assoc, append-nil, Option, Some, None, option_to_list, arith, refl, sym, ap, ◌∙◌, inl, inr}
 use Rattle.std.specs.Prelude.{Contains}
 use Rattle.std.specs.List.{list_any}
 use Rattle.std.proofs.lemmas.Bool.{and_parts, eq-eqb, eqb-false, eqb-true, ne_eqb}
@@ -48,8 +48,6 @@ from_order (row ∷ rows) i there = elim (from_append (in_order row) (issue_orde
 
 module _ (lat : Latencies) (ops : List Op) (rows : List Row) (table : IsTable ops rows) (j : ℕ) (here : j < length ops)
     (ready : ℕ) where
-  ends : ℕ → Bool
-  ends = ends_at lat ops rows j ready
 
   issued_at : (c i : ℕ) → c < length rows → In (in_order (row_at rows c)) i → issue_cycle rows i ≡ c
   issued_at c i within there =

@@ -1,7 +1,7 @@
 -- Lists of routines, of what they gave, and of journals.
 use Rattle.std.proofs.Common.{◌≡◌, ℕ, suc, ◌+◌, ◌<◌, List, [], ◌∷◌, ◌++◌, map, length, refl, ap, sym, ◌∙◌, subst, arith}
-use Rattle.std.specs.Prelude.{get_or, replicate, slice_index_or}
-use Rattle.std.proofs.lemmas.List.{append_assoc, get_or-replicate, map-append}
+use Rattle.std.specs.Prelude.{slice_index_or}
+use Rattle.std.proofs.lemmas.List.{append_assoc, map-append}
 use Rattle.std.specs.List.{All, AllZip, range_with_len}
 use Rattle.std.proofs.lemmas.List.Elements.{All-nil, All-cons, All-head, All-tail, All-same, All-push}
 use Rattle.iloc_sched.proofs.Bounds.SharedMembers.{range-snoc}
@@ -72,9 +72,3 @@ module _ {S : Type 0} where
   pub done_all : (P : S → Type 0) (rest whole : List S) → length rest ≡ 0 → (All P rest → All P whole) → All P whole
   done_all P [] whole e h = h (All-nil P)
   done_all P (x ∷ rest) whole e h = absurd (omega arith)
-
-module _ {S : Type 0} (xs : List S) (n : ℕ) (x y : S) (all : xs ≡ replicate n x) (first : y ≡ get_or xs 0 y)
-    (some : 0 < n) where
-  -- the first of a list of equals is what they all are
-  pub first_is : y ≡ x
-  first_is = first ∙ (ap (λ z. get_or z 0 y) all ∙ get_or-replicate n 0 x y some)

@@ -5,11 +5,11 @@ use Rattle.iloc_ops.specs.declared.op.Reg.{Reg}
 use Rattle.iloc_ops.specs.declared.op.Op.{Op}
 use Rattle.iloc_ops.specs.Registers.{defined}
 use Rattle.iloc_meaning.specs.declared.machine_state.MachineState.{MachineState}
-use Rattle.iloc_meaning.specs.declared.effect.Effect.TheVariants.{Faults, Gives, Writes, Emits, Nothing}
+use Rattle.iloc_meaning.specs.declared.effect.Effect.TheVariants.{Gives, Writes, Emits}
 use Rattle.iloc_meaning.specs.Memory.{word_at, ScratchView}
 use Rattle.iloc_meaning.specs.Effect.{effect}
 use Rattle.iloc_meaning.specs.Trace.{Executed, register_after, word_after, then_executed}
-use Rattle.iloc_meaning.specs.Outcome.{has_fault, emitted}
+use Rattle.iloc_meaning.specs.Outcome.{emitted}
 use Rattle.iloc_meaning.specs.Registers.{Values, value_of, ChangesOnly}
 use Rattle.iloc_meaning.specs.MachineState.{Follows}
 use Rattle.iloc_meaning.proofs.Cases.{by_bool}
@@ -24,12 +24,6 @@ effect_after memory trace state op follows =
     effect_same op _ _ _ _ (λ r used. sym (follows.registers r))
     (λ a good. sym (ap (λ words. word_at words a) follows.words
     ∙ word_at-with_words memory (word_after memory trace) a follows.size good))
-
--- an operation that faults
-pub after_fault : (memory : List ℤ) (trace : List Executed) (state : MachineState) (op : Op) → Follows memory trace state
-    → Faults ≡ effect op (value_of state.registers) (word_at state.memory.words)
-    → has_fault (then_executed memory op trace) ≡ true
-after_fault memory trace state op follows is = rw (effect_after memory trace state op follows, ← is) refl
 
 -- an operation that gives a result
 pub after_result : (memory : List ℤ) (trace : List Executed) (state : MachineState) (op : Op) (result : ℤ) (r : Reg)
@@ -86,19 +80,5 @@ after_output memory trace state op w new follows is pushed =
       registers = λ s. rw (defined-no_result op _ _ (ap has_no_result (sym is))) (follows.registers s);
       words = follows.words;
       outputs = pushed ∙ ap (λ words. words ++ w ∷ []) follows.outputs;
-      no_fault = follows.no_fault;
-    }
-
--- an operation that does nothing
-pub after_nothing : (memory : List ℤ) (trace : List Executed) (state : MachineState) (op : Op)
-    → Follows memory trace state → Nothing ≡ effect op (value_of state.registers) (word_at state.memory.words)
-    → Follows memory (then_executed memory op trace) state
-after_nothing memory trace state op follows is =
-    rw (effect_after memory trace state op follows, ← is) record {
-      size = follows.size;
-      first = follows.first;
-      registers = λ s. rw (defined-no_result op _ _ (ap has_no_result (sym is))) (follows.registers s);
-      words = follows.words;
-      outputs = follows.outputs ∙ sym (append-nil (emitted trace));
       no_fault = follows.no_fault;
     }

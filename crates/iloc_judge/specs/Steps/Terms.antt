@@ -95,11 +95,6 @@ AreHalves d trie (Some halves) =
     (key : ℕ) → d.entry trie key
     ≡ (if key % 2 == 0 then d.entry halves.0 (key / 2) else d.entry halves.1 (key / 2))
 
--- the memory has the words of a trie at a base, and else those of another memory
-abbrev pub IsEpoch : Meaning → ℕ → Option ℕ → ℕ → ℕ → Type 0
-IsEpoch d number base memory trie =
-    (z : ℤ) → d.words number z ≡ unwrap_or (d.entry trie (key_of (base_word d base) z)) (d.words memory z)
-
 -- the memory has this word at a base and a key, and else those of another memory
 abbrev pub IsWritten : Meaning → ℕ → Option ℕ → ℕ → ℕ → Option ℕ → Type 0
 IsWritten d memory base key value None = Unit {0}

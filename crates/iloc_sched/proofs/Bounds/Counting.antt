@@ -1,5 +1,5 @@
 -- How many numbers pass a test; for `laws::least_bounds_the_cycles`.
-use Rattle.std.proofs.Common.{◌≡◌, ◌∙◌, ℕ, ◌+◌, ◌<◌, ◌≤◌, ◌/◌, zero, suc, Bool, true, false, cond, ◌&&◌, ◌||◌, ◌==◌, List, [], ◌∷◌, ◌++◌, length, map, filter, get_or, refl, sym, ap, ap₂, subst₂, inl, inr, arith}
+use Rattle.std.proofs.Common.{◌≡◌, ◌∙◌, ℕ, ◌+◌, ◌<◌, ◌≤◌, ◌/◌, zero, suc, Bool, true, false, cond, ◌&&◌, ◌||◌, ◌==◌, List, [], ◌∷◌, ◌++◌, length, map, filter, refl, sym, ap, ap₂, subst₂, inl, inr, arith}
 use Rattle.std.specs.Prelude.{count_by, nat_le}
 use Rattle.std.specs.List.{list_any, range_with_len}
 use Rattle.std.specs.List.Sorted.{IsPermutation}
@@ -146,13 +146,3 @@ among-short (x ∷ xs) a n =
 
 pub div-mono : (w a b : ℕ) → 0 < w → a ≤ b → a / w ≤ b / w
 div-mono w a b some h = le-div (a / w) b w some (let less = div-mul-le_self a w in omega arith)
-
-pub all_pass : (q : ℕ) (xs : List ℕ) → ((j : ℕ) → j < length xs → q ≤ get_or xs j 0)
-    → count_by (λ p. nat_le q p) xs ≡ length xs
-all_pass q [] h = refl
-all_pass q (x ∷ xs) h =
-    let low : q ≤ x = h 0 (omega arith) in
-    let here : nat_le q x ≡ true = grind (arith, nat_tests) in
-    let rest = all_pass q xs (λ j lt. h (suc j) (omega arith)) in
-    let one = count_by-cons (λ p. nat_le q p) x xs ∙ ap (λ b. cond b 1 0 + count_by (λ p. nat_le q p) xs) here in
-    omega arith

@@ -21,7 +21,7 @@ use Rattle.iloc_sched.specs.Steps.Renaming.ByRegister.{number_at}
 use Rattle.iloc_sched.specs.Steps.Edges.PartialGraph.{IsPartialGraph, HasEdge, HasOneMore, Grows, AddsFrom, CoversUse, CoversUses, CoversMemory}
 use Rattle.iloc_sched.specs.Steps.Views.{no_edge}
 use Rattle.iloc_sched.proofs.Basics.Members.{in_from, in_left, in_right, from_append}
-use Rattle.iloc_sched.proofs.Basics.Cases.{not_both, same_some}
+use Rattle.iloc_sched.proofs.Basics.Cases.{same_some}
 use Rattle.iloc_sched.proofs.KeptEdges.PartialGraphs.{grows_by_one, has_new, grows_then}
 use Rattle.iloc_sched.proofs.KeptEdges.NearPairs.{covers_load, covers_output, covers_store, covers_use, store_before, output_before, load_before_store, use_pair}
 
@@ -119,10 +119,6 @@ module _ (lat : Latencies) (ops : List Op) (lasts : Lasts) (j : ℕ) (is : IsLas
               let same : k ≡ i = same_some (number_at lasts.definers r.0) k i at_k at in
               subst (λ e. HasEdge b j k e) (long ∙ ap (λ m. latency lat (op_at ops m)) (sym same)) (h.1 k same)),
         )
-
-    pub no_use : (a : Graph) (r : Reg) → IsRenamed ops → number_at lasts.definers r.0 ≡ None → CoversUse lat ops a j r
-    no_use a r renamed none = covers_use lat ops j lasts is a renamed r
-        (λ k at. not_both (number_at lasts.definers r.0) k none at)
 
     pub memory_load : (a b : Graph) → IsPartialGraph lat ops a j → kind (op_at ops j) ≡ K.Load
         → AddsFrom (λ i. lasts.store ≡ Some i) a b j lat.store → Grows lat ops a b j × CoversMemory lat ops b j

@@ -94,12 +94,6 @@ same_has c c' same s r = ap (λ ws. eqb (rank_bit ws s r) 1) same.words
 pub same_room : (c c' : Calendar) → HasSameSets c c' → KeepsRoom c c'
 same_room c c' same = record { words = ap (length {A = ℕ}) same.words; blocks = same.blocks }
 
-pub puts_same : (c c' d : Calendar) (s k : ℕ) (b : Bool) → HasSameSets c c' → Puts c' d s k b → Puts c d s k b
-puts_same c c' d s k b same puts = record {
-  here = puts.here;
-  others = λ t r low apart. puts.others t r low apart ∙ same_has c c' same t r;
-}
-
 -- what a class keeps out is known as before
 pub kept_put : (p : Plan) (c c' : Calendar) (n s k : ℕ) (b : Bool) → s ≤ 32 → Puts c c' s k b → KeepsOut p n c → KeepsOut p n c'
 kept_put p c c' n s k b low puts kept = record {

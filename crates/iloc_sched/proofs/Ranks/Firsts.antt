@@ -1,5 +1,5 @@
 -- The first of what is ready and not kept out; for `Calendar::first`.
-use Rattle.std.proofs.Common.{◌≡◌, ◌≢◌, ℕ, ◌+◌, ◌-◌, ◌*◌, ◌/◌, ◌%◌, ◌^◌, ◌<◌, ◌≤◌, List, length, min, Option, Some, None, ap, sym, ◌∙◌, arith, w64, bit_and}
+use Rattle.std.proofs.Common.{◌≡◌, ◌≢◌, ℕ, ◌+◌, ◌-◌, ◌*◌, ◌/◌, ◌%◌, ◌^◌, ◌<◌, ◌≤◌, List, length, min, Some, None, ap, sym, ◌∙◌, arith, w64, bit_and}
 use Rattle.std.specs.Int.{bit_at, bit_not, trailing_zeros}
 use Rattle.std.specs.Int.Count.{count_trailing_zeros, trailing_of_zero}
 use Rattle.std.proofs.lemmas.Nat.{and_le_l}
@@ -27,29 +27,6 @@ module _ (ready kept_out : ℕ) (fits : ready < 2 ^ 64) (kept_fits : kept_out < 
         sym (open_at (trailing_zeros w64 shown) low) ∙ lowest.1,
         λ i before. sym (open_at i (omega arith)) ∙ lowest.2 i before,
       )
-
--- the bits of a word are those of its ranks
-pub first_of_bits : (words : List ℕ) (k w : ℕ) (bit : Option ℕ) → IsFirstBit (word_at words 32 w) (word_at words (33 + k) w) bit
-    → bit ≡ None → IsFirstWithin words k (λ r. r / 64 ≡ w) None
-first_of_bits words k w None is none = λ r here.
-    ap (λ v. min (bit_at (word_at words 32 v) (r % 64)) (1 - bit_at (word_at words (33 + k) v) (r % 64))) here
-    ∙ is (r % 64) (omega arith)
-first_of_bits words k w (Some bit) is none = absurd cc
-
-pub first_of_bit : (words : List ℕ) (k w bit : ℕ) → IsFirstBit (word_at words 32 w) (word_at words (33 + k) w) (Some bit)
-    → IsFirstWithin words k (λ r. r / 64 ≡ w) (Some (w * 64 + bit))
-first_of_bit words k w bit is =
-    let small : bit < 64 = is.0 in
-    let row : (w * 64 + bit) / 64 ≡ w = omega arith in
-    let column : (w * 64 + bit) % 64 ≡ bit = omega arith in
-    let at : (v i : ℕ) → v ≡ w → min (bit_at (word_at words 32 v) i) (1 - bit_at (word_at words (33 + k) v) i)
-    ≡ min (bit_at (word_at words 32 w) i) (1 - bit_at (word_at words (33 + k) w) i) =
-    λ v i here. ap (λ u. min (bit_at (word_at words 32 u) i) (1 - bit_at (word_at words (33 + k) u) i)) here in (
-      row,
-      at ((w * 64 + bit) / 64) ((w * 64 + bit) % 64) row
-          ∙ ap (λ i. min (bit_at (word_at words 32 w) i) (1 - bit_at (word_at words (33 + k) w) i)) column ∙ is.1,
-      λ r here before. at (r / 64) (r % 64) here ∙ is.2 (r % 64) (omega arith),
-    )
 
 -- nothing is open where nothing is ready
 pub none_open : (words : List ℕ) (k r : ℕ) → word_at words 32 (r / 64) ≡ 0 → open_bit words k r ≡ 0

@@ -63,9 +63,6 @@ module _ (block left left' b low : ℕ) (words words' words'' : List ℕ) (bucke
   row : (block * 64 + low) / 64 ≡ block
   row = omega arith
 
-  column : (block * 64 + low) % 64 ≡ low
-  column = omega arith
-
   moved_now : MovesAt words words'' b (block * 64 + low)
   moved_now = (
     now.0,

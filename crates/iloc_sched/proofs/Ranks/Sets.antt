@@ -1,5 +1,5 @@
 -- What words say of sets: put, released, first; for the functions of `Calendar`.
-use Rattle.std.proofs.Common.{◌≡◌, ◌≢◌, ℕ, zero, suc, ◌+◌, ◌-◌, ◌*◌, ◌/◌, ◌%◌, ◌<◌, ◌≤◌, ◌&&◌, ◌||◌, not, Bool, true, false, eqb, List, length, min, Some, None, refl, sym, ◌∙◌, ap, subst, arith}
+use Rattle.std.proofs.Common.{◌≡◌, ◌≢◌, ℕ, zero, suc, ◌+◌, ◌-◌, ◌*◌, ◌/◌, ◌%◌, ◌<◌, ◌≤◌, ◌&&◌, ◌||◌, not, Bool, true, false, eqb, List, length, min, None, refl, sym, ◌∙◌, ap, subst, arith}
 use Rattle.std.specs.Int.{bit_at}
 use Rattle.std.proofs.lemmas.Nat.Bits.{bit_at-lt}
 use lib.ListN.{get_or-eq_default}
@@ -10,10 +10,9 @@ use Rattle.iloc_sched.specs.declared.cycle.calendar.Calendar.{Calendar}
 use Rattle.iloc_sched.specs.declared.cycle.class.Class.{Class}
 use Rattle.iloc_sched.specs.Steps.Cycle.Calendar.{has, offers, IsFirst, KeepsRoom, Puts, Releases}
 use Rattle.iloc_sched.specs.Steps.Cycle.Classes.{place_of}
-use Rattle.iloc_sched.specs.Steps.Cycle.RankSets.{word_at, rank_bit, IsSummary, AddsBit, TakesBit, MovesAt, NotesMoved, HoldsBits, open_bit, IsFirstWithin}
+use Rattle.iloc_sched.specs.Steps.Cycle.RankSets.{word_at, rank_bit, IsSummary, AddsBit, TakesBit, MovesAt, NotesMoved, HoldsBits, open_bit}
 use Rattle.iloc_sched.proofs.Basics.Cases.{by_eq, by_lt}
 use Rattle.iloc_sched.proofs.Ranks.Calendars.{place_small}
-use Rattle.iloc_sched.proofs.Ranks.Firsts.{none_open}
 use Rattle.iloc_sched.proofs.Ranks.Moves.{KeepsElse, moved_ready}
 use Rattle.iloc_sched.proofs.Ranks.WordBits.{no_bit, test_added}
 
@@ -55,14 +54,6 @@ open_there summary words k block low right = λ i small set.
     let column : (block * 64 + i) % 64 ≡ i = omega arith in
     right.there k (block * 64 + i) low (λ none. set (ap (λ v. bit_at (word_at summary (33 + k) v) i) (sym row)
     ∙ ap (bit_at (word_at summary (33 + k) ((block * 64 + i) / 64))) (sym column) ∙ none))
-
--- the words that a summary leaves out have nothing
-pub left_out : (summary words : List ℕ) (s block : ℕ) → s < 32 → IsSummary summary words → (w : ℕ) → w / 64 ≡ block
-    → bit_at (word_at summary s block) (w % 64) ≡ 0 → word_at words s w ≡ 0
-left_out summary words s block low right w here none =
-    let bit : rank_bit summary s w ≡ 0 = ap (λ b. bit_at (word_at summary s b) (w % 64)) here ∙ none in
-    let least : min 1 (word_at words s w) ≡ 0 = sym (right.buckets s w low) ∙ bit in
-    omega arith
 
 -- nor have those that it has no bits for
 pub beyond : (summary words : List ℕ) (s blocks : ℕ) → s < 32 → IsSummary summary words → length summary ≡ blocks * 37 → (w : ℕ)
@@ -189,25 +180,6 @@ module _ (c : Calendar) (beside : Class) where
   is_offered : (r x : ℕ) → open_bit words (place_of beside) r ≡ x → offers c beside r ≡ eqb x 1
   is_offered r x is = offers_bits (rank_bit words 32 r) (rank_bit words (33 + place_of beside) r) (bit_small words 32 r)
       (bit_small words (33 + place_of beside) r) ∙ ap (λ y. eqb y 1) is
-
-  -- in the first word
-  pub first_in_word : (f : ℕ) → IsFirstWithin words (place_of beside) (λ r. r / 64 ≡ 0) (Some f) → IsFirst (offers c beside) (Some f)
-  first_in_word f first =
-      let row : f / 64 ≡ 0 = first.0 in
-      (is_offered f 1 first.1, λ r less. is_offered r 0 (first.2 r (omega arith) less))
-
-  pub none_in_word : length words ≤ 37 → IsFirstWithin words (place_of beside) (λ r. r / 64 ≡ 0) None → IsFirst (offers c beside) None
-  none_in_word single none = λ r. is_offered r 0 (by_eq (r / 64) 0 (none r)
-      (λ other. none_open words (place_of beside) r (past_end words 32 (r / 64) (omega arith))))
-
-  -- in a block after others
-  pub first_in_block : (block f : ℕ) → ((r : ℕ) → r / 64 / 64 < block → open_bit words (place_of beside) r ≡ 0)
-      → IsFirstWithin words (place_of beside) (λ r. r / 64 / 64 ≡ block) (Some f) → IsFirst (offers c beside) (Some f)
-  first_in_block block f before first =
-      let row : f / 64 / 64 ≡ block = first.0 in (
-        is_offered f 1 first.1,
-        λ r less. is_offered r 0 (by_eq (r / 64 / 64) block (λ here. first.2 r here less) (λ other. before r (omega arith))),
-      )
 
   pub none_in_blocks : c.blocks ≢ 0 → ((r : ℕ) → r / 64 / 64 < c.blocks → open_bit words (place_of beside) r ≡ 0) → IsFirst (offers c beside) None
   none_in_blocks some none = λ r. is_offered r 0 (by_lt (r / 64 / 64) c.blocks (none r)

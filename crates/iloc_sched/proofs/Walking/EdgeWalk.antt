@@ -235,18 +235,3 @@ moves graph w f i x c p t unmet' earliest' bucket' is waits there from_i now at_
           ],
         ))
         (λ apart. absurd (old_none b small (sym (enters.others b (graph.to x) small j_below (λ same _. apart same)) ∙ held)))
-
--- nothing is loose
-pub ends : (graph : Graph) (w : Progress) (f i : ℕ) → Waits graph w f i None → Waits graph w f 0 None
-ends graph w f i waits = record {
-  is_unmet = waits.is_unmet;
-  unmet = waits.unmet;
-  ahead = λ x there from_x up. absurd up;
-  stuck = λ x there yes. elim (waits.stuck x there yes) [ inl none ↦ inl none | inr loose ↦ absurd loose.1 ];
-  past = waits.past;
-  reached = waits.reached;
-  complete = waits.complete;
-  times = waits.times;
-  waits = waits.waits;
-  only = waits.only;
-}

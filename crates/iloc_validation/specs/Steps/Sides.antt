@@ -5,7 +5,7 @@ use Rattle.iloc_ops.specs.Registers.{used}
 use Rattle.iloc_meaning.specs.Trace.{op_at}
 use Rattle.iloc_timed.specs.declared.latencies.Latencies.{Latencies}
 use Rattle.iloc_timed.specs.Limits.{MAX_ROWS}
-use Rattle.iloc_timed.specs.Rows.{issue_cycle, IsTable}
+use Rattle.iloc_timed.specs.Rows.{IsTable}
 use Rattle.iloc_timed.specs.Schedule.{Table}
 use Rattle.iloc_validation.specs.declared.reading.Reading.{Reading}
 use Rattle.iloc_validation.specs.declared.reading.sources.Sources.{Sources}
@@ -23,11 +23,6 @@ pub record AreSides (lat : Latencies) (block : List Op) (givens : List Sources) 
   pub reading_count : length readings ≡ length schedule.ops
   pub each_reading : (k : ℕ) → k < length schedule.ops
       → reading_at readings k ≡ reading_of lat schedule.ops schedule.rows k
-
--- what is noted of the operations of rows has their cycles
-pub record HaveCycles (schedule : Table) (readings : List Reading) : Type 0 where
-  pub size : length readings ≡ length schedule.ops
-  pub each : (k : ℕ) → k < length schedule.ops → (reading_at readings k).cycle ≡ issue_cycle schedule.rows k
 
 -- operation k of the rows has the label of its origin, reads what that reads, and isn't issued before these waits are over
 pub record IsKept (block : List Op) (givens : List Sources) (ops : List Op) (readings : List Reading) (waits origin : List ℕ)
