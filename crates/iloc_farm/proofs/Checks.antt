@@ -32,7 +32,8 @@ use Rattle.iloc_farm.specs.Steps.Limits.{most_cycles}
 use Rattle.iloc_farm.specs.Steps.Listed.{Adds}
 use Rattle.iloc_farm.specs.declared.commands.Finding.TheVariants.{Passed}
 use Rattle.iloc_farm.proofs.Listers.{the_greedy}
-use Rattle.iloc_farm.proofs.Schedules.{cycles_few, cycles_within}
+use Rattle.iloc_optimum.proofs.Improvements.{cycles_within}
+use Rattle.iloc_farm.proofs.Schedules.{cycles_few}
 
 -- What is found of one proposal
 

@@ -18,7 +18,7 @@ use Rattle.iloc_farm.specs.Schedules.{IsGreedyAs}
 use Rattle.iloc_farm.specs.Steps.Limits.{most_proposed_cycles}
 use Rattle.iloc_farm.specs.Steps.Listed.{Adds}
 use Rattle.iloc_farm.proofs.Listers.{parts_joined, the_greedy}
-use Rattle.iloc_farm.proofs.Schedules.{cycles_within}
+use Rattle.iloc_optimum.proofs.Improvements.{cycles_within}
 
 -- the cycles of one proposal are few
 pub few_told : (heuristic : Heuristic) (lat : Latencies) (block : List Op) (s : Table) (p : Proposed) (one : ExplainedRows)

@@ -1,20 +1,17 @@
 -- The greedy schedules of a file's blocks: there is one list of them, they keep the outcomes, and their cycles are few.
-use Rattle.std.proofs.Common.{◌≡◌, ℕ, suc, ◌+◌, ◌*◌, ◌^◌, ◌<◌, ◌≤◌, List, [], ◌∷◌, length, map, sum_by, Some, refl, arith, inl, inr}
+use Rattle.std.proofs.Common.{◌≡◌, ℕ, suc, ◌*◌, ◌^◌, ◌<◌, ◌≤◌, List, [], ◌∷◌, length, sum_by, Some, refl, arith}
 use Rattle.std.specs.Prelude.{slice_get}
-use Rattle.std.specs.List.{AllByRecursion, range_with_len}
+use Rattle.std.specs.List.{AllByRecursion}
 use Rattle.std.proofs.lemmas.List.Sums.{sum_by-cons}
 use Rattle.iloc_ops.specs.Limits.{MAX_BLOCKS, MAX_OPS}
 use Rattle.iloc_ops.specs.declared.op.Op.{Op}
 use Rattle.iloc_ops.specs.declared.file.Block.{Block}
 use Rattle.iloc_text.specs.Files.{AreWithinLimits}
-use Rattle.iloc_meaning.specs.Trace.{op_at}
 use Rattle.iloc_timed.specs.declared.latencies.Latencies.{Latencies}
-use Rattle.iloc_timed.specs.declared.row.Row.{Row}
 use Rattle.iloc_timed.specs.Kinds.{kind}
 use Rattle.iloc_timed.specs.Latency.{latency}
 use Rattle.iloc_timed.specs.Cycles.{cycles}
 use Rattle.iloc_timed.specs.Schedule.{Table}
-use Rattle.iloc_timed.specs.Rows.{issue_cycle}
 use Rattle.iloc_timed.proofs.WholeRuns.{short_latency}
 use Rattle.iloc_sched.specs.declared.cycle.calendar.TheConstants.{LONGEST_DELAY}
 use Rattle.iloc_sched.specs.declared.ranking.heuristic.Heuristic.{Heuristic}
@@ -23,9 +20,6 @@ use Rattle.iloc_sched.specs.Heuristics.{priorities_by}
 use Rattle.iloc_sched.specs.Priority.{priorities}
 use Rattle.iloc_sched.proofs.Renamed.RenamingLoop.{renamed_fits}
 use Rattle.iloc_sched.proofs.Bounds.BusyCycles.{busy_bound_by}
-use Rattle.iloc_sched.proofs.Basics.Members.{from_map}
-use Rattle.iloc_sched.proofs.Basics.Maxima.{fold_max_reached}
-use Rattle.iloc_sched.proofs.Basics.IssueCycles.{issue_cycle_within}
 use Rattle.iloc_sched.proofs.Choice.OneGreedy.{greedy_same_as}
 use Rattle.iloc_sched.proofs.Outcome.LawfulOutcomes.{lawful_same_outcome}
 use Rattle.iloc_farm.specs.Listing.{cycles_of, total_cycles}
@@ -105,21 +99,6 @@ total_few heuristic lat (b ∷ blocks) (s ∷ schedules) greedy short =
     let tail : total_cycles lat schedules ≤ most_cycles * length blocks =
     total_few heuristic lat blocks schedules greedy.1 short.1 in
     rw (sum_by-cons (cycles_of lat) s schedules) (omega arith)
-
--- any schedule ends within the longest latency behind its rows
-pub cycles_within : (lat : Latencies) (ops : List Op) (rows : List Row) → cycles lat ops rows ≤ length rows + LONGEST_DELAY
-cycles_within lat ops rows = elim (fold_max_reached 0 (map ends (range_with_len 0 (length ops)))) [
-  | inl none ↦ let is : cycles lat ops rows ≡ 0 = none in omega arith
-  | inr there ↦
-      let found = from_map ends (range_with_len 0 (length ops)) (cycles lat ops rows) there in
-      let is : ends found.0 ≡ cycles lat ops rows = found.2 in
-      let issued : issue_cycle rows found.0 ≤ length rows = issue_cycle_within rows found.0 in
-      let short : latency lat (op_at ops found.0) ≤ LONGEST_DELAY = short_latency lat (kind (op_at ops found.0)) in
-      omega arith
-]
-  where
-    ends : ℕ → ℕ
-    ends i = issue_cycle rows i + latency lat (op_at ops i)
 
 -- what is collected
 

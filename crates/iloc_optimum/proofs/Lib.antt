@@ -4,4 +4,4 @@ mod TakenCycles
 mod OverfullNests
 mod CoveredStack
 mod LawfulTimings
-mod Improvements
+pub mod Improvements

@@ -15,7 +15,7 @@ pub struct Row {
 }
 
 /// The kind of the operation in a slot.
-fn kind_in(ops: &[Op], slot: Option<usize>) -> Option<Kind>
+pub fn kind_in(ops: &[Op], slot: Option<usize>) -> Option<Kind>
     ensures { result ≡ kind_in ops.now slot }
 {
     slot.map(|i| ops.get(i).map_or(Kind::Other, Kind::of))
@@ -34,7 +34,7 @@ impl Row {
     }
 
     /// Whether loads and stores are on unit 0, products on unit 1, and at most one output is in the row.
-    fn keeps_units(&self, ops: &[Op]) -> bool
+    pub fn keeps_units(&self, ops: &[Op]) -> bool
         ensures { result ≡ keeps_units ops.now self.now }
     {
         let zero = kind_in(ops, self.zero);

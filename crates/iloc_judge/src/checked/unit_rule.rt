@@ -1,10 +1,9 @@
 //! Which rule of the units a row breaks.
 ghost use Rattle.std.specs.Prelude.{◌≡◌, ◌++◌, OnOk, find};
-ghost use Rattle.iloc_timed.specs.Rows.{kind_in};
 ghost use Rattle.iloc_judge.specs.UnitRule.{breaks, broken_rule, rule_told, rule_words};
 
 use iloc_ops::{NoMemory, Op};
-use iloc_timed::{Kind, Row};
+use iloc_timed::{Kind, Row, kind_in};
 
 /// A rule of the units.
 #[derive(Clone, Copy, Debug, PartialEq, Eq)]
@@ -29,13 +28,6 @@ const UNIT_RULES: [UnitRule; 5] = [
     UnitRule::ProductsOnOne,
     UnitRule::MemoryOnZero,
 ];
-
-/// The kind of the operation in a slot.
-fn kind_in(ops: &[Op], slot: Option<usize>) -> Option<Kind>
-    ensures { result ≡ kind_in ops.now slot }
-{
-    slot.map(|i| ops.get(i).map_or(Kind::Other, Kind::of))
-}
 
 impl UnitRule {
     /// Whether what is on unit 0 and on unit 1 breaks the rule.

@@ -1,6 +1,6 @@
 use Rattle.std.proofs.Common.{◌≤◌, ◌+◌, length, arith}
 use Rattle.iloc_timed.specs.Cycles.{cycles}
-use Rattle.iloc_farm.proofs.Schedules.{cycles_within}
+use Rattle.iloc_optimum.proofs.Improvements.{cycles_within}
 use Rattle.iloc_farm.proofs.listing.count_of.Goals as goal
 
 pub overflow_cast-result : goal.overflow_cast-result
