@@ -15,7 +15,8 @@ use Rattle.iloc_validation.specs.declared.lawfulness.Issue.{Issue}
 use Rattle.iloc_validation.specs.declared.reading.Reading.{Reading}
 use Rattle.iloc_validation.specs.declared.counterparts.lacking.Lacking.{Lacking}
 use Rattle.iloc_validation.specs.ByTheBook.{due, read}
-use Rattle.iloc_validation.specs.Lawfulness.{issue_of, AreLacking, AreLeftOut, AreAdded, IsShort}
+use Rattle.iloc_validation.specs.Lawfulness.{issue_of, AreLeftOut, AreAdded}
+use Rattle.iloc_validation.specs.Counts.{AreLacking, IsShort}
 use Rattle.iloc_validation.specs.Readings.{reading_of, sources_of}
 use Rattle.iloc_validation.proofs.SourceLists.{few_used}
 use Rattle.iloc_reasons.specs.declared.fact.Fact.TheVariants.{Brings, Replaced}

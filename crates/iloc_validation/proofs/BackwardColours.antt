@@ -8,7 +8,8 @@ use Rattle.std.proofs.Math.Nat.{mod-add-mod, add_comm}
 use Rattle.iloc_validation.specs.declared.reading.sources.Sources.{Sources}
 use Rattle.iloc_validation.specs.declared.reading.sources.Sources.TheVariants.{Nothing, One, Two}
 use Rattle.iloc_validation.specs.Steps.Colours.{mixed, said, heard_of, heard, IsBelow, AreBelow, AreBackwards, ReadAlike, HaveColours}
-use Rattle.iloc_validation.specs.Steps.Sources.{sources_at, by_numbers}
+use Rattle.iloc_validation.specs.Steps.Sources.{by_numbers}
+use Rattle.iloc_validation.specs.Readings.{sources_at}
 use Rattle.iloc_validation.proofs.ColourSums.{ranges_paired}
 
 -- nothing is heard of what isn't read

@@ -3,8 +3,8 @@ use Rattle.std.proofs.Common.{◌≡◌, ◌<◌, ℕ, List, length, Option, Som
 use Rattle.iloc_ops.specs.declared.op.Op.{Op}
 use Rattle.iloc_meaning.specs.Trace.{op_at}
 use Rattle.iloc_validation.specs.declared.counterparts.lacking.Lacking.{Lacking}
-use Rattle.iloc_validation.specs.Counts.{lacking, IsShort}
-use Rattle.iloc_validation.specs.Steps.Counterparts.{AreCounterparts, IsLackingIn, AreLacking}
+use Rattle.iloc_validation.specs.Counts.{lacking, IsShort, AreLacking}
+use Rattle.iloc_validation.specs.Steps.Counterparts.{AreCounterparts, IsLackingIn}
 use Rattle.iloc_validation.proofs.NthLike.{lacking_is, short_is}
 
 pub none_lacking : (ops others : List Op) (counterparts : List (Option ℕ)) → AreCounterparts ops others counterparts

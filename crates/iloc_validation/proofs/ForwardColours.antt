@@ -4,7 +4,8 @@ use Rattle.std.specs.Prelude.{slice_index, IfSome}
 use Rattle.iloc_validation.specs.declared.reading.sources.Sources.{Sources}
 use Rattle.iloc_validation.specs.declared.reading.sources.Sources.TheVariants.{Nothing, One, Two}
 use Rattle.iloc_validation.specs.Steps.Colours.{mixed, told, with_told, IsBelow, AreBelow, AreForwards, ReadAlike, HaveColours}
-use Rattle.iloc_validation.specs.Steps.Sources.{sources_at, by_numbers}
+use Rattle.iloc_validation.specs.Steps.Sources.{by_numbers}
+use Rattle.iloc_validation.specs.Readings.{sources_at}
 
 module _ (f g : ℕ → ℕ) where
   module _ (to : ℕ → ℕ) (p q : ℕ) (same : (j : ℕ) → j < p → to j < q → f j ≡ g (to j)) where

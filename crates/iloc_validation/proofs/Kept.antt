@@ -16,9 +16,9 @@ use Rattle.iloc_validation.specs.declared.reading.Reading.{Reading}
 use Rattle.iloc_validation.specs.declared.reading.sources.Sources.{Sources}
 use Rattle.iloc_validation.specs.ByTheBook.{read, given, IsScheduleUnder}
 use Rattle.iloc_validation.specs.Steps.Pairing.{LeadsBack}
-use Rattle.iloc_validation.specs.Steps.Readings.{reading_at}
+use Rattle.iloc_validation.specs.Readings.{reading_at, sources_of}
 use Rattle.iloc_validation.specs.Steps.Sides.{AreSides, IsKept}
-use Rattle.iloc_validation.specs.Steps.Sources.{sources_of, by_numbers}
+use Rattle.iloc_validation.specs.Steps.Sources.{by_numbers}
 use Rattle.iloc_validation.specs.Steps.Waits.{earliest}
 use Rattle.iloc_validation.proofs.EarliestCycles.{waited_for, waits_no_more}
 use Rattle.iloc_validation.proofs.SourceLists.{few_used, by_numbers_of, lists_same, sources_from_lists}

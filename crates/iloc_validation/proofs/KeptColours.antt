@@ -18,9 +18,9 @@ use Rattle.iloc_validation.specs.declared.reading.sources.Sources.{Sources}
 use Rattle.iloc_validation.specs.declared.reading.sources.Sources.TheVariants.{Nothing, One, Two}
 use Rattle.iloc_validation.specs.ByTheBook.{read, given, result_in, IsScheduleUnder}
 use Rattle.iloc_validation.specs.Steps.Colours.{AreKept, IsBelow, AreBelow, ReadAlike, HaveColours, ArePassed, ArePassedTo, IsOrderOf, AreColoured}
-use Rattle.iloc_validation.specs.Steps.Readings.{reading_at}
+use Rattle.iloc_validation.specs.Readings.{reading_at, sources_of, sources_at}
 use Rattle.iloc_validation.specs.Steps.Sides.{AreSides}
-use Rattle.iloc_validation.specs.Steps.Sources.{sources_of, sources_at, by_numbers}
+use Rattle.iloc_validation.specs.Steps.Sources.{by_numbers}
 use Rattle.iloc_validation.proofs.Renumbered.{mapped_twice}
 use Rattle.iloc_validation.proofs.SourceLists.{by_numbers_of, sources_from_lists}
 

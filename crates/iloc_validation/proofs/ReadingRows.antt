@@ -16,8 +16,8 @@ use Rattle.iloc_validation.specs.declared.reading.run.Run.{Run}
 use Rattle.iloc_validation.specs.declared.reading.sources.Sources.TheVariants.{Nothing}
 use Rattle.iloc_validation.specs.ByTheBook.{read}
 use Rattle.iloc_validation.specs.Steps.Tracks.Holders.{holder}
-use Rattle.iloc_validation.specs.Steps.Readings.{reading_at, reading_of, with_noted, AreNoted}
-use Rattle.iloc_validation.specs.Steps.Sources.{sources_of}
+use Rattle.iloc_validation.specs.Steps.Readings.{with_noted, AreNoted}
+use Rattle.iloc_validation.specs.Readings.{reading_at, reading_of, sources_of}
 use Rattle.iloc_validation.specs.Steps.Tracks.{Tracks}
 use Rattle.iloc_validation.proofs.SourceLists.{sources_same}
 use Rattle.iloc_validation.proofs.Tracking.{log_before, held_is_read}

@@ -5,7 +5,8 @@ use Rattle.iloc_ops.specs.declared.op.Op.{Op}
 use Rattle.iloc_ops.specs.declared.op.Op.TheVariants.{Nop}
 use Rattle.iloc_ops.specs.Registers.{used}
 use Rattle.iloc_validation.specs.declared.reading.sources.Sources.TheVariants.{One, Two}
-use Rattle.iloc_validation.specs.Steps.Sources.{sources_of, by_numbers}
+use Rattle.iloc_validation.specs.Steps.Sources.{by_numbers}
+use Rattle.iloc_validation.specs.Readings.{sources_of}
 
 pub few_used : (op : Op) → length (used op) ≤ 2
 few_used Nop = omega arith

@@ -7,7 +7,7 @@ use Rattle.iloc_timed.specs.Rows.{issue_cycle}
 use Rattle.iloc_validation.specs.declared.lawfulness.Issue.{Issue}
 use Rattle.iloc_validation.specs.declared.lawfulness.LeftOut.{LeftOut}
 use Rattle.iloc_validation.specs.declared.lawfulness.Added.{Added}
-pub use Rattle.iloc_validation.specs.Counts.{are_alike, count_like, lacks_counterpart, lacking, IsShort, AreLacking}
+use Rattle.iloc_validation.specs.Counts.{lacking, IsShort}
 
 -- Operations left out and added
 

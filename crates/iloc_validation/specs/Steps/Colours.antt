@@ -12,9 +12,9 @@ use Rattle.iloc_validation.specs.declared.reading.sources.Sources.{Sources}
 use Rattle.iloc_validation.specs.declared.reading.sources.Sources.TheVariants.{Nothing, One, Two}
 use Rattle.iloc_validation.specs.ByTheBook.{IsScheduleUnder}
 use Rattle.iloc_validation.specs.Steps.Pairing.{LeadsBack}
-use Rattle.iloc_validation.specs.Steps.Readings.{reading_at}
+use Rattle.iloc_validation.specs.Readings.{reading_at, sources_at}
 use Rattle.iloc_validation.specs.Steps.Sides.{AreSides}
-use Rattle.iloc_validation.specs.Steps.Sources.{sources_at, by_numbers}
+use Rattle.iloc_validation.specs.Steps.Sources.{by_numbers}
 
 -- under whatever pairing the rows are a schedule of the block, each operation has the colour of the one that it is
 abbrev pub AreKept : Latencies → List Op → List Op → List Row → List ℕ → List ℕ → Type 0

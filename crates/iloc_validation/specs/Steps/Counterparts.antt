@@ -8,7 +8,6 @@ use Rattle.iloc_validation.specs.declared.counterparts.unpaired.Unpaired.{Unpair
 use Rattle.iloc_validation.specs.declared.counterparts.chains.Chains.{Chains}
 use Rattle.iloc_validation.specs.declared.counterparts.lacking.Lacking.{Lacking}
 use Rattle.iloc_validation.specs.Counts.{are_alike, count_like}
-pub use Rattle.iloc_validation.specs.Counts.{AreLacking}
 use Rattle.iloc_validation.specs.Labels.{label_key}
 
 -- the first operation that waits, of those like this one

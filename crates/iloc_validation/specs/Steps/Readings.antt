@@ -6,7 +6,6 @@ use Rattle.iloc_timed.specs.declared.row.Row.{Row}
 use Rattle.iloc_timed.specs.Rows.{issue_cycle}
 use Rattle.iloc_validation.specs.declared.reading.Reading.{Reading}
 use Rattle.iloc_validation.specs.Readings.{reading_of, reading_at}
-pub use Rattle.iloc_validation.specs.Readings.{reading_of, reading_at}
 
 -- the list with what is noted of what stands in a slot
 abbrev pub with_noted : List Reading → Option ℕ → (ℕ → Reading) → List Reading

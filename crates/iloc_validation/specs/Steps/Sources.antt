@@ -2,7 +2,6 @@
 use Rattle.std.specs.Prelude.{ℕ, option_map}
 use Rattle.iloc_validation.specs.declared.reading.sources.Sources.{Sources}
 use Rattle.iloc_validation.specs.declared.reading.sources.Sources.TheVariants.{Nothing, One, Two}
-pub use Rattle.iloc_validation.specs.Readings.{sources_of, sources_at}
 
 -- the same operations by other numbers
 abbrev pub by_numbers : (ℕ → ℕ) → Sources → Sources

@@ -15,7 +15,7 @@ pub(crate) struct Holders {
 impl Holders {
     ghost use Rattle.iloc_ops.specs.declared.op.Reg.{Reg as Register};
     ghost use Rattle.iloc_ops.specs.Registers.{used};
-    ghost use Rattle.iloc_validation.specs.Steps.Sources.{sources_of};
+    ghost use Rattle.iloc_validation.specs.Readings.{sources_of};
     ghost use Rattle.iloc_validation.specs.Steps.Tracks.Holders.{holder, ChangesOnly};
 
     /// No register holds a result.

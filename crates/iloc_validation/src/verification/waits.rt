@@ -2,7 +2,7 @@
 ghost use Rattle.std.specs.Prelude.{◌≡◌, ◌<◌, ◌≤◌, ◌+◌, ℕ, max, fold, map, length, slice_index, IfOk};
 ghost use Rattle.iloc_meaning.specs.Trace.{op_at};
 ghost use Rattle.iloc_timed.specs.Kinds.{kind};
-ghost use Rattle.iloc_validation.specs.Steps.Readings.{reading_at};
+ghost use Rattle.iloc_validation.specs.Readings.{reading_at};
 ghost use Rattle.iloc_validation.specs.Steps.Waits.{earliest};
 
 use crate::reading::Reading;

@@ -8,7 +8,7 @@ use Rattle.iloc_validation.specs.declared.reading.sources.Sources.{Sources}
 use Rattle.iloc_validation.specs.declared.reading.sources.Sources.TheVariants.{Nothing}
 use Rattle.iloc_validation.specs.ByTheBook.{given}
 use Rattle.iloc_validation.specs.Steps.Tracks.Holders.{holder}
-use Rattle.iloc_validation.specs.Steps.Sources.{sources_of}
+use Rattle.iloc_validation.specs.Readings.{sources_of}
 use Rattle.iloc_validation.proofs.GivenSources.{push_more, none_set, one_set}
 use Rattle.iloc_validation.proofs.SourceLists.{sources_same}
 use Rattle.iloc_validation.proofs.reading.given.givens.Goals as goal

@@ -4,7 +4,7 @@ use Rattle.iloc_ops.specs.Registers.{used}
 use Rattle.iloc_meaning.specs.Trace.{op_at}
 use Rattle.iloc_validation.specs.ByTheBook.{given}
 use Rattle.iloc_validation.specs.Steps.Tracks.Holders.{holder}
-use Rattle.iloc_validation.specs.Steps.Sources.{sources_of, sources_at}
+use Rattle.iloc_validation.specs.Readings.{sources_of, sources_at}
 use Rattle.iloc_validation.proofs.reading.given.givens.Given as goal
 
 abbrev pub invariant-loop-i : goal.invariant-loop-i

@@ -3,7 +3,7 @@ use Rattle.std.proofs.lemmas.List.{get_or_default, length_push}
 use Rattle.iloc_ops.specs.declared.op.Op.TheVariants.{Nop}
 use Rattle.iloc_meaning.specs.Trace.{op_at}
 use Rattle.iloc_timed.specs.Kinds.{kind}
-use Rattle.iloc_validation.specs.Steps.Readings.{reading_at}
+use Rattle.iloc_validation.specs.Readings.{reading_at}
 use Rattle.iloc_validation.specs.Steps.Waits.{earliest, wait_of}
 use Rattle.iloc_validation.proofs.EarliestCycles.{noted_next}
 use Rattle.iloc_validation.proofs.GivenSources.{push_more}
