@@ -4,8 +4,7 @@ use Rattle.std.proofs.lemmas.Bool.{ne_eqb}
 use Rattle.std.specs.List.{AllByRecursion, fold}
 use Rattle.clap.specs.Faults.{default_fault, defaults_fault, values_fault}
 use Rattle.clap.specs.Kinds.{or_else, request_kinds}
-use Rattle.clap.specs.Walk.{Row, Rule, Text, action_of, default_rows, has_row, is_empty}
-use Rattle.clap.specs.Walk.{reading_by, with_default}
+use Rattle.clap.specs.Walk.{Row, Rule, Text, action_of, default_rows, has_row, is_empty, reading_by, with_default}
 use Rattle.clap.specs.declared.parser.matches.ValueSource.TheVariants.{DefaultValue}
 use Rattle.iloc_args.proofs.Rows.{AllKept, both_empty, with_values_kept}
 use Rattle.iloc_args.proofs.Uses.{IsOurs}

@@ -1,6 +1,5 @@
 -- What the typed getters of the matches give, where the matches hold numbers.
-use Rattle.std.proofs.Common.{◌≡◌, ◌∙◌, ◌<◌, ◌≤◌, ◌^◌, ℕ, List, [], ◌∷◌, Some, None, Option, Ok, Err, Result}
-use Rattle.std.proofs.Common.{map, refl, sym, ap, subst, arith, lit<, append_assoc, ◌++◌}
+use Rattle.std.proofs.Common.{◌≡◌, ◌∙◌, ◌<◌, ◌≤◌, ◌^◌, ℕ, List, [], ◌∷◌, Some, None, Option, Ok, Err, Result, map, refl, sym, ap, subst, arith, lit<, append_assoc, ◌++◌}
 use Rattle.std.specs.Prelude.{IfSome, option_map, unwrap_or}
 use Rattle.std.specs.Str.Parse.{ParsesUnsigned, ExplainsUnsignedError, HasUnsignedDigitsIfOk}
 use Rattle.std.specs.declared.num.ParseIntError.{ParseIntError}

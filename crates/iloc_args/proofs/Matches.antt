@@ -1,6 +1,5 @@
 -- The matches of a command hold numbers in their ranges and flags, where the parser finds no fault in the words.
-use Rattle.std.proofs.Common.{◌≡◌, ◌∙◌, ◌||◌, ◌++◌, ℕ, Bool, true, false, cond, pos, List, [], ◌∷◌, Some, None}
-use Rattle.std.proofs.Common.{Option, map, refl, sym, ap, subst, codes}
+use Rattle.std.proofs.Common.{◌≡◌, ◌∙◌, ◌||◌, ◌++◌, ℕ, Bool, true, false, cond, pos, List, [], ◌∷◌, Some, None, Option, map, refl, sym, ap, subst, codes}
 use Rattle.std.specs.Prelude.{Box, IfSome, find, option_and_then, option_map, slice_get, unwrap_or}
 use Rattle.std.specs.Box.{box_value}
 use Rattle.std.specs.List.{AllByRecursion, list_all}
@@ -11,8 +10,7 @@ use Rattle.std.proofs.lemmas.Slice.Eq.{bytes_eq-Decides}
 use Rattle.clap.specs.Facts.{parser_of_value}
 use Rattle.clap.specs.Faults.{entered_fault, level_fault, walk_fault}
 use Rattle.clap.specs.Kinds.{values_kinds}
-use Rattle.clap.specs.Simple.{Shape, built, built_leaf, entered, help_shape, inherited, label_of, names_of, rows_at}
-use Rattle.clap.specs.Simple.{subcommand_of, subcommand_rows}
+use Rattle.clap.specs.Simple.{Shape, built, built_leaf, entered, help_shape, inherited, label_of, names_of, rows_at, subcommand_of, subcommand_rows}
 use Rattle.clap.specs.Values.{read_as, reading_of}
 use Rattle.clap.specs.Walk.{Row, Rule, Text, answers_to, arg_by_id, nothing_held, row_text, rows_after, stop_after, walk_from}
 use Rattle.clap.specs.declared.builder.value_parser.Reading.{Reading}

@@ -6,8 +6,7 @@ use Rattle.std.specs.Option.{option_map_or}
 use Rattle.clap.specs.Faults.{action_fault, repeat_fault, settle_fault, use_fault, values_fault}
 use Rattle.clap.specs.Facts.{unwrap_or_range}
 use Rattle.clap.specs.Kinds.{range_kinds}
-use Rattle.clap.specs.Walk.{Held, Row, Rule, Text, action_of, arg_by_id, most_values, reading_by, settled}
-use Rattle.clap.specs.Walk.{settled_rows, used, used_as, used_by_id, values_or_missing, without}
+use Rattle.clap.specs.Walk.{Held, Row, Rule, Text, action_of, arg_by_id, most_values, reading_by, settled, settled_rows, used, used_as, used_by_id, values_or_missing, without}
 use Rattle.clap.specs.declared.builder.action.ArgAction.{ArgAction}
 use Rattle.clap.specs.declared.builder.action.ArgAction.TheVariants.{Set, Append, SetTrue, Help}
 use Rattle.clap.specs.declared.parser.matches.ValueSource.TheVariants.{CommandLine}

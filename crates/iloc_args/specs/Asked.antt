@@ -1,6 +1,5 @@
 -- What the words of a command line ask for, as a function of these words.
-use Rattle.std.specs.Prelude.{ℕ, Bool, false, List, [], map, Option, find, codes}
-use Rattle.std.specs.Prelude.{option_and_then, option_map, unwrap_or}
+use Rattle.std.specs.Prelude.{ℕ, Bool, false, List, [], map, Option, find, codes, option_and_then, option_map, unwrap_or}
 use Rattle.std.specs.Option.{option_map_or}
 use Rattle.std.specs.Str.{bytes_eq}
 use Rattle.std.specs.Str.Parse.{digits_value, without_leading_plus}

@@ -1,6 +1,5 @@
 -- What a command line comes to: a request, or one of the faults.
-use Rattle.std.specs.Prelude.{◌≡◌, ◌≢◌, ◌⊎◌, ◌<◌, ◌≤◌, ◌+◌, ◌*◌, ◌%◌, ◌&&◌, true, ℕ, List, [], Some}
-use Rattle.std.specs.Prelude.{length}
+use Rattle.std.specs.Prelude.{◌≡◌, ◌≢◌, ◌⊎◌, ◌<◌, ◌≤◌, ◌+◌, ◌*◌, ◌%◌, ◌&&◌, true, ℕ, List, [], Some, length}
 use Rattle.clap.specs.Kinds.{IsAmong, Kinds}
 use Rattle.clap.specs.Words.{Text, fault_of}
 use Rattle.clap.specs.declared.error.kind.ErrorKind.{ErrorKind}
@@ -10,8 +9,7 @@ use Rattle.iloc_args.specs.Asked.{Asked, asked}
 use Rattle.iloc_args.specs.Command.{farm_app}
 use Rattle.iloc_args.specs.Priority.{IsNoPriority}
 use Rattle.iloc_args.specs.declared.fault.LineFault.{LineFault}
-use Rattle.iloc_args.specs.declared.fault.LineFault.TheVariants.{Help, Refused, BadStart}
-use Rattle.iloc_args.specs.declared.fault.LineFault.TheVariants.{TooManyWords, NoSuchPriority, TwoForms, NoMemory}
+use Rattle.iloc_args.specs.declared.fault.LineFault.TheVariants.{Help, Refused, BadStart, TooManyWords, NoSuchPriority, TwoForms, NoMemory}
 
 -- what the parser finds wrong with the words: the kinds of the first step that fails, and none
 -- where it takes them

@@ -1,6 +1,5 @@
 -- What the commands list of a block, and that requests that ask alike list one text.
-use Rattle.std.proofs.Common.{◌≡◌, ℕ, ℤ, false, List, [], ◌++◌, Option, Some, None, Result, Ok, Err, OnOk, IfOk, refl, sym, ap, ap₂, ◌∙◌, subst}
-use Rattle.std.proofs.Common.{append_assoc, append-nil, ◌&&◌, Bool, true}
+use Rattle.std.proofs.Common.{◌≡◌, ℕ, ℤ, false, List, [], ◌++◌, Option, Some, None, Result, Ok, Err, OnOk, IfOk, refl, sym, ap, ap₂, ◌∙◌, subst, append_assoc, append-nil, ◌&&◌, Bool, true}
 use Rattle.std.proofs.Math.Path.{transport}
 use Rattle.std.specs.Prelude.{codes, is_none}
 use Rattle.iloc_ops.specs.declared.file.Block.{Block}
@@ -36,8 +35,7 @@ use Rattle.iloc_farm.specs.Commands.Schedule.{IsScheduleEntry}
 use Rattle.iloc_farm.specs.Commands.Simulate.{IsSimulateEntry}
 use Rattle.iloc_farm.specs.Commands.Trace.{IsTraceEntry}
 use Rattle.iloc_farm.specs.Laws.{AskAlike, SimulatingListsRuns, searches}
-use Rattle.iloc_farm.specs.Listing.{block_head, bound_comment, cycles_of, entries, opening_as, outcome_entry, schedule_entry, shown_entry}
-use Rattle.iloc_farm.specs.Listing.{total_of_all, words_or_fault}
+use Rattle.iloc_farm.specs.Listing.{block_head, bound_comment, cycles_of, entries, opening_as, outcome_entry, schedule_entry, shown_entry, total_of_all, words_or_fault}
 use Rattle.iloc_farm.specs.Run.{IsListingFor}
 use Rattle.iloc_farm.specs.Schedules.{IsCount, IsGreedyAs, IsTheGreedy}
 use Rattle.iloc_farm.specs.Entries.{AreListed}

@@ -17,8 +17,7 @@ use Rattle.iloc_args.specs.declared.fault.LineFault.TheVariants.{Help, Refused, 
 use Rattle.iloc_args.specs.declared.request.Request.{Request}
 use Rattle.iloc_farm.specs.Run.Apart.{Held}
 use Rattle.iloc_farm.specs.Run.Device.{WritesFront}
-use Rattle.iloc_farm.specs.Fault.{run_status_of, run_text}
-use Rattle.iloc_farm.specs.Fault.{status_of_finding}
+use Rattle.iloc_farm.specs.Fault.{run_status_of, run_text, status_of_finding}
 use Rattle.iloc_farm.specs.Run.{EndsRun, ListsFrom}
 use Rattle.iloc_farm.specs.declared.listing.writing.WriteFailed.{WriteFailed}
 use Rattle.iloc_farm.specs.declared.program.Fault.{Fault}

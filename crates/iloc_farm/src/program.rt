@@ -3,8 +3,7 @@ ghost use Rattle.std.specs.Prelude.{◌≡◌, IfErr, IfOk, IfSome, List, drop, 
 ghost use Rattle.std.specs.Io.KnownBytes.{Appends};
 ghost use Rattle.std.specs.Vec.Iter.{into_iter_items};
 ghost use Rattle.iloc_args.specs.Asked.{asked_in};
-ghost use Rattle.iloc_farm.specs.Program.{AskFor, Ends, IsDone, IsStopped, MakeNone, Says};
-ghost use Rattle.iloc_farm.specs.Program.{named_line, words_line};
+ghost use Rattle.iloc_farm.specs.Program.{AskFor, Ends, IsDone, IsStopped, MakeNone, Says, named_line, words_line};
 ghost use Rattle.iloc_farm.specs.Work.{HasReceipt};
 ghost use Rattle.iloc_farm.specs.Run.{EndsRun, ListsFrom};
 

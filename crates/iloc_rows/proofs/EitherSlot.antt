@@ -9,8 +9,7 @@ use Rattle.std.proofs.lemmas.Bool.{and_from, and_right}
 use Rattle.iloc_ops.specs.Limits.{MAX_OPS}
 use Rattle.iloc_ops.specs.declared.op.Op.{Op}
 use Rattle.iloc_timed.specs.declared.row.Row.{Row}
-use Rattle.iloc_timed.specs.Rows.{slots, times_issued, keeps_units}
-use Rattle.iloc_timed.specs.Rows.{IsTable, row_at}
+use Rattle.iloc_timed.specs.Rows.{slots, times_issued, keeps_units, IsTable, row_at}
 use Rattle.iloc_timed.specs.Schedule.{AreOnce, AreInRange, IsFirstBadRow, in_range}
 use Rattle.iloc_timed.proofs.Standing.{table_from}
 use Rattle.iloc_rows.specs.declared.proposal.Proposed.{Proposed}

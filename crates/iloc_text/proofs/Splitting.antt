@@ -1,10 +1,9 @@
 -- How a text falls into its lines.
 use Rattle.std.proofs.Common.{◌≡◌, ℕ, ◌+◌, ◌≤◌, nat_lt, Option, Bool, true, false, cond, not, List, [], ◌∷◌, length, take, drop, refl, sym, Some, None, arith}
 use Rattle.std.specs.List.{onto_first, position_or_len, slice_index, AllByRecursion}
-use Rattle.std.proofs.lemmas.List.Sums.{position_or_len_is}
+use Rattle.std.proofs.lemmas.List.Sums.{position_or_len_is, count_by-le-length}
 use Rattle.memchr.specs.Find.{IsFirstByte, is_byte}
 use Rattle.std.proofs.lemmas.List.Splits.{slice_split_first, length-slice_split, join_with_byte-slice_split}
-use Rattle.std.proofs.lemmas.List.Sums.{count_by-le-length}
 use Rattle.std.proofs.lemmas.Bool.Decides.{nat_tests}
 use Rattle.std.proofs.lemmas.Bool.{false_from_ne_true, lt-ltb}
 use Rattle.iloc_text.specs.Lines.{is_line_end, line_end, lines_of}

@@ -2,8 +2,7 @@
 use Rattle.std.specs.Prelude.{ℕ, List, ◌++◌, codes}
 use Rattle.std.specs.Fmt.{decimal}
 use Rattle.iloc_text.specs.declared.fault.ReadFault.{ReadFault}
-use Rattle.iloc_text.specs.declared.fault.ReadFault.TheVariants.{InputTooLong, BadLine, NumberTooLarge}
-use Rattle.iloc_text.specs.declared.fault.ReadFault.TheVariants.{TooManyBlocks, TooManyOperations, NoMemory}
+use Rattle.iloc_text.specs.declared.fault.ReadFault.TheVariants.{InputTooLong, BadLine, NumberTooLarge, TooManyBlocks, TooManyOperations, NoMemory}
 
 -- the number of a line, and what is wrong with it
 abbrev pub of_line : ℕ → List ℕ → List ℕ

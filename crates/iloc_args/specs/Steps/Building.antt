@@ -6,8 +6,7 @@ use Rattle.clap.specs.declared.builder.command.Command.TheViews.{out-Command}
 use Rattle.clap.specs.declared.builder.value_parser.ValueParser.{ValueParser}
 use Rattle.clap.specs.Words.{App, Rule, Shape, Text, app_of, new_rule, rule_of, with_subcommand}
 use Rattle.clap.specs.Simple.{new_shape}
-use Rattle.iloc_args.specs.Command.{Subcommand, at_rule, flag_rule, latency_rule, nodes_rule, priority_rule, search_rule, shape, top_shape}
-use Rattle.iloc_args.specs.Command.{task_rule, words_rule, workers_rule}
+use Rattle.iloc_args.specs.Command.{Subcommand, at_rule, flag_rule, latency_rule, nodes_rule, priority_rule, search_rule, shape, top_shape, task_rule, words_rule, workers_rule}
 use Rattle.iloc_args.specs.declared.command.Argument.{Argument}
 use Rattle.iloc_args.specs.declared.command.Argument.TheVariants.{At, Words, Workers, Latency, Priority, Nodes, NodesIfGiven, Task, Flag}
 use Rattle.iloc_args.specs.declared.command.Entry.{Entry}

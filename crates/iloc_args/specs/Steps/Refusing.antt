@@ -5,8 +5,7 @@ use Rattle.clap.specs.declared.error.kind.ErrorKind.TheVariants.{OutOfMemory}
 use Rattle.iloc_args.specs.Asked.{Asked}
 use Rattle.iloc_args.specs.Due.{AsksForTwoForms, IsAskedFor, Overflows, RanksByNone, StartsAmiss}
 use Rattle.iloc_args.specs.declared.fault.LineFault.{LineFault}
-use Rattle.iloc_args.specs.declared.fault.LineFault.TheVariants.{Help, Refused, BadStart}
-use Rattle.iloc_args.specs.declared.fault.LineFault.TheVariants.{TooManyWords, NoSuchPriority, TwoForms, NoMemory}
+use Rattle.iloc_args.specs.declared.fault.LineFault.TheVariants.{Help, Refused, BadStart, TooManyWords, NoSuchPriority, TwoForms, NoMemory}
 
 -- the fault is the one for an error of the parser of this kind
 abbrev pub IsFaultBy : ErrorKind → LineFault → Type 0

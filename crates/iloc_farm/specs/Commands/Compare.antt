@@ -1,6 +1,5 @@
 -- `compare` lists the bound on each block's cycles, and the cycles of its schedules by each heuristic.
-use Rattle.std.specs.Prelude.{ℕ, ◌≡◌, ◌==◌, nat_le, Bool, true, false, if◌then◌else◌, List, [], ◌++◌, slice_index, sum_by, length, Option, Some}
-use Rattle.std.specs.Prelude.{None, codes}
+use Rattle.std.specs.Prelude.{ℕ, ◌≡◌, ◌==◌, nat_le, Bool, true, false, if◌then◌else◌, List, [], ◌++◌, slice_index, sum_by, length, Option, Some, None, codes}
 use Rattle.std.specs.List.{flat_map, list_all, join_by}
 use Rattle.std.specs.Option.{option_map_or}
 use Rattle.std.specs.Fmt.{decimal}

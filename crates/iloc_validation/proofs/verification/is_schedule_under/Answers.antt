@@ -1,6 +1,5 @@
-use Rattle.std.proofs.Common.{◌≡◌, true, refl, sym, ◌∙◌, arith}
+use Rattle.std.proofs.Common.{◌≡◌, true, refl, sym, ◌∙◌, arith, below_more}
 use Rattle.std.proofs.lemmas.Bool.{true≢false, false≢true}
-use Rattle.std.proofs.Common.{below_more}
 use Rattle.iloc_validation.proofs.Kept.{issued_early, are_kept, is_under}
 use Rattle.iloc_validation.proofs.verification.is_schedule_under.Goals as goal
 
