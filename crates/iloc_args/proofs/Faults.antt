@@ -53,8 +53,5 @@ refused_words a words e f is h =
     go : (f : LineFault) → HasKind (fault_of farm_app words) e → IsFaultBy (kind_of e) f → IsDue words f
     go (Help text) has by = (kind_of e, among (Help text) has (asked_is_no_want (kind_of e) by), by)
     go (Refused text) has by = (kind_of e, among (Refused text) has by.1, by.0)
-    go (BadStart at) has by = absurd by
-    go TooManyWords has by = absurd by
-    go NoSuchPriority has by = absurd by
-    go TwoForms has by = absurd by
     go NoMemory has by = tt
+    go _ has by = absurd by

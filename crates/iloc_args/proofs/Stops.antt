@@ -21,8 +21,7 @@ IsWithin _ = Unit {0}
 
 plain_within : (c : List Rule) (waiting : Waiting) (word : Text) (h : Held) → IsWithin (plain_word c waiting word h).1
 plain_within c idle word h = tt
-plain_within c positional word h = tt
-plain_within c (option id) word h = tt
+plain_within c _ word h = tt
 
 flag_within : (c : List Rule) (waiting : Waiting) (word : Text) (h : Held) (met : Outcome)
     → IsWithin (after_flag c waiting word h met).1

@@ -165,10 +165,8 @@ module _ (s : Shape) (ours : AllOurs s.rules) where
 
   step_kept : (word : Text) (w : Walk) (h : Held) (step : Step) → IsHeld s.rules h
       → step_fault s w.position h step ≡ [] → IsHeld s.rules (after_step s.rules word w h step).held
-  step_kept word w h (next waiting) held e = held
-  step_kept word w h (trailing at) held e = held
-  step_kept word w h (subcommand name) held e = held
   step_kept word w h value held e = positional_kept (arg_by_index s.rules w.position) word w h held e
+  step_kept word w h _ held e = held
 
   -- ---- the walk
 

@@ -40,38 +40,23 @@ use Rattle.iloc_farm.proofs.Checks.{passed_keep_outcomes, passed_may_pass}
 
 text_above_0 : (fault : ReadFault) → text_status fault ≡ 0 → ⊥
 text_above_0 text.InputTooLong zero = omega arith
-text_above_0 (text.BadLine n) zero = omega arith
-text_above_0 (text.NumberTooLarge n) zero = omega arith
-text_above_0 (text.TooManyBlocks n) zero = omega arith
-text_above_0 (text.TooManyOperations n) zero = omega arith
-text_above_0 text.NoMemory zero = omega arith
+text_above_0 _ zero = omega arith
 
 rows_above_0 : (fault : RowsFault) → rows_status fault ≡ 0 → ⊥
 rows_above_0 (rows.Read fault) zero = text_above_0 fault zero
-rows_above_0 rows.NoBlocks zero = omega arith
-rows_above_0 (rows.NoSuchBlock n) zero = omega arith
+rows_above_0 _ zero = omega arith
 
 task_above_0 : (fault : TaskFault) → task_status fault ≡ 0 → ⊥
-task_above_0 task_fault.NoFile zero = omega arith
-task_above_0 task_fault.NotOpened zero = omega arith
-task_above_0 task_fault.ReadFailed zero = omega arith
 task_above_0 (task_fault.Text fault) zero = rows_above_0 fault zero
+task_above_0 _ zero = omega arith
 
 above_0 : (held : Held) (words : Result Args Error) (read_old read_new written_old written_new : Option (List ℕ)) (fault : Fault)
     → IsStopped held words read_old read_new written_old written_new fault → status_of fault ≡ 0 → ⊥
 above_0 held words ro rn wo wn (Line (line.Help help)) stopped zero = stopped.no_help
-above_0 held words ro rn wo wn (Line (line.Refused said)) stopped zero = omega arith
-above_0 held words ro rn wo wn (Line (line.BadStart at)) stopped zero = omega arith
-above_0 held words ro rn wo wn (Line line.TooManyWords) stopped zero = omega arith
-above_0 held words ro rn wo wn (Line line.NoSuchPriority) stopped zero = omega arith
-above_0 held words ro rn wo wn (Line line.TwoForms) stopped zero = omega arith
-above_0 held words ro rn wo wn (Line line.NoMemory) stopped zero = omega arith
-above_0 held words ro rn wo wn (Run ReadFailed) stopped zero = omega arith
 above_0 held words ro rn wo wn (Run (Text fault)) stopped zero = text_above_0 fault zero
 above_0 held words ro rn wo wn (Run (Rows fault)) stopped zero = rows_above_0 fault zero
 above_0 held words ro rn wo wn (Run (of_task fault)) stopped zero = task_above_0 fault zero
-above_0 held words ro rn wo wn (Run (Farm fault)) stopped zero = omega arith
-above_0 held words ro rn wo wn (Run WriteFailed) stopped zero = omega arith
+above_0 held words ro rn wo wn _ stopped zero = omega arith
 
 passed_at_0 : (finding : Finding) → status_of_finding finding ≡ 0 → finding ≡ Passed
 passed_at_0 Passed zero = λ i. Passed

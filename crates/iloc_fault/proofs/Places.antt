@@ -38,26 +38,15 @@ record ReachesBad (op : Op) (reg : Reg → ℤ) : Type 0 where
 faults_reach : (op : Op) (reg : Reg → ℤ) (word : ℕ → ℤ) → is_fault (effect op reg word) ≡ true → ReachesBad op reg
 faults_reach (Load addr dest) reg word h =
     record { address = reg addr; reaches = refl; bad = good_or_not (reg addr) (λ a. Gives (word a)) (λ n. refl) h }
-faults_reach (LoadI value dest) reg word h = cc
 faults_reach (Store value addr) reg word h =
     record { address = reg addr; reaches = refl; bad = good_or_not (reg addr) (λ a. Writes a (reg value)) (λ n. refl) h }
-faults_reach (Add left right dest) reg word h = cc
-faults_reach (Sub left right dest) reg word h = cc
-faults_reach (Mult left right dest) reg word h = cc
-faults_reach (Lshift left right dest) reg word h = cc
-faults_reach (Rshift left right dest) reg word h = cc
 faults_reach (Output addr) reg word h =
     record { address = constant addr; reaches = refl; bad = good_or_not (constant addr) (λ a. Emits (word a)) (λ n. refl) h }
-faults_reach Nop reg word h = cc
-faults_reach (AddI left value dest) reg word h = cc
-faults_reach (SubI left value dest) reg word h = cc
-faults_reach (MultI left value dest) reg word h = cc
-faults_reach (LshiftI left value dest) reg word h = cc
-faults_reach (RshiftI left value dest) reg word h = cc
 faults_reach (LoadAI addr offset dest) reg word h =
     record { address = wrapped (reg addr +ℤ constant offset); reaches = refl; bad = good_or_not (wrapped (reg addr +ℤ constant offset)) (λ a. Gives (word a)) (λ n. refl) h }
 faults_reach (StoreAI value addr offset) reg word h =
     record { address = wrapped (reg addr +ℤ constant offset); reaches = refl; bad = good_or_not (wrapped (reg addr +ℤ constant offset)) (λ a. Writes a (reg value)) (λ n. refl) h }
+faults_reach _ reg word h = cc
 
 -- and the other way round
 bad_faults : (a : ℤ) (act : ℕ → Effect) → is_good a ≡ false → is_fault (at_address (good_address a) act) ≡ true
@@ -70,22 +59,11 @@ same_address a b same bad = let one : a ≡ b = cc in ap is_good one ∙ bad
 reach_faults : (op : Op) (reg : Reg → ℤ) (word : ℕ → ℤ) (address : ℤ) → reached op reg ≡ Some address
     → is_good address ≡ false → is_fault (effect op reg word) ≡ true
 reach_faults (Load addr dest) reg word a r bad = bad_faults (reg addr) (λ n. Gives (word n)) (same_address (reg addr) a r bad)
-reach_faults (LoadI value dest) reg word a r bad = cc
 reach_faults (Store value addr) reg word a r bad = bad_faults (reg addr) (λ n. Writes n (reg value)) (same_address (reg addr) a r bad)
-reach_faults (Add left right dest) reg word a r bad = cc
-reach_faults (Sub left right dest) reg word a r bad = cc
-reach_faults (Mult left right dest) reg word a r bad = cc
-reach_faults (Lshift left right dest) reg word a r bad = cc
-reach_faults (Rshift left right dest) reg word a r bad = cc
 reach_faults (Output addr) reg word a r bad = bad_faults (constant addr) (λ n. Emits (word n)) (same_address (constant addr) a r bad)
-reach_faults Nop reg word a r bad = cc
-reach_faults (AddI left value dest) reg word a r bad = cc
-reach_faults (SubI left value dest) reg word a r bad = cc
-reach_faults (MultI left value dest) reg word a r bad = cc
-reach_faults (LshiftI left value dest) reg word a r bad = cc
-reach_faults (RshiftI left value dest) reg word a r bad = cc
 reach_faults (LoadAI addr offset dest) reg word a r bad = bad_faults (wrapped (reg addr +ℤ constant offset)) (λ n. Gives (word n)) (same_address (wrapped (reg addr +ℤ constant offset)) a r bad)
 reach_faults (StoreAI value addr offset) reg word a r bad = bad_faults (wrapped (reg addr +ℤ constant offset)) (λ n. Writes n (reg value)) (same_address (wrapped (reg addr +ℤ constant offset)) a r bad)
+reach_faults _ reg word a r bad = cc
 
 left_or : (a b : Bool) → a ≡ true → (a || b) ≡ true
 left_or true b h = refl

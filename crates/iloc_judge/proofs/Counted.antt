@@ -37,10 +37,7 @@ EmitsAtMost n O.Fault = Unit {0}
 
 one_emitted : (effect : Effect) → length (emitted_by effect) ≤ 1
 one_emitted Faults = omega arith
-one_emitted (Gives result) = omega arith
-one_emitted (Writes address word) = omega arith
-one_emitted (Emits word) = omega arith
-one_emitted Nothing = omega arith
+one_emitted _ = omega arith
 
 few_emitted : (trace : List Executed) → length (emitted trace) ≤ length trace
 few_emitted [] = omega arith

@@ -17,10 +17,7 @@ exceeds before line r n (TooManyBlocks k) reads many =
     (many.0, record { reading = r; read = reads; blocks = many.1 })
 exceeds before line r n (TooManyOperations k) reads many =
     (many.0, record { reading = r; read = reads; blocks = many.1; operations = many.2 })
-exceeds before line r n InputTooLong reads many = absurd many
-exceeds before line r n (BadLine k) reads many = absurd many
-exceeds before line r n (NumberTooLarge k) reads many = absurd many
-exceeds before line r n NoMemory reads many = absurd many
+exceeds before line r n _ reads many = absurd many
 
 pub added_judged : (before : List Reading) (line : List ℕ) (r : Reading) (n : ℕ) (old new : Counts)
     (result : Result (Unit {0}) ReadFault) → Count before old → length before + 1 ≡ n → Reads line r.label r.op

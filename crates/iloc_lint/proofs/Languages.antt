@@ -29,13 +29,11 @@ End = Blanks ⋅ OptionalComment
 
 lead_text : (lead : Lead) (w : List ℕ) → LeadText lead w → PartText (lead_part lead) w
 lead_text space w h = h
-lead_text comma w h = h
-lead_text arrow w h = h
+lead_text _ w h = h
 
 text_lead : (lead : Lead) (w : List ℕ) → PartText (lead_part lead) w → LeadText lead w
 text_lead space w h = h
-text_lead comma w h = h
-text_lead arrow w h = h
+text_lead _ w h = h
 
 value_text : (value : Value) (w : List ℕ) → number_in value ≤ MAX_NUMBER → ValueText value w
     → PartText (value_part value) w

@@ -38,9 +38,8 @@ nothing_said = record { labelled = false; op = None }
 line_said : (label : Option (List ℕ)) (op : Option Op)
     → said_after nothing_said (with_line label op []) ≡ record { labelled = is_some label; op = op }
 line_said None None = refl
-line_said None (Some op) = refl
-line_said (Some name) None = refl
-line_said (Some name) (Some op) = refl
+line_said _ None = refl
+line_said _ _ = refl
 
 one_said : (r : Reading) → said_after nothing_said (file_of (r ∷ [])) ≡ record { labelled = is_some r.label; op = r.op }
 one_said r = ap (said_after nothing_said) (file-snoc [] r ∙ ap (with_line r.label r.op) nothing_read) ∙ line_said r.label r.op

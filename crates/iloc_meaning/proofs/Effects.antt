@@ -83,16 +83,12 @@ load_has_result z word = at_address_cases (λ e. has_no_result e ≡ false) z (�
 -- an operation that gives no result defines no register
 pub defined-no_result : (op : Op) (reg : Reg → ℤ) (word : ℕ → ℤ) → has_no_result (effect op reg word) ≡ true
     → defined op ≡ None
-defined-no_result (Store value addr) reg word is = refl
-defined-no_result (StoreAI value addr offset) reg word is = refl
-defined-no_result (Output addr) reg word is = refl
-defined-no_result Nop reg word is = refl
 defined-no_result (Load addr dest) reg word is =
     let not : has_no_result (effect (Load addr dest) reg word) ≡ false = load_has_result (reg addr) word in absurd cc
 defined-no_result (LoadAI addr offset dest) reg word is =
     let not : has_no_result (effect (LoadAI addr offset dest) reg word) ≡ false =
     load_has_result (wrapped (reg addr +ℤ constant offset)) word in absurd cc
-defined-no_result _ reg word is = absurd cc
+defined-no_result _ reg word is = cc
 
 -- whether a write, if the effect is one, is to a good address
 abbrev pub writes_well : Effect → Bool

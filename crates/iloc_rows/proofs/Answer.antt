@@ -89,11 +89,6 @@ no_fault blocks ss line n fault s h f k = k
 -- one line has one fault at most
 same_fault : (blocks : List Block) (ss : List Told) (line : List ℕ) (n : ℕ) (fault fault' : RowsFault)
     → IsFaulty blocks ss line n fault → IsFaulty blocks ss line n fault' → fault ≡ fault'
-same_fault blocks ss line n (Read InputTooLong) g h k = absurd h
-same_fault blocks ss line n (Read (NumberTooLarge m)) g h k = absurd h
-same_fault blocks ss line n (Read (TooManyBlocks m)) g h k = absurd h
-same_fault blocks ss line n (Read NoMemory) g h k = absurd h
-same_fault blocks ss line n NoBlocks g h k = absurd h
 same_fault blocks ss line n (Read (BadLine m)) (Read (BadLine j)) h k = ap (λ i. Read (BadLine i)) (h.0 ∙ sym k.0)
 same_fault blocks ss line n (Read (BadLine m)) (Read (TooManyOperations j)) h k = absurd (not_many k.1 h.1)
 same_fault blocks ss line n (Read (BadLine m)) (NoSuchBlock j) h k = absurd (not_both h.1 k.1)
@@ -104,7 +99,7 @@ same_fault blocks ss line n (Read (TooManyOperations m)) (NoSuchBlock j) h k = a
 same_fault blocks ss line n (NoSuchBlock m) (Read (BadLine j)) h k = absurd (not_both k.1 h.1)
 same_fault blocks ss line n (NoSuchBlock m) (Read (TooManyOperations j)) h k = absurd (not_many k.1 h.1)
 same_fault blocks ss line n (NoSuchBlock m) (NoSuchBlock j) h k = ap (λ i. NoSuchBlock i) (h.0 ∙ sym k.0)
-same_fault blocks ss line n fault fault' h k = absurd k
+same_fault blocks ss line n _ _ h k = first_of (absurd h, absurd k)
 
 -- a line with a fault, after lines that fit after a front
 record Faulty (blocks : List Block) (front : List Told) (n : ℕ) (before : List (List ℕ)) (line : List ℕ)

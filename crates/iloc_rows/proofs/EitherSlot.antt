@@ -35,9 +35,8 @@ either_times i ops row = by (not (keeps_units ops row) && keeps_units ops (excha
 
 and_swap : (a b : Bool) → (a && b) ≡ (b && a)
 and_swap true true = refl
-and_swap true false = refl
-and_swap false true = refl
-and_swap false false = refl
+and_swap _ true = refl
+and_swap _ _ = refl
 
 exchanged_in_range : (count : ℕ) (row : Row) → in_range count (exchanged row) ≡ in_range count row
 exchanged_in_range count row =

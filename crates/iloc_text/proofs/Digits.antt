@@ -62,10 +62,8 @@ rest_of bytes q r s = drop (1 + from_bool (nat_lt q 10) + from_bool (nat_lt q 10
 
 behind : (a : ℕ) (rest : List ℕ) (x y z : Bool)
     → drop (1 + from_bool x + from_bool (x && y) + from_bool ((x && y) && z)) (a ∷ rest) ≡ drop (count_of x y z) rest
-behind a rest false y z = refl
-behind a rest true false z = refl
-behind a rest true true false = refl
 behind a rest true true true = refl
+behind a rest _ _ _ = refl
 
 pub four_passed : (bytes : List ℕ) (p q r s : ℕ) → 5 ≤ length bytes → DigitIn (get_or bytes 0 0) p
     → DigitIn (get_or bytes 1 0) q → DigitIn (get_or bytes 2 0) r → DigitIn (get_or bytes 3 0) s → nat_lt p 10 ≡ true

@@ -40,7 +40,5 @@ opcode-op_of _ ns = refl
 
 pub operands-op_of : (o : Opcode) (ns : List ℕ) → operands (op_of o ns) ≡ filled (operands_of o) ns
 operands-op_of O.Nop ns = refl
-operands-op_of _ [] = refl
-operands-op_of _ (a ∷ []) = refl
-operands-op_of _ (a ∷ b ∷ []) = refl
 operands-op_of _ (a ∷ b ∷ c ∷ ns) = refl
+operands-op_of _ _ = refl

@@ -129,13 +129,6 @@ front_text StoreAI a b c d e f g h more a' b' c' d' e' f' g' is =
 pub begins : (o : Opcode) (bytes : List ℕ) → 8 ≤ length bytes → ((i : ℕ) → get_or bytes i 0 < 256)
     → from_le_bytes w64 (get_or bytes 0 0 ∷ get_or bytes 1 0 ∷ get_or bytes 2 0 ∷ get_or bytes 3 0 ∷ get_or bytes 4 0 ∷ get_or bytes 5 0 ∷ get_or bytes 6 0 ∷ get_or bytes 7 0 ∷ []) * 2 ^ (64 - 8 * length (opcode_text o)) % 2 ^ 64 ≡ from_le_bytes w64 (word_of o)
     → bytes ≡ opcode_text o ++ drop (length (opcode_text o)) bytes
-begins o [] long small is = absurd (omega (arith, long))
-begins o (a ∷ []) long small is = absurd (omega (arith, long))
-begins o (a ∷ b ∷ []) long small is = absurd (omega (arith, long))
-begins o (a ∷ b ∷ c ∷ []) long small is = absurd (omega (arith, long))
-begins o (a ∷ b ∷ c ∷ d ∷ []) long small is = absurd (omega (arith, long))
-begins o (a ∷ b ∷ c ∷ d ∷ e ∷ []) long small is = absurd (omega (arith, long))
-begins o (a ∷ b ∷ c ∷ d ∷ e ∷ f ∷ []) long small is = absurd (omega (arith, long))
-begins o (a ∷ b ∷ c ∷ d ∷ e ∷ f ∷ g ∷ []) long small is = absurd (omega (arith, long))
 begins o (a ∷ b ∷ c ∷ d ∷ e ∷ f ∷ g ∷ h ∷ more) long small is =
     front_text o a b c d e f g h more (small 0) (small 1) (small 2) (small 3) (small 4) (small 5) (small 6) is
+begins o _ long small is = absurd (omega (arith, long))

@@ -133,11 +133,8 @@ issued_within ops rows i within table = issued_below ops rows i within (table_nu
 
 -- no operation takes longer than the longest latency
 latency_le_longest : (lat : Latencies) (k : Kind) → latency_of lat k ≤ longest lat
-latency_le_longest lat K.Load = omega arith
-latency_le_longest lat K.Store = omega arith
-latency_le_longest lat K.Mult = omega arith
-latency_le_longest lat K.Output = let some : 1 ≤ lat.load = lat.some_load in omega arith
-latency_le_longest lat K.Other = let some : 1 ≤ lat.load = lat.some_load in omega arith
+latency_le_longest lat K.Load = let some : 1 ≤ lat.load = lat.some_load in omega arith
+latency_le_longest lat _ = let some : 1 ≤ lat.load = lat.some_load in omega arith
 
 -- the last arrival of what is issued from cycle c on
 pub record IsLastFrom (lat : Latencies) (ops : List Op) (rows : List Row) (c last : ℕ) : Type 0 where

@@ -159,26 +159,18 @@ word_is_left v (Some e) = refl
 register_case : (r : Reg) (register : Option Reg) (effect : Effect) (v : ℤ) → is_fault effect ≡ false
     → GoesTo register effect → fold (landed_in_register r) v (option_to_list (sent_by register effect))
     ≡ (if is_register r register then result_of effect else v)
-register_case r None Faults v fault goes = refl
 register_case r None (Gives result) v fault goes = absurd goes
-register_case r None (Writes a w) v fault goes = refl
-register_case r None (Emits w) v fault goes = refl
-register_case r None Nothing v fault goes = refl
+register_case r None _ v fault goes = refl
 register_case r (Some s) Faults v fault goes = absurd cc
 register_case r (Some s) (Gives result) v fault goes = refl
-register_case r (Some s) (Writes a w) v fault goes = absurd goes
-register_case r (Some s) (Emits w) v fault goes = absurd goes
-register_case r (Some s) Nothing v fault goes = absurd goes
+register_case r (Some s) _ v fault goes = absurd goes
 
 word_case : (a : ℕ) (register : Option Reg) (effect : Effect) (v : ℤ)
     → fold (landed_in_word a) v (option_to_list (sent_by register effect))
     ≡ (if is_write_to a effect then written_by effect else v)
-word_case a register Faults v = refl
 word_case a None (Gives result) v = refl
-word_case a (Some s) (Gives result) v = refl
-word_case a register (Writes b w) v = refl
-word_case a register (Emits w) v = refl
-word_case a register Nothing v = refl
+word_case a _ Faults v = refl
+word_case a _ _ v = refl
 
 -- one cycle on, the registers and the words are those before with what is due then
 pub register_more : (r : Reg) (n d : ℕ) (log : List Issued) → AllLand n log → register_in (landed (d + 1) log) r

@@ -43,20 +43,14 @@ AreLanded place landed = (due issued : ℕ) (d : Option Reg) (effect : Effect) (
     ≡ fold landed v (option_to_list (pending_by d effect))
 
 register_lands : (r : Reg) → AreLanded (Register r) (landed_in_register r)
-register_lands r due issued d Faults v = refl
 register_lands r due issued None (Gives result) v = refl
-register_lands r due issued (Some s) (Gives result) v = refl
-register_lands r due issued d (Writes a w) v = refl
-register_lands r due issued d (Emits w) v = refl
-register_lands r due issued d Nothing v = refl
+register_lands r due issued _ Faults v = refl
+register_lands r due issued _ _ v = refl
 
 word_lands : (a : ℕ) → AreLanded (Word a) (landed_in_word a)
-word_lands a due issued d Faults v = refl
 word_lands a due issued None (Gives result) v = refl
-word_lands a due issued (Some s) (Gives result) v = refl
-word_lands a due issued d (Writes b w) v = refl
-word_lands a due issued d (Emits w) v = refl
-word_lands a due issued d Nothing v = refl
+word_lands a due issued _ Faults v = refl
+word_lands a due issued _ _ v = refl
 
 -- so does all that is due
 all_land : (lat : Latencies) (c : ℕ) (place : Place) (landed : ℤ → Pending → ℤ) → AreLanded place landed → (v : ℤ)

@@ -40,28 +40,18 @@ use Rattle.iloc_trace.specs.Laws.{IsOnTime, LawfulSchedulesReadOnTime, ReadsOnTi
 to_register : (r : Reg) (d : Option Reg) (effect : Effect) → is_place (Register r) (target_of d effect) ≡ true
     → is_register r d ≡ true
 to_register r None Faults is = absurd cc
-to_register r None (Gives result) is = absurd cc
-to_register r (Some s) Faults is = absurd cc
 to_register r (Some s) (Gives result) is = is
-to_register r d (Writes a w) is = absurd cc
-to_register r d (Emits w) is = absurd cc
-to_register r d Nothing is = absurd cc
+to_register r _ _ is = absurd cc
 
 to_word : (a : ℕ) (d : Option Reg) (effect : Effect) → is_place (Word a) (target_of d effect) ≡ true
     → is_write_to a effect ≡ true
-to_word a d Faults is = absurd cc
 to_word a None (Gives result) is = absurd cc
-to_word a (Some s) (Gives result) is = absurd cc
-to_word a d (Writes b w) is = is
-to_word a d (Emits w) is = absurd cc
-to_word a d Nothing is = absurd cc
+to_word a _ (Writes b w) is = is
+to_word a _ _ is = absurd cc
 
 no_store_reads : (k : Kind) → is_store k ≡ true → reads_memory k ≡ true → ⊥
 no_store_reads K.Store store reads = absurd cc
-no_store_reads K.Load store reads = absurd cc
-no_store_reads K.Output store reads = absurd cc
-no_store_reads K.Mult store reads = absurd cc
-no_store_reads K.Other store reads = absurd cc
+no_store_reads _ store reads = absurd cc
 
 -- each register that is read is used
 used_once : (rs : List Reg) → All (In rs) (once rs)

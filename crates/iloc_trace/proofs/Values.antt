@@ -35,26 +35,18 @@ last_newest test e earlier all = by_bool (test e.executed)
 register_case : (r : Reg) (d : Option Reg) (effect : Effect) (v : ℤ) → is_fault effect ≡ false → GoesTo d effect
     → (if is_register r d then result_of effect else v)
     ≡ (if is_place (Register r) (target_of d effect) then sent effect else v)
-register_case r None Faults v fault goes = refl
 register_case r None (Gives result) v fault goes = absurd goes
-register_case r None (Writes a w) v fault goes = refl
-register_case r None (Emits w) v fault goes = refl
-register_case r None Nothing v fault goes = refl
+register_case r None _ v fault goes = refl
 register_case r (Some s) Faults v fault goes = absurd cc
 register_case r (Some s) (Gives result) v fault goes = refl
-register_case r (Some s) (Writes a w) v fault goes = absurd goes
-register_case r (Some s) (Emits w) v fault goes = absurd goes
-register_case r (Some s) Nothing v fault goes = absurd goes
+register_case r (Some s) _ v fault goes = absurd goes
 
 word_case : (a : ℕ) (d : Option Reg) (effect : Effect) (v : ℤ)
     → (if is_write_to a effect then written_by effect else v)
     ≡ (if is_place (Word a) (target_of d effect) then sent effect else v)
-word_case a d Faults v = refl
 word_case a None (Gives result) v = refl
-word_case a (Some s) (Gives result) v = refl
-word_case a d (Writes b w) v = refl
-word_case a d (Emits w) v = refl
-word_case a d Nothing v = refl
+word_case a _ Faults v = refl
+word_case a _ _ v = refl
 
 -- a place has what the newest sent there, or else what was there
 pub value_then : (memory : List ℤ) (e : Issued) (earlier : List Issued) (place : Place) → Lands e.executed

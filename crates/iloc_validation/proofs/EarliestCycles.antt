@@ -19,10 +19,7 @@ use Rattle.iloc_validation.specs.Steps.Waits.{memory_by, earliest, wait_of, note
 pub wait_of-noted : (lat : Latencies) (a : Kind) (cycle : ℕ) (waits : Waits) (k : Kind)
     → wait_of (noted lat a cycle waits) k ≡ fold max (wait_of waits k) (map (λ d. cycle + d) (memory_by lat a k))
 wait_of-noted lat K.Load cycle waits K.Load = refl
-wait_of-noted lat K.Store cycle waits K.Load = refl
-wait_of-noted lat K.Mult cycle waits K.Load = refl
-wait_of-noted lat K.Output cycle waits K.Load = refl
-wait_of-noted lat K.Other cycle waits K.Load = refl
+wait_of-noted lat _ cycle waits K.Load = refl
 wait_of-noted lat _ cycle waits _ = refl
 
 module _ (lat : Latencies) (block : List Op) (cycle : ℕ → ℕ) where

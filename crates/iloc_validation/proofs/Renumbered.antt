@@ -18,9 +18,8 @@ pub slots_of : (f : ℕ → ℕ) (one zero : Option ℕ)
     → option_to_list (option_map f one) ++ option_to_list (option_map f zero)
     ≡ map f (option_to_list one ++ option_to_list zero)
 slots_of f None None = refl
-slots_of f None (Some z) = refl
-slots_of f (Some o) None = refl
-slots_of f (Some o) (Some z) = refl
+slots_of f _ None = refl
+slots_of f _ _ = refl
 
 pub mapped_twice : (g f : ℕ → ℕ) (o : Option ℕ) → option_map g (option_map f o) ≡ option_map (λ k. g (f k)) o
 mapped_twice g f None = refl

@@ -8,23 +8,8 @@ use Rattle.iloc_ops.specs.contracts.op.OpPartialEq.TheImpl as of_ops
 
 op_equal : (a b : Op) → of_ops.eq-value.it a b ≡ true → a ≡ b
 op_equal Nop Nop same = refl
-op_equal (Load a b) (Load a' b') same = search rules
-op_equal (LoadI a b) (LoadI a' b') same = search rules
-op_equal (Store a b) (Store a' b') same = search rules
-op_equal (Add a b c) (Add a' b' c') same = search rules
-op_equal (Sub a b c) (Sub a' b' c') same = search rules
-op_equal (Mult a b c) (Mult a' b' c') same = search rules
-op_equal (Lshift a b c) (Lshift a' b' c') same = search rules
-op_equal (Rshift a b c) (Rshift a' b' c') same = search rules
-op_equal (Output a) (Output a') same = search rules
-op_equal (AddI a b c) (AddI a' b' c') same = search rules
-op_equal (SubI a b c) (SubI a' b' c') same = search rules
-op_equal (MultI a b c) (MultI a' b' c') same = search rules
-op_equal (LshiftI a b c) (LshiftI a' b' c') same = search rules
-op_equal (RshiftI a b c) (RshiftI a' b' c') same = search rules
-op_equal (LoadAI a b c) (LoadAI a' b' c') same = search rules
-op_equal (StoreAI a b c) (StoreAI a' b' c') same = search rules
-op_equal a b same = absurd (true≢false (sym same))
+op_equal _ Nop same = absurd (true≢false (sym same))
+op_equal _ _ same = first_of (absurd (true≢false (sym same)), search rules)
 
 op_itself : (a : Op) → of_ops.eq-value.it a a ≡ true
 op_itself Nop = refl

@@ -19,26 +19,21 @@ sources_same f g (r ∷ s ∷ rest) same = ap₂ Two (same r) (same s)
 
 pub by_numbers_of : (f : ℕ → ℕ) (g : Reg → Option ℕ) (rs : List Reg)
     → by_numbers f (sources_of g rs) ≡ sources_of (λ r. option_map f (g r)) rs
-by_numbers_of f g [] = refl
-by_numbers_of f g (r ∷ []) = refl
 by_numbers_of f g (r ∷ s ∷ rest) = refl
+by_numbers_of f g _ = refl
 
 pub lists_same : (f g : Reg → Option ℕ) (rs ss : List Reg) → length rs ≤ 2 → length ss ≤ 2
     → sources_of f rs ≡ sources_of g ss → map f rs ≡ map g ss
 lists_same f g [] [] few short same = refl
 lists_same f g [] (s ∷ []) few short same = absurd cc
-lists_same f g [] (s ∷ t ∷ rest) few short same = absurd cc
-lists_same f g (r ∷ []) [] few short same = absurd cc
 lists_same f g (r ∷ []) (s ∷ []) few short same = let one : f r ≡ g s = cc in ap (λ x. x ∷ []) one
-lists_same f g (r ∷ []) (s ∷ t ∷ rest) few short same = absurd cc
-lists_same f g (r ∷ q ∷ []) [] few short same = absurd cc
-lists_same f g (r ∷ q ∷ []) (s ∷ []) few short same = absurd cc
 lists_same f g (r ∷ q ∷ []) (s ∷ t ∷ []) few short same =
     let one : f r ≡ g s = cc in
     let two : f q ≡ g t = cc in
     ap₂ (λ x y. x ∷ y ∷ []) one two
 lists_same f g (r ∷ q ∷ []) (s ∷ t ∷ u ∷ rest) few short same = absurd (omega arith)
 lists_same f g (r ∷ q ∷ p ∷ rest) ss few short same = absurd (omega arith)
+lists_same f g _ _ few short same = absurd cc
 
 pub sources_from_lists : (f g : Reg → Option ℕ) (rs ss : List Reg) → map f rs ≡ map g ss → sources_of f rs ≡ sources_of g ss
 sources_from_lists f g [] [] same = refl

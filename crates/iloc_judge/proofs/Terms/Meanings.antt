@@ -27,35 +27,17 @@ word_of d (Offset base c) = wrapped (d.word base +ℤ c)
 word_of d (Scaled factor by) = wrapped (d.word factor *ℤ by)
 word_of d (Combined by left right) = computed by (d.word left) (d.word right)
 word_of d (Word address m) = d.words m (d.word address)
-word_of d Start = pos 0
-word_of d (Epoch m base trie) = pos 0
-word_of d Empty = pos 0
-word_of d (Leaf at value) = pos 0
-word_of d (Fork even odd) = pos 0
+word_of d _ = pos 0
 
 abbrev words_of : List ℤ → Meaning → Node → ℤ → ℤ
-words_of memory d (Known word) z = pos 0
-words_of memory d (Offset base c) z = pos 0
-words_of memory d (Scaled factor by) z = pos 0
-words_of memory d (Combined by left right) z = pos 0
-words_of memory d (Word address m) z = pos 0
 words_of memory d Start z = word_or_zero memory z
 words_of memory d (Epoch m base trie) z = unwrap_or (d.entry trie (key_of (base_word d base) z)) (d.words m z)
-words_of memory d Empty z = pos 0
-words_of memory d (Leaf at value) z = pos 0
-words_of memory d (Fork even odd) z = pos 0
+words_of memory d _ z = pos 0
 
 abbrev entry_of : Meaning → Node → ℕ → Option ℤ
-entry_of d (Known word) key = None
-entry_of d (Offset base c) key = None
-entry_of d (Scaled factor by) key = None
-entry_of d (Combined by left right) key = None
-entry_of d (Word address m) key = None
-entry_of d Start key = None
-entry_of d (Epoch m base trie) key = None
-entry_of d Empty key = None
 entry_of d (Leaf at value) key = if key == at then Some (d.word value) else None
 entry_of d (Fork even odd) key = if key % 2 == 0 then d.entry even (key / 2) else d.entry odd (key / 2)
+entry_of d _ key = None
 
 -- a meaning with one number more
 abbrev with_node : List ℤ → Meaning → ℕ → Node → Meaning
@@ -204,11 +186,7 @@ word_of_fits d (Offset base c) fit = SFits-int_wrap w32 (d.word base +ℤ c)
 word_of_fits d (Scaled factor by) fit = SFits-int_wrap w32 (d.word factor *ℤ by)
 word_of_fits d (Combined by left right) fit = computed_fits by (d.word left) (d.word right) (fit.word left)
 word_of_fits d (Word address m) fit = fit.words m (d.word address)
-word_of_fits d Start fit = zero_fits
-word_of_fits d (Epoch m base trie) fit = zero_fits
-word_of_fits d Empty fit = zero_fits
-word_of_fits d (Leaf at value) fit = zero_fits
-word_of_fits d (Fork even odd) fit = zero_fits
+word_of_fits d _ fit = zero_fits
 
 word_at_fits : (memory : List ℤ) (a : ℕ) → All (FitsSigned w32) memory → FitsSigned w32 (word_at memory a)
 word_at_fits memory a fits = elim (cases_lt (a / 4) (length memory)) [
@@ -228,32 +206,18 @@ unwrap_fits (Some w) word some fits = some
 
 words_of_fits : (memory : List ℤ) (d : Meaning) (node : Node) (z : ℤ) → All (FitsSigned w32) memory → AllFit d
     → FitsSigned w32 (words_of memory d node z)
-words_of_fits memory d (Known word) z fits fit = zero_fits
-words_of_fits memory d (Offset base c) z fits fit = zero_fits
-words_of_fits memory d (Scaled factor by) z fits fit = zero_fits
-words_of_fits memory d (Combined by left right) z fits fit = zero_fits
-words_of_fits memory d (Word address m) z fits fit = zero_fits
 words_of_fits memory d Start z fits fit = word_or_zero_fits memory z fits
 words_of_fits memory d (Epoch m base trie) z fits fit =
     unwrap_fits (d.entry trie (key_of (base_word d base) z)) (d.words m z)
     (fit.entry trie (key_of (base_word d base) z)) (fit.words m z)
-words_of_fits memory d Empty z fits fit = zero_fits
-words_of_fits memory d (Leaf at value) z fits fit = zero_fits
-words_of_fits memory d (Fork even odd) z fits fit = zero_fits
+words_of_fits memory d _ z fits fit = zero_fits
 
 entry_of_fits : (d : Meaning) (node : Node) (key : ℕ) → AllFit d → IfSome (entry_of d node key) (λ w. FitsSigned w32 w)
-entry_of_fits d (Known word) key fit = tt
-entry_of_fits d (Offset base c) key fit = tt
-entry_of_fits d (Scaled factor by) key fit = tt
-entry_of_fits d (Combined by left right) key fit = tt
-entry_of_fits d (Word address m) key fit = tt
-entry_of_fits d Start key fit = tt
-entry_of_fits d (Epoch m base trie) key fit = tt
-entry_of_fits d Empty key fit = tt
 entry_of_fits d (Leaf at value) key fit =
     by_bool (key == at) (λ same. rw same (fit.word value)) (λ other. rw other tt)
 entry_of_fits d (Fork even odd) key fit =
     by_bool (key % 2 == 0) (λ same. rw same (fit.entry even (key / 2))) (λ other. rw other (fit.entry odd (key / 2)))
+entry_of_fits d _ key fit = tt
 
 all_fit : (memory : List ℤ) (nodes : List Node) (n : ℕ) → All (FitsSigned w32) memory
     → AllFit (meaning_of memory nodes n)

@@ -34,10 +34,8 @@ no_slot p (Some i) h = let none : count_by p (i ∷ []) ≡ 0 =
     count_by-cons p i [] ∙ ap (λ b. cond {A = ℕ} b 1 0 + 0) (h i refl) in omega arith
 
 units_parts : (a b c : Bool) → (not a && not b && not c) ≡ true → (a ≡ false) × (b ≡ false) × (c ≡ false)
-units_parts true b c h = cc
-units_parts false true c h = cc
-units_parts false false true h = cc
 units_parts false false false h = (refl, refl, refl)
+units_parts _ _ _ h = cc
 
 -- the parts of the rules of the units
 units_of : (ops : List Op) (row : Row) → IsTrue (keeps_units ops row)

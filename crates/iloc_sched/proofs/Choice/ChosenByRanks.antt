@@ -32,44 +32,16 @@ use Rattle.iloc_sched.proofs.Choice.IssuedChoice.{issued_at}
 
 beside_by_class : (a b : Kind) → may_stand_beside a b ≡ not (excludes (class_of a) (class_of b))
 beside_by_class K.Load K.Load = refl
-beside_by_class K.Load K.Store = refl
-beside_by_class K.Load K.Mult = refl
-beside_by_class K.Load K.Output = refl
-beside_by_class K.Load K.Other = refl
-beside_by_class K.Store K.Load = refl
-beside_by_class K.Store K.Store = refl
-beside_by_class K.Store K.Mult = refl
-beside_by_class K.Store K.Output = refl
-beside_by_class K.Store K.Other = refl
-beside_by_class K.Mult K.Load = refl
-beside_by_class K.Mult K.Store = refl
-beside_by_class K.Mult K.Mult = refl
-beside_by_class K.Mult K.Output = refl
-beside_by_class K.Mult K.Other = refl
-beside_by_class K.Output K.Load = refl
-beside_by_class K.Output K.Store = refl
-beside_by_class K.Output K.Mult = refl
-beside_by_class K.Output K.Output = refl
-beside_by_class K.Output K.Other = refl
-beside_by_class K.Other K.Load = refl
-beside_by_class K.Other K.Store = refl
-beside_by_class K.Other K.Mult = refl
-beside_by_class K.Other K.Output = refl
-beside_by_class K.Other K.Other = refl
+beside_by_class _ K.Load = refl
+beside_by_class _ _ = refl
 
 mult_by_class : (a : Kind) → is_mult a ≡ is_product_class (class_of a)
 mult_by_class K.Load = refl
-mult_by_class K.Store = refl
-mult_by_class K.Mult = refl
-mult_by_class K.Output = refl
-mult_by_class K.Other = refl
+mult_by_class _ = refl
 
 memory_by_class : (a : Kind) → is_memory a ≡ is_memory_class (class_of a)
 memory_by_class K.Load = refl
-memory_by_class K.Store = refl
-memory_by_class K.Mult = refl
-memory_by_class K.Output = refl
-memory_by_class K.Other = refl
+memory_by_class _ = refl
 
 -- what keeps none out of a row that is empty
 open_alone : (b : Bool) → not b ≡ true → b ≡ false

@@ -34,18 +34,12 @@ alone_on_zero _ is = refl
 
 first_on_one : (a b : Kind) → (not (may_stand_beside a b) || (not (goes_on_one a b) || fits (Some b) (Some a))) ≡ true
 first_on_one K.Load K.Load = refl
-first_on_one K.Store K.Load = refl
-first_on_one K.Mult K.Load = refl
-first_on_one K.Output K.Load = refl
-first_on_one K.Other K.Load = refl
+first_on_one _ K.Load = refl
 first_on_one _ _ = refl
 
 first_on_zero : (a b : Kind) → (not (may_stand_beside a b) || (goes_on_one a b || fits (Some a) (Some b))) ≡ true
 first_on_zero K.Load K.Load = refl
-first_on_zero K.Store K.Load = refl
-first_on_zero K.Mult K.Load = refl
-first_on_zero K.Output K.Load = refl
-first_on_zero K.Other K.Load = refl
+first_on_zero _ K.Load = refl
 first_on_zero _ _ = refl
 
 -- the second, if any, can go beside the first

@@ -17,42 +17,20 @@ use Rattle.iloc_sched.proofs.Walking.EdgeWalk.{Enters}
 
 pub place_small : (k : Class) → place_of k < 4
 place_small C.Memory = omega arith
-place_small C.Product = omega arith
-place_small C.Output = omega arith
-place_small C.Rest = omega arith
+place_small _ = omega arith
 
 same_class : (l k : Class) → place_of l ≡ place_of k → (excludes k k || false) ≡ excludes l k
 same_class C.Memory C.Memory same = refl
 same_class C.Product C.Product same = refl
 same_class C.Output C.Output same = refl
 same_class C.Rest C.Rest same = refl
-same_class C.Memory C.Product same = absurd (omega arith)
-same_class C.Memory C.Output same = absurd (omega arith)
-same_class C.Memory C.Rest same = absurd (omega arith)
-same_class C.Product C.Memory same = absurd (omega arith)
-same_class C.Product C.Output same = absurd (omega arith)
-same_class C.Product C.Rest same = absurd (omega arith)
-same_class C.Output C.Memory same = absurd (omega arith)
-same_class C.Output C.Product same = absurd (omega arith)
-same_class C.Output C.Rest same = absurd (omega arith)
-same_class C.Rest C.Memory same = absurd (omega arith)
-same_class C.Rest C.Product same = absurd (omega arith)
-same_class C.Rest C.Output same = absurd (omega arith)
+same_class _ _ same = absurd (omega arith)
 
 other_class : (l k : Class) → place_of l ≢ place_of k → excludes l k ≡ false
 other_class C.Memory C.Memory apart = absurd (apart refl)
 other_class C.Product C.Product apart = absurd (apart refl)
 other_class C.Output C.Output apart = absurd (apart refl)
-other_class C.Rest k apart = refl
-other_class C.Memory C.Product apart = refl
-other_class C.Memory C.Output apart = refl
-other_class C.Memory C.Rest apart = refl
-other_class C.Product C.Memory apart = refl
-other_class C.Product C.Output apart = refl
-other_class C.Product C.Rest apart = refl
-other_class C.Output C.Memory apart = refl
-other_class C.Output C.Product apart = refl
-other_class C.Output C.Rest apart = refl
+other_class _ _ apart = refl
 
 pub or_true : (a b : Bool) → (a || b) ≡ true → (a ≡ true) ⊎ (b ≡ true)
 or_true true b is = inl refl

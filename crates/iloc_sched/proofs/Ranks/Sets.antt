@@ -164,13 +164,10 @@ module _ (xs ys : List ℕ) (b block : ℕ) (moved : (w : ℕ) → w / 64 ≡ bl
   block_others s r low apart = ap (λ x. eqb (bit_at x (r % 64)) 1) (kept s (r / 64) low (λ here. apart (omega arith)))
 
 offers_bits : (a b : ℕ) → a < 2 → b < 2 → (eqb a 1 && not (eqb b 1)) ≡ eqb (min a (1 - b)) 1
-offers_bits zero zero p q = refl
-offers_bits zero (suc zero) p q = refl
-offers_bits (suc zero) zero p q = refl
-offers_bits (suc zero) (suc zero) p q = refl
 offers_bits (suc (suc a)) b p q = absurd (omega arith)
 offers_bits zero (suc (suc b)) p q = absurd (omega arith)
 offers_bits (suc zero) (suc (suc b)) p q = absurd (omega arith)
+offers_bits _ _ p q = refl
 
 -- what is offered is what is open
 module _ (c : Calendar) (beside : Class) where

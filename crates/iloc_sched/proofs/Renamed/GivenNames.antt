@@ -12,8 +12,7 @@ use Rattle.iloc_sched.proofs.Renamed.Sources.{is_source-refl, is_source-true, is
 
 regroup : (a b c : Bool) → ((a || b) || c) ≡ (b || (a || c))
 regroup true true c = refl
-regroup true false c = refl
-regroup false b c = refl
+regroup _ b c = refl
 
 abbrev unless : Bool → Source → List Source
 unless b s = if b then [] else s ∷ []

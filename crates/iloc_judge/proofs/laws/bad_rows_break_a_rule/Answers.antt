@@ -11,42 +11,9 @@ use Rattle.iloc_judge.proofs.laws.bad_rows_break_a_rule.Goals as goal
 of_kinds : (zero one : Option Kind) → is_some (find (breaks zero one) unit_rules)
     ≡ not (not (is_some_kind needs_one zero) && not (is_some_kind needs_zero one)
     && not (is_some_kind stands_alone zero && is_some_kind stands_alone one))
-of_kinds None None = refl
-of_kinds None (Some K.Load) = refl
-of_kinds None (Some K.Store) = refl
-of_kinds None (Some K.Mult) = refl
-of_kinds None (Some K.Output) = refl
-of_kinds None (Some K.Other) = refl
 of_kinds (Some K.Load) None = refl
-of_kinds (Some K.Load) (Some K.Load) = refl
-of_kinds (Some K.Load) (Some K.Store) = refl
-of_kinds (Some K.Load) (Some K.Mult) = refl
-of_kinds (Some K.Load) (Some K.Output) = refl
-of_kinds (Some K.Load) (Some K.Other) = refl
-of_kinds (Some K.Store) None = refl
-of_kinds (Some K.Store) (Some K.Load) = refl
-of_kinds (Some K.Store) (Some K.Store) = refl
-of_kinds (Some K.Store) (Some K.Mult) = refl
-of_kinds (Some K.Store) (Some K.Output) = refl
-of_kinds (Some K.Store) (Some K.Other) = refl
-of_kinds (Some K.Mult) None = refl
-of_kinds (Some K.Mult) (Some K.Load) = refl
-of_kinds (Some K.Mult) (Some K.Store) = refl
-of_kinds (Some K.Mult) (Some K.Mult) = refl
-of_kinds (Some K.Mult) (Some K.Output) = refl
-of_kinds (Some K.Mult) (Some K.Other) = refl
-of_kinds (Some K.Output) None = refl
-of_kinds (Some K.Output) (Some K.Load) = refl
-of_kinds (Some K.Output) (Some K.Store) = refl
-of_kinds (Some K.Output) (Some K.Mult) = refl
-of_kinds (Some K.Output) (Some K.Output) = refl
-of_kinds (Some K.Output) (Some K.Other) = refl
-of_kinds (Some K.Other) None = refl
-of_kinds (Some K.Other) (Some K.Load) = refl
-of_kinds (Some K.Other) (Some K.Store) = refl
-of_kinds (Some K.Other) (Some K.Mult) = refl
-of_kinds (Some K.Other) (Some K.Output) = refl
-of_kinds (Some K.Other) (Some K.Other) = refl
+of_kinds _ (Some K.Load) = refl
+of_kinds _ _ = refl
 
 pub returns : goal.returns
 returns c = λ ops row. of_kinds (kind_in ops row.zero) (kind_in ops row.one)
