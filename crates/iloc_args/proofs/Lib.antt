@@ -1,16 +1,12 @@
 pub mod Arguments
 pub mod Commands
-pub mod Defaults
-pub mod Faults
 pub mod Fits
 pub mod Flags
 pub mod Getters
 pub mod Leaves
 pub mod Matches
 pub mod Numbers
-pub mod Priorities
 pub mod Rows
 pub mod Stops
-pub mod Texts
 pub mod Uses
 pub mod Walks

@@ -9,7 +9,7 @@ use Rattle.clap.specs.Lexer.{long_of, short_of}
 use Rattle.clap.specs.Faults.{bundle_fault, bundle_step_fault, flag_word_fault, flags_fault, long_fault, option_fault, other_fault, positional_fault, react_fault, settle_fault, short_fault, step_fault, stray_fault, turn_fault, use_fault, walk_fault, word_fault}
 use Rattle.clap.specs.Simple.{Shape}
 use Rattle.clap.specs.declared.error.kind.ErrorKind.TheVariants.{TooManyValues}
-use Rattle.clap.specs.Walk.{Held, Outcome, Rule, Step, Text, Waiting, Walk, after_flag, after_step, arg_by_id, arg_by_index, arg_by_long, arg_by_short, attached_value, bundle, bundle_met, bundle_step, flag_met, is_pending, long_met, long_or_other, option_met, option_word, plain_word, pushed, reacted, settled, short_met, short_or_plain, subcommand_or_other, takes_several, takes_values, to_positional, walked, walked_from, word_met, done, waits, plain, refused, idle, option, positional, next, trailing, subcommand, value}
+use Rattle.clap.specs.Walk.{Held, Outcome, Rule, Step, Text, Waiting, Walk, after_flag, after_step, arg_by_id, arg_by_index, arg_by_long, arg_by_short, attached_value, bundle, bundle_met, bundle_step, flag_met, is_pending, long_met, long_or_other, option_met, option_word, plain_word, pushed, reacted, settled, short_met, short_or_plain, subcommand_or_other, takes_several, takes_values, to_positional, walked, walked_from, word_met, done, waits, plain, refused, idle, option, positional, trailing, value}
 use Rattle.iloc_args.proofs.Rows.{AllKept, both_empty}
 use Rattle.iloc_args.proofs.Uses.{AllOurs, IsOurs, found_ours, settled_kept, use_kept}
 

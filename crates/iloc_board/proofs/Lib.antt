@@ -10,8 +10,5 @@ pub mod Passes
 pub mod Rows
 pub mod Retires
 pub mod Closes
-pub mod Reordered
 pub mod Works
 pub mod Claims
-pub mod Idle
-pub mod Finishes

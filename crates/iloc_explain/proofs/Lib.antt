@@ -8,8 +8,6 @@ pub mod OneReadyCycle
 pub mod Stretches
 pub mod Bindings
 pub mod PathWalks
-pub mod OnePath
-pub mod Explaining
 pub mod Lines
 pub mod OneText
 pub mod PathSums

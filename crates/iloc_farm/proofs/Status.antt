@@ -20,7 +20,7 @@ use Rattle.iloc_args.specs.declared.fault.LineFault.TheVariants as line
 use Rattle.iloc_args.specs.declared.request.Request.{Request}
 use Rattle.iloc_args.specs.declared.request.Task.{Task}
 use Rattle.iloc_args.specs.declared.request.Task.TheVariants as task
-use Rattle.iloc_farm.specs.declared.fault.RunFault.TheVariants.{ReadFailed, Text, Rows, Task as of_task, Farm, WriteFailed}
+use Rattle.iloc_farm.specs.declared.fault.RunFault.TheVariants.{Text, Rows, Task as of_task}
 use Rattle.iloc_farm.specs.declared.fault.TaskFault.{TaskFault}
 use Rattle.iloc_farm.specs.declared.fault.TaskFault.TheVariants as task_fault
 use Rattle.iloc_farm.specs.declared.commands.Finding.{Finding}

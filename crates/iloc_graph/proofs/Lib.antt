@@ -1,6 +1,4 @@
 pub mod Lists
-pub mod InOrder
-pub mod Longest
 pub mod Pairs
 pub mod Waiting
 pub mod Sources

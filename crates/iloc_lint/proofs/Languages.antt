@@ -10,7 +10,7 @@ use Rattle.iloc_ops.specs.declared.op.Op.TheVariants.{Nop}
 use Rattle.iloc_ops.specs.declared.forms.Opcode.{Opcode}
 use Rattle.iloc_ops.specs.declared.forms.Opcode.TheVariants as O
 use Rattle.iloc_ops.specs.Forms.{Lead, Value, Operand, opcode, operands, opcode_text, opcodes, number_in, number_of, op_of}
-use Rattle.iloc_ops.specs.Forms.Lead.{space, comma, arrow}
+use Rattle.iloc_ops.specs.Forms.Lead.{space}
 use Rattle.iloc_ops.specs.Forms.Value.{Use, Definition, Constant}
 use Rattle.iloc_text.specs.Grammar.{◌⋅◌, Text, is_blank, Blanks, LeadText, ValueText, OperandsText, OptionalComment, Reads}
 use Rattle.iloc_text.specs.Steps.Opcodes.{operands_of}

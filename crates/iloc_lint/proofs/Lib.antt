@@ -1,12 +1,9 @@
 pub mod Begins
 pub mod Counted
 pub mod OneLine
-pub mod Judged
 pub mod Linting
 pub mod Entries
-pub mod Kept
 pub mod Readers
-pub mod Short
 pub mod Listed
 pub mod Longest
 pub mod PartsAlong

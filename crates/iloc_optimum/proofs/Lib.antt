@@ -1,7 +1,5 @@
 mod NarrowerWindows
 mod FullCycles
-mod TakenCycles
-mod OverfullNests
 mod CoveredStack
 mod LawfulTimings
 pub mod Improvements

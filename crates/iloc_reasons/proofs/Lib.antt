@@ -1,2 +1,1 @@
 pub mod Claims
-pub mod AlikeTerms

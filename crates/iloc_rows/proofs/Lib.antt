@@ -7,5 +7,4 @@ pub mod Answer
 pub mod Slots
 pub mod Within
 pub mod Every
-pub mod Single
 pub mod EitherSlot

@@ -9,6 +9,5 @@ pub mod DependentsCounted
 pub mod Successors
 pub mod UsesCounted
 pub mod Named
-pub mod Slacks
 pub mod Tails
 pub mod TailsFound

@@ -10,7 +10,6 @@ pub mod Bodies
 pub mod Labels
 pub mod Caps
 pub mod Lines
-pub mod Copied
 pub mod Counts
 pub mod BlockOps
 pub mod BlockLists
@@ -26,9 +25,7 @@ pub mod ScheduleLines
 pub mod Every
 pub mod Within
 pub mod Digits
-pub mod Falling
 pub mod Apart
 pub mod TextReads
-pub mod Streams
 pub mod Places
 pub mod PartReads

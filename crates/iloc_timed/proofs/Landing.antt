@@ -8,7 +8,7 @@ use Rattle.std.proofs.lemmas.List.Elements.{filter_agree}
 use Rattle.iloc_ops.specs.declared.op.Reg.{Reg}
 use Rattle.iloc_ops.specs.Registers.{defined}
 use Rattle.iloc_meaning.specs.declared.effect.Effect.{Effect}
-use Rattle.iloc_meaning.specs.declared.effect.Effect.TheVariants.{Faults, Gives, Writes, Emits, Nothing}
+use Rattle.iloc_meaning.specs.declared.effect.Effect.TheVariants.{Faults, Gives}
 use Rattle.iloc_meaning.specs.Memory.{word_at}
 use Rattle.iloc_meaning.specs.Trace.{Executed, result_of, written_by, is_register, defines, is_write_to, writes_to, result_or_zero, written_or}
 use Rattle.iloc_meaning.specs.Outcome.{is_fault}

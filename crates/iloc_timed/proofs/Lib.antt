@@ -7,4 +7,3 @@ pub mod Turning
 pub mod Landing
 pub mod Following
 pub mod WholeRuns
-pub mod Spelled

@@ -1,6 +1,4 @@
-pub mod Arriving
 pub mod OnTheirWay
-pub mod Values
 pub mod Landing
 pub mod Issuing
 pub mod RowsOn

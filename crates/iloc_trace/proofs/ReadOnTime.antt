@@ -9,7 +9,7 @@ use Rattle.iloc_ops.specs.declared.op.Op.{Op}
 use Rattle.iloc_ops.specs.declared.op.Op.TheVariants.{Load, LoadAI, Output}
 use Rattle.iloc_ops.specs.Registers.{used, defined}
 use Rattle.iloc_meaning.specs.declared.effect.Effect.{Effect}
-use Rattle.iloc_meaning.specs.declared.effect.Effect.TheVariants.{Faults, Gives, Writes, Emits, Nothing}
+use Rattle.iloc_meaning.specs.declared.effect.Effect.TheVariants.{Faults, Gives, Writes}
 use Rattle.iloc_meaning.specs.Trace.{op_at, is_register, is_write_to}
 use Rattle.iloc_meaning.specs.Outcome.{has_fault}
 use Rattle.iloc_meaning.proofs.Cases.{by_bool}

@@ -5,7 +5,6 @@ pub mod ReadValues
 pub mod GivenReads
 pub mod Renumbered
 pub mod Outcomes
-pub mod OwnTables
 pub mod Lawful
 pub mod LabelKeys
 pub mod SourceLists
@@ -20,10 +19,7 @@ pub mod AlikeOps
 pub mod CountsLike
 pub mod NthLike
 pub mod PairedCounts
-pub mod CountReasons
-pub mod AlikeCounts
 pub mod ColourSums
-pub mod ForwardColours
 pub mod BackwardColours
 pub mod PassedColours
 pub mod KeptColours
@@ -33,7 +29,6 @@ pub mod SameRows
 pub mod NotedSlots
 pub mod SlotNumbers
 pub mod StoresUnderWay
-pub mod PairedLengths
 pub mod FirstColours
 pub mod FewerNumbers
 pub mod PlacesKept

@@ -3,7 +3,7 @@ use Rattle.std.proofs.Common.{rules, ◌≡◌, refl, sym, subst, true}
 use Rattle.std.specs.Bool.{Decides}
 use Rattle.std.proofs.lemmas.Bool.{true≢false}
 use Rattle.iloc_ops.specs.declared.op.Op.{Op}
-use Rattle.iloc_ops.specs.declared.op.Op.TheVariants.{Load, LoadI, Store, Add, Sub, Mult, Lshift, Rshift, Output, AddI, SubI, MultI, LshiftI, RshiftI, LoadAI, StoreAI, Nop}
+use Rattle.iloc_ops.specs.declared.op.Op.TheVariants.{Nop}
 use Rattle.iloc_ops.specs.contracts.op.OpPartialEq.TheImpl as of_ops
 
 op_equal : (a b : Op) → of_ops.eq-value.it a b ≡ true → a ≡ b

@@ -1,7 +1,10 @@
-use Rattle.std.proofs.Common.{sym, arith}
-use Rattle.std.proofs.lemmas.List.{length-take-le}
-use Rattle.iloc_lint.proofs.Short.{whole_shown}
+use Rattle.std.proofs.Common.{sym, arith, ◌≡◌, ℕ, ◌≤◌, List, length, take}
+use Rattle.std.proofs.lemmas.List.{length-take-le, take_all}
 use Rattle.iloc_lint.proofs.listing.front_of.Goals as goal
+
+-- What is shown of a line.
+whole_shown : (bytes : List ℕ) → length bytes ≤ 64 → bytes ≡ take 64 bytes
+whole_shown bytes short = sym (take_all 64 bytes short)
 
 pub slice_bounds-result-end : goal.slice_bounds-result-end
 slice_bounds-result-end c =

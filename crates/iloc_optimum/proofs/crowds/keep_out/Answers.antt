@@ -1,8 +1,50 @@
-use Rattle.std.proofs.Common.{◌+◌, sym, subst₂, ◌∙◌}
-use Rattle.iloc_optimum.specs.Steps.Inside.{IsKept}
-use Rattle.iloc_optimum.proofs.TakenCycles.{kept_other, kept_more}
+use Rattle.std.proofs.Common.{◌+◌, sym, subst₂, ◌∙◌, ◌≡◌, ◌≢◌, ℕ, ◌*◌, ◌-◌, ◌<◌, ◌≤◌, true, List, length, get_or, set, get_or-set_other, ◌⊎◌, inl, inr, arith}
+use Rattle.iloc_optimum.specs.Steps.Inside.{IsKept, count_inside}
+use Rattle.std.proofs.lemmas.List.{length-set}
+use Rattle.iloc_timed.specs.declared.kind.Kind.{Kind}
+use Rattle.iloc_sched.specs.declared.lower_bound.share.Share.{Share}
+use Rattle.iloc_optimum.specs.Timing.{Within, belongs}
+use Rattle.iloc_sched.specs.LowerBound.Shares.{width}
+use Rattle.iloc_optimum.proofs.NarrowerWindows.{raised, lowered}
+use Rattle.iloc_optimum.proofs.FullCycles.{left_over}
 use Rattle.iloc_optimum.proofs.crowds.keep_out.Goals as goal
 use Rattle.iloc_optimum.proofs.crowds.keep_out.Goals.{then-belongs, else-belongs}
+
+-- The windows while the full cycles are taken from them.
+kept_other : (kinds : List Kind) (F L F' L' : List ℕ) (i : ℕ) → IsKept kinds F L F' L' i → IsKept kinds F L F' L' (i + 1)
+kept_other kinds F L F' L' i kept = record {
+  same_firsts = kept.same_firsts;
+  same_lasts = kept.same_lasts;
+  later_firsts = λ k above. kept.later_firsts k (omega arith);
+  later_lasts = λ k above. kept.later_lasts k (omega arith);
+  within = kept.within;
+}
+
+kept_more : (kinds : List Kind) (F L F' L' : List ℕ) (s : Share) (a e i v w : ℕ) → length F ≡ length kinds → length L ≡ length kinds
+    → width s * (e + 1 - a) ≤ count_inside kinds F L s a e (length kinds) → i < length kinds → belongs kinds s i ≡ true
+    → ((t : ℕ) → get_or F' i 0 ≤ t → t ≤ get_or L' i 0
+    → ((a ≤ get_or F' i 0) × (get_or L' i 0 ≤ e)) ⊎ (t < a) ⊎ (e < t) → (v ≤ t) × (t ≤ w))
+    → IsKept kinds F L F' L' i → IsKept kinds F L (set F' i v) (set L' i w) (i + 1)
+kept_more kinds F L F' L' s a e i v w firsts lasts full below shares narrowed kept = record {
+  same_firsts = length-set F' i v ∙ kept.same_firsts;
+  same_lasts = length-set L' i w ∙ kept.same_lasts;
+  later_firsts = λ k above. let ne : k ≢ i = omega arith in rw get_or-set_other (kept.later_firsts k (omega arith));
+  later_lasts = λ k above. let ne : k ≢ i = omega arith in rw get_or-set_other (kept.later_lasts k (omega arith));
+  within = λ t crowds before.
+      let now : Within F' L' t = kept.within t crowds before in
+      let same_first : get_or F' i 0 ≡ get_or F i 0 = kept.later_firsts i (omega arith) in
+      let same_last : get_or L' i 0 ≡ get_or L i 0 = kept.later_lasts i (omega arith) in
+      let size_firsts : length F' ≡ length F = kept.same_firsts in
+      let size_lasts : length L' ≡ length L = kept.same_lasts in
+      let way : ((a ≤ get_or F i 0) × (get_or L i 0 ≤ e)) ⊎ (t i < a) ⊎ (e < t i) =
+      left_over kinds F L s a e t firsts lasts (crowds s) before full i below shares in
+      let there : ((a ≤ get_or F' i 0) × (get_or L' i 0 ≤ e)) ⊎ (t i < a) ⊎ (e < t i) = elim way [
+        | inl ends ↦ (let low : a ≤ get_or F i 0 = ends.0 in let high : get_or L i 0 ≤ e = ends.1 in inl (omega arith, omega arith))
+        | inr out ↦ inr out
+      ] in
+      let ends = narrowed (t i) (now.from i (omega arith)) (now.to i (omega arith)) there in
+      lowered (set F' i v) L' t i w (omega arith) ends.1 (raised F' L' t i v (omega arith) ends.0 now);
+}
 
 pub loop-i-preserved : goal.loop-i-preserved
 loop-i-preserved c =

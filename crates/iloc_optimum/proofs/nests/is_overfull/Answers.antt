@@ -1,10 +1,109 @@
-use Rattle.std.proofs.Common.{◌≡◌, ◌∙◌, ◌+◌, ◌-◌, ◌*◌, ◌<◌, ◌≤◌, length, ap, arith}
+use Rattle.std.proofs.Common.{◌≡◌, ◌∙◌, ◌+◌, ◌-◌, ◌*◌, ◌<◌, ◌≤◌, length, ap, arith, ℕ, zero, suc, Bool, true, false, cond, ◌&&◌, List, refl, ◌⊎◌, inl, inr}
 use Rattle.iloc_sched.specs.declared.lower_bound.share.Share.TheVariants.{All}
 use Rattle.iloc_sched.specs.LowerBound.Shares.{width}
-use Rattle.iloc_optimum.specs.Steps.Inside.{count_inside}
-use Rattle.iloc_optimum.proofs.FullCycles.{is_less}
-use Rattle.iloc_optimum.proofs.OverfullNests.{most_nested}
+use Rattle.iloc_optimum.specs.Steps.Inside.{count_inside, is_inside}
+use Rattle.iloc_optimum.proofs.FullCycles.{is_less, in_between, issued_inside}
+use Rattle.std.specs.Prelude.{count_by}
+use Rattle.std.specs.List.{range_with_len}
+use Rattle.std.proofs.lemmas.Bool.{cases_lt}
+use Rattle.iloc_timed.specs.declared.kind.Kind.{Kind}
+use Rattle.iloc_sched.specs.declared.lower_bound.share.Share.{Share}
+use Rattle.iloc_sched.proofs.Basics.Slots.{count_by-cons}
+use Rattle.iloc_sched.proofs.Bounds.Counting.{both}
+use Rattle.iloc_optimum.specs.Timing.{Within, FitsShares, between, belongs}
 use Rattle.iloc_optimum.proofs.nests.is_overfull.Goals as goal
+
+-- Nests that more windows are in than they hold.
+abbrev one : Bool → ℕ
+one b = cond {A = ℕ} b 1 0
+
+-- what is counted twice at most is counted by four tests
+by_four : (p q u v w x : ℕ → Bool) (a n : ℕ)
+    → ((i : ℕ) → a ≤ i → i < a + n → one (p i) + one (q i) ≤ one (u i) + one (v i) + one (w i) + one (x i))
+    → count_by p (range_with_len a n) + count_by q (range_with_len a n)
+    ≤ count_by u (range_with_len a n) + count_by v (range_with_len a n) + count_by w (range_with_len a n) + count_by x (range_with_len a n)
+by_four p q u v w x a zero each = omega arith
+by_four p q u v w x a (suc n) each =
+    let rest : count_by p (range_with_len (a + 1) n) + count_by q (range_with_len (a + 1) n)
+    ≤ count_by u (range_with_len (a + 1) n) + count_by v (range_with_len (a + 1) n) + count_by w (range_with_len (a + 1) n)
+    + count_by x (range_with_len (a + 1) n) =
+    by_four p q u v w x (a + 1) n (λ i low high. each i (omega arith) (omega arith)) in
+    let first : one (p a) + one (q a) ≤ one (u a) + one (v a) + one (w a) + one (x a) = each a (omega arith) (omega arith) in
+    let ps = count_by-cons p a (range_with_len (a + 1) n) in
+    let qs = count_by-cons q a (range_with_len (a + 1) n) in
+    let us = count_by-cons u a (range_with_len (a + 1) n) in
+    let vs = count_by-cons v a (range_with_len (a + 1) n) in
+    let ws = count_by-cons w a (range_with_len (a + 1) n) in
+    let xs = count_by-cons x a (range_with_len (a + 1) n) in
+    omega arith
+
+at_one : (b : Bool) → b ≡ true → one b ≡ 1
+at_one b is = ap (λ c. cond {A = ℕ} c 1 0) is
+
+-- a window in both counts for two, one in either for one
+of_one : (p q u v w x : Bool) → (q ≡ true → u ≡ true) → (q ≡ true → p ≡ true → x ≡ true)
+    → (p ≡ true → (u ≡ true) ⊎ (v ≡ true) ⊎ (w ≡ true)) → one p + one q ≤ one u + one v + one w + one x
+of_one false false u v w x all both some = omega arith
+of_one true true u v w x all both some =
+    let first : one u ≡ 1 = at_one u (all refl) in
+    let second : one x ≡ 1 = at_one x (both refl refl) in
+    omega arith
+of_one false true u v w x all both some = let first : one u ≡ 1 = at_one u (all refl) in omega arith
+of_one true false u v w x all both some = elim (some refl) [
+  | inl is ↦ (let first : one u ≡ 1 = at_one u is in omega arith)
+  | inr other ↦ elim other [
+    | inl is ↦ (let first : one v ≡ 1 = at_one v is in omega arith)
+    | inr is ↦ (let first : one w ≡ 1 = at_one w is in omega arith)
+  ]
+]
+
+module _ (kinds : List Kind) (firsts lasts : List ℕ) (s : Share) (a e b f : ℕ) (t : ℕ → ℕ) where
+  -- where an operation with its window from a to e is issued: from b to f, before that or after it
+  placed : (i : ℕ) → belongs kinds s i ≡ true → a ≤ t i → t i ≤ e
+      → ((belongs kinds All i && between b (f + 1) (t i)) ≡ true)
+      ⊎ ((belongs kinds s i && between a b (t i)) ≡ true) ⊎ ((belongs kinds s i && between (f + 1) (e + 1) (t i)) ≡ true)
+  placed i member low high = elim (cases_lt (t i) b) [
+    | inl early ↦ inr (inl (both (belongs kinds s i) (between a b (t i)) member (in_between a b (t i) low early)))
+    | inr late ↦ elim (cases_lt f (t i)) [
+      | inl after ↦ inr (inr (both (belongs kinds s i) (between (f + 1) (e + 1) (t i)) member
+          (in_between (f + 1) (e + 1) (t i) (omega arith) (omega arith))))
+      | inr before ↦ inl (both true (between b (f + 1) (t i)) refl (in_between b (f + 1) (t i) late (omega arith)))
+    ]
+  ]
+
+  each_placed : length firsts ≡ length kinds → length lasts ≡ length kinds → Within firsts lasts t → (i : ℕ) → i < length kinds
+      → one (is_inside kinds firsts lasts s a e i) + one (is_inside kinds firsts lasts All b f i)
+      ≤ one (belongs kinds All i && between b (f + 1) (t i)) + one (belongs kinds s i && between a b (t i))
+      + one (belongs kinds s i && between (f + 1) (e + 1) (t i)) + one (is_inside kinds firsts lasts s b f i)
+  each_placed same_firsts same_lasts w i below =
+      of_one (is_inside kinds firsts lasts s a e i) (is_inside kinds firsts lasts All b f i)
+      (belongs kinds All i && between b (f + 1) (t i)) (belongs kinds s i && between a b (t i))
+      (belongs kinds s i && between (f + 1) (e + 1) (t i)) (is_inside kinds firsts lasts s b f i)
+      (λ inner. let at = issued_inside kinds firsts lasts All b f t same_firsts same_lasts w i below inner in
+      both true (between b (f + 1) (t i)) refl (in_between b (f + 1) (t i) at.1 (omega arith)))
+      (λ inner outer. let at = issued_inside kinds firsts lasts s a e t same_firsts same_lasts w i below outer in
+      both (belongs kinds s i) (is_inside kinds firsts lasts All b f i) at.0 inner)
+      (λ outer. let at = issued_inside kinds firsts lasts s a e t same_firsts same_lasts w i below outer in
+      placed i at.0 at.1 at.2)
+
+  -- the share's windows from a to e, and all from b to f, with the share's counted once more
+  most_nested : length firsts ≡ length kinds → length lasts ≡ length kinds → FitsShares kinds t → Within firsts lasts t
+      → count_inside kinds firsts lasts s a e (length kinds) + count_inside kinds firsts lasts All b f (length kinds)
+      ≤ width s * (b - a) + width s * (e - f) + 2 * (f + 1 - b) + count_inside kinds firsts lasts s b f (length kinds)
+  most_nested same_firsts same_lasts fits w =
+      let counted = by_four (is_inside kinds firsts lasts s a e) (is_inside kinds firsts lasts All b f)
+      (λ i. belongs kinds All i && between b (f + 1) (t i)) (λ i. belongs kinds s i && between a b (t i))
+      (λ i. belongs kinds s i && between (f + 1) (e + 1) (t i)) (is_inside kinds firsts lasts s b f) 0 (length kinds)
+      (λ i low high. each_placed same_firsts same_lasts w i (omega arith)) in
+      let inner : count_by (λ i. belongs kinds All i && between b (f + 1) (t i)) (range_with_len 0 (length kinds))
+      ≤ 2 * (f + 1 - b) = fits All b (f + 1) in
+      let before : count_by (λ i. belongs kinds s i && between a b (t i)) (range_with_len 0 (length kinds))
+      ≤ width s * (b - a) = fits s a b in
+      let behind : count_by (λ i. belongs kinds s i && between (f + 1) (e + 1) (t i)) (range_with_len 0 (length kinds))
+      ≤ width s * ((e + 1) - (f + 1)) = fits s (f + 1) (e + 1) in
+      let rows : (e + 1) - (f + 1) ≡ e - f = omega arith in
+      let after : width s * ((e + 1) - (f + 1)) ≡ width s * (e - f) = ap (λ n. width s * n) rows in
+      omega arith
 
 pub returns : goal.returns
 returns c = λ is t fits w.

@@ -1,7 +1,46 @@
-use Rattle.std.proofs.Common.{◌≡◌, length, arith}
-use Rattle.iloc_validation.proofs.PairedLengths.{paired_lengths}
+use Rattle.std.proofs.Common.{◌≡◌, length, arith, ◌<◌, ◌≤◌, ℕ, zero, suc, ◌==◌, List, [], ◌∷◌, inl, inr, refl, ap, subst, eq-eqb}
 use Rattle.iloc_validation.proofs.UnderWayExcludes.{none_under_way}
+use Rattle.std.proofs.lemmas.Bool.{cases_lt}
+use Rattle.std.proofs.lemmas.Map.Steps.{le-length_from_below}
+use Rattle.iloc_ops.specs.declared.op.Op.{Op}
+use Rattle.iloc_sched.specs.Steps.Members.{In}
+use Rattle.iloc_sched.proofs.Basics.Members.{any_at}
+use Rattle.iloc_validation.specs.ByTheBook.{ArePaired}
 use Rattle.iloc_validation.proofs.decision.is_excluded.Goals as goal
+
+-- Where operations are paired, there are as many on both sides.
+
+-- the values of so many numbers, the last first
+abbrev values_below : ℕ → (ℕ → ℕ) → List ℕ
+values_below zero f = []
+values_below (suc n) f = f n ∷ values_below n f
+
+length-values : (n : ℕ) (f : ℕ → ℕ) → length (values_below n f) ≡ n
+length-values zero f = refl
+length-values (suc n) f = ap suc (length-values n f)
+
+in_values : (n : ℕ) (f : ℕ → ℕ) (k : ℕ) → k < n → In (values_below n f) (f k)
+in_values zero f k here = absurd (omega arith)
+in_values (suc n) f k here = elim (cases_lt k n) [
+  | inl before ↦ inr (in_values n f k before)
+  | inr last ↦ let same : n ≡ k = omega arith in inl (ap f same)
+]
+
+-- what leads to each of n numbers leads there from as many
+reached : (n m : ℕ) (to from : ℕ → ℕ) → ((i : ℕ) → i < n → from i < m) → ((i : ℕ) → i < n → to (from i) ≡ i) → n ≤ m
+reached n m to from below back =
+    subst (λ l. n ≤ l) (length-values m to) (le-length_from_below (values_below m to) n (λ q here.
+    any_at (λ j. q == j) (values_below m to) q
+    (subst (In (values_below m to)) (back q here) (in_values m to (from q) (below q here))) (eq-eqb q q refl)))
+
+paired_lengths : (block ops : List Op) (origin partner : ℕ → ℕ) → ArePaired block ops origin partner
+    → length block ≡ length ops
+paired_lengths block ops origin partner paired =
+    let here : length block ≤ length ops =
+    reached (length block) (length ops) origin partner paired.there_too paired.back_too in
+    let there : length ops ≤ length block =
+    reached (length ops) (length block) partner origin paired.there paired.back in
+    omega arith
 
 pub returns : goal.returns
 returns c = λ yes origin partner under.

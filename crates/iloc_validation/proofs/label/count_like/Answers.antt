@@ -1,13 +1,26 @@
-use Rattle.std.proofs.Common.{◌≡◌, ◌+◌, get_or, ap, sym, ◌∙◌, arith}
+use Rattle.std.proofs.Common.{◌≡◌, ◌+◌, get_or, ap, sym, ◌∙◌, arith, ◌<◌, ℕ, List, length, take}
 use Rattle.std.proofs.lemmas.Bool.{true≢false}
 use Rattle.std.proofs.lemmas.List.{get_or_default}
 use Rattle.iloc_ops.specs.declared.op.Op.{Op}
 use Rattle.iloc_ops.specs.declared.op.Op.TheVariants.{Nop}
 use Rattle.iloc_meaning.specs.Trace.{op_at}
 use Rattle.iloc_validation.specs.ByTheBook.{label}
-use Rattle.iloc_validation.proofs.AlikeCounts.{count_yes, count_no}
+use Rattle.iloc_meaning.proofs.Cases.{by_bool}
+use Rattle.iloc_validation.specs.Counts.{are_alike, count_like}
+use Rattle.iloc_validation.proofs.AlikeOps.{alike_test}
+use Rattle.iloc_validation.proofs.CountsLike.{one_more, no_more}
 use Rattle.iloc_validation.proofs.label.count_like.Goals as goal
 use Rattle.iloc_validation.proofs.label.count_like.Goals.{then-have_one_label, else-have_one_label}
+
+-- One more operation, counted where its label is that of another.
+module _ (op : Op) (ops : List Op) (k : ℕ) (within : k < length ops) where
+  count_yes : label op ≡ label (op_at ops k) → count_like op (take (k + 1) ops) ≡ count_like op (take k ops) + 1
+  count_yes same = one_more op ops k within ((alike_test op (op_at ops k)).1 same)
+
+  count_no : (label op ≡ label (op_at ops k) → ⊥) → count_like op (take (k + 1) ops) ≡ count_like op (take k ops)
+  count_no other =
+      no_more op ops k within
+      (by_bool (are_alike op (op_at ops k)) (λ t. absurd (other ((alike_test op (op_at ops k)).0 t))) (λ f. f))
 
 pub loop-other-preserved : goal.loop-other-preserved
 loop-other-preserved c =

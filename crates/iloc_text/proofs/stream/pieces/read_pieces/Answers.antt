@@ -1,8 +1,20 @@
-use Rattle.std.proofs.Common.{◌++◌, ◌≤◌, [], refl, sym, subst, take, drop, length, length-append, length-take, arith}
+use Rattle.std.proofs.Common.{◌++◌, ◌≤◌, [], refl, sym, subst, take, drop, length, length-append, length-take, arith, ◌∙◌, ℕ, List, ap, append_assoc, Option, Some, None}
 use Rattle.std.specs.Io.KnownBytes.{Consumes}
 use Rattle.std.proofs.lemmas.List.{take-append-le}
-use Rattle.iloc_text.proofs.Streams.{consumes_none, consumes_further}
 use Rattle.iloc_text.proofs.stream.pieces.read_pieces.Goals as goal
+
+-- What was read from a stream as it came.
+consumes_none : (o : Option (List ℕ)) → Consumes o o []
+consumes_none None = tt
+consumes_none (Some xs) = refl
+
+consumes_further : (a b c : Option (List ℕ)) (front back : List ℕ) → Consumes a b front → Consumes b c back
+    → Consumes a c (front ++ back)
+consumes_further None b c front back h k = tt
+consumes_further (Some xs) None c front back h k = absurd h
+consumes_further (Some xs) (Some ys) None front back h k = absurd k
+consumes_further (Some xs) (Some ys) (Some zs) front back h k =
+    h ∙ ap (λ rest. front ++ rest) k ∙ sym (append_assoc front back zs)
 
 pub loop-left-init : goal.loop-left-init
 loop-left-init g c = record {

@@ -1,5 +1,54 @@
-use Rattle.iloc_farm.proofs.RowsExplained.{few_told, rows_listed}
+use Rattle.std.proofs.Common.{◌≡◌, ◌≤◌, ℕ, ◌+◌, List, ◌++◌, length, arith, refl, ap, ◌∙◌, Option}
+use Rattle.std.specs.Prelude.{codes}
+use Rattle.iloc_ops.specs.declared.op.Op.{Op}
+use Rattle.iloc_ops.specs.declared.file.Block.{Block}
+use Rattle.iloc_timed.specs.Limits.{MAX_ROWS}
+use Rattle.iloc_timed.specs.declared.latencies.Latencies.{Latencies}
+use Rattle.iloc_timed.specs.Cycles.{cycles}
+use Rattle.iloc_timed.specs.Schedule.{Table}
+use Rattle.iloc_rows.specs.declared.proposal.Proposed.{Proposed}
+use Rattle.iloc_sched.specs.declared.cycle.calendar.TheConstants.{LONGEST_DELAY}
+use Rattle.iloc_sched.specs.declared.ranking.heuristic.Heuristic.{Heuristic}
+use Rattle.iloc_judge.specs.declared.explained.ExplainedRows.{ExplainedRows}
+use Rattle.iloc_judge.specs.RowsExplained.{IsRowsExplanation}
+use Rattle.iloc_farm.specs.Commands.Explain.Rows.{IsRowsEntry}
+use Rattle.iloc_farm.specs.Listing.{block_head}
+use Rattle.iloc_farm.specs.Schedules.{IsGreedyAs}
+use Rattle.iloc_farm.specs.Steps.Limits.{most_proposed_cycles}
+use Rattle.iloc_farm.specs.Steps.Listed.{Adds}
+use Rattle.iloc_farm.proofs.Listers.{parts_joined, the_greedy}
+use Rattle.iloc_optimum.proofs.Improvements.{cycles_within}
 use Rattle.iloc_farm.proofs.commands.explain.rows.RowsExplainerRowLister.list.Goals as goal
+
+-- What explains proposals.
+
+-- the cycles of one proposal are few
+few_told : (heuristic : Heuristic) (lat : Latencies) (block : List Op) (s : Table) (p : Proposed) (one : ExplainedRows)
+    (text : List ℕ) → IsRowsExplanation heuristic lat block s p one text → length p.rows ≤ MAX_ROWS → one.cycles ≤ most_proposed_cycles
+few_told heuristic lat block s p one text is few =
+    let counted : one.cycles ≡ cycles lat p.ops p.rows = is.counted in
+    let within : cycles lat p.ops p.rows ≤ length p.rows + LONGEST_DELAY = cycles_within lat p.ops p.rows in
+    omega arith
+
+-- what was appended is the entry
+rows_listed : (heuristic : Heuristic) (lat : Latencies) (k : ℕ) (b : Block) (s : Table) (p : Proposed) (one : ExplainedRows)
+    (text headed lined more said : List ℕ) (name : Option (List ℕ)) → IsGreedyAs heuristic lat b.ops s → name ≡ b.name
+    → headed ≡ text ++ block_head k name → lined ≡ headed ++ codes "\n"
+    → IsRowsExplanation heuristic lat b.ops s p one said → more ≡ lined ++ said
+    → Adds (IsRowsEntry heuristic lat k (b, p)) text more one
+rows_listed heuristic lat k b s p one text headed lined more said name greedy named opened ended is added = record {
+  entry = block_head k b.name ++ codes "\n" ++ said;
+  right = record {
+    ours = s;
+    greedy = the_greedy heuristic lat b s greedy;
+    text = said;
+    right = is;
+    listed = refl;
+  };
+  added = added
+      ∙ (ap (λ xs. xs ++ said) (ended ∙ ap (λ xs. xs ++ codes "\n") (opened ∙ ap (λ n. text ++ block_head k n) named))
+      ∙ parts_joined text (block_head k b.name) (codes "\n") said);
+}
 
 pub invariant_of-task : goal.invariant_of-task
 invariant_of-task c = record {
