@@ -61,6 +61,17 @@ begun_as texts old new text kept same begun = record {
   whole = begun.whole ∙ ap (λ ps. begun.done ++ flat_map ended ps) (sym same);
 }
 
+-- and where a piece more has come
+pub come_more : {P : Type 0} (texts : P → List (List ℕ)) (old new : PartedText P) (text piece : List ℕ)
+    → new.reader ≡ old.reader → texts new.readers ≡ texts old.readers → new.rest.items ≡ old.rest.items ++ piece
+    → HasCome texts old text → HasCome texts new (text ++ piece)
+come_more texts old new text piece kept same more come = record {
+  front = come.front;
+  begun = begun_as texts old new come.front kept same come.begun;
+  whole = ap (λ t. t ++ piece) come.whole ∙ append_assoc come.front old.rest.items piece
+      ∙ ap (λ rest. come.front ++ rest) (sym more);
+}
+
 -- where no part is being read, all is read
 pub none_left : {P : Type 0} (texts : P → List (List ℕ)) (parted : PartedText P) (text : List ℕ)
     → texts parted.readers ≡ [] → (begun : HasBegun texts parted text) → text ≡ begun.done

@@ -1,18 +1,12 @@
-use Rattle.std.proofs.Common.{◌≡◌, ◌∙◌, ◌++◌, ◌∷◌, [], length, take, sym, ap}
+use Rattle.std.proofs.Common.{◌≡◌, ◌∙◌, ◌++◌, ◌∷◌, [], length, take, refl, sym, ap}
 use Rattle.std.proofs.Math.Seq.{take-append_seam}
-use Rattle.iloc_text.proofs.PartReads.{cut_off}
+use Rattle.iloc_text.proofs.PartReads.{begun_as, cut_off}
 use Rattle.iloc_text.proofs.stream.parts.PartedText.cut.Goals as goal
 
 pub returns-in_default : goal.returns-in_default
 returns-in_default g c = λ text come. record {
   front = come.front;
-  begun = record {
-    start = come.begun.start;
-    none = come.begun.none;
-    done = come.begun.done;
-    read = come.begun.read;
-    whole = come.begun.whole;
-  };
+  begun = begun_as g.P.ReadParts.texts c.args.self.now _ come.front refl refl come.begun;
   whole = come.whole;
 }
 
@@ -32,13 +26,7 @@ returns g c = λ text come.
     ∙ ap (λ before. before ++ back) (c.in_ok-reserve.ensures.items ∙ c.clear.ensures.items) in
     record {
       front = come.front ++ c.truncate.new.self.items ++ 10 ∷ [];
-      begun = c.in_ok-start.ensures.begun come.front (record {
-        start = come.begun.start;
-        none = come.begun.none;
-        done = come.begun.done;
-        read = come.begun.read;
-        whole = come.begun.whole;
-      });
+      begun = c.in_ok-start.ensures.begun come.front (begun_as texts old _ come.front refl refl come.begun);
       whole = cut_off texts old text part back come falls
           ∙ ap (λ p. come.front ++ p ++ 10 ∷ [] ++ back) (sym cut)
           ∙ ap (λ b. come.front ++ c.truncate.new.self.items ++ 10 ∷ [] ++ b) (sym left);
