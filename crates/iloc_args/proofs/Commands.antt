@@ -1,9 +1,9 @@
 -- An argument or a command with one setting, argument or subcommand more.
-use Rattle.std.proofs.Common.{◌≡◌, ◌∙◌, ◌||◌, ◌+◌, ◌<◌, ◌++◌, ℕ, Bool, List, Option, Some, ap, arith, cond, [], ◌∷◌, false, get_or, length, map, refl, subst, sym, suc, take, true}
+use Rattle.std.proofs.Common.{◌≡◌, ◌∙◌, ◌||◌, ◌+◌, ◌<◌, ℕ, Bool, List, Option, Some, ap, arith, cond, [], ◌∷◌, false, get_or, length, map, refl, subst, sym, suc, take, true}
 use Rattle.std.specs.Prelude.{find, option_map}
 use Rattle.std.specs.Str.{bytes_eq}
 use Rattle.std.proofs.Math.Seq.{take-suc}
-use Rattle.std.proofs.lemmas.List.{map-append}
+use Rattle.std.proofs.lemmas.List.{map_more}
 use Rattle.std.proofs.lemmas.List.Sums.{fold-append}
 use Rattle.clap.specs.Simple.{Shape, app_of_fields, on_top, new_shape}
 use Rattle.clap.specs.Words.{AddsArg, AddsSubcommand, App, Rule, app_of, rule_of, with_rule, with_subcommand, Text}
@@ -62,12 +62,6 @@ more_command a s old sub new had has adds = record {
   globals = neither _ _ _ adds.globals had.globals has.globals;
 }
 
-next : {A B : Type 0} (f : A → B) (xs : List A) (i : ℕ) (d : A) → i < length xs
-    → map f (take (i + 1) xs) ≡ map f (take i xs) ++ f (get_or xs i d) ∷ []
-next f xs i d within =
-    let after : i + 1 ≡ suc i = omega arith in
-    ap (λ n. map f (take n xs)) after ∙ (ap (map f) (take-suc xs i d within) ∙ map-append f (take i xs) (get_or xs i d ∷ []))
-
 -- a command with its next argument
 pub next_argument : (name : Text) (arguments : List Argument) (i : ℕ) (d : Argument) (old : Command) (arg : Arg) (new : Command)
     → i < length arguments → HasApp (with_arguments name (take i arguments)) old
@@ -75,7 +69,7 @@ pub next_argument : (name : Text) (arguments : List Argument) (i : ℕ) (d : Arg
     → HasApp (with_arguments name (take (i + 1) arguments)) new
 next_argument name arguments i d old arg new within had rule adds =
     let P : List Rule → Type 0 = λ rs. HasApp (alone (record (new_shape name) { rules = rs })) new in
-    subst P (sym (next rule_for arguments i d within)) (more_rule _ _ old arg new had rule adds)
+    subst P (sym (map_more rule_for arguments i d within)) (more_rule _ _ old arg new had rule adds)
 
 -- the program with its next command
 pub next_command : (entries : List Entry) (i : ℕ) (d : Entry) (old sub new : Command) → i < length entries

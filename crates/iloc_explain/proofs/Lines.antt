@@ -1,5 +1,6 @@
 -- The lines of operations, one after another.
-use Rattle.std.proofs.Common.{◌≡◌, ◌<◌, ℕ, ◌+◌, List, ◌∷◌, ◌++◌, length, drop, get_or, refl, sym, ap, ◌∙◌, append_assoc, add-one, drop-cons}
+use Rattle.std.proofs.Common.{◌≡◌, ◌<◌, ℕ, ◌+◌, List, ◌∷◌, ◌++◌, length, drop, get_or, refl, sym, ap, ◌∙◌, append_assoc}
+use Rattle.std.proofs.lemmas.List.{drop_more}
 use Rattle.iloc_meaning.proofs.Cases.{by_bool}
 use Rattle.iloc_ops.specs.declared.op.Op.{Op}
 use Rattle.iloc_ops.specs.declared.op.Op.TheVariants.{Nop}
@@ -8,13 +9,9 @@ use Rattle.iloc_sched.proofs.Renamed.WithoutNops.{is_nop-true}
 use Rattle.iloc_explain.specs.declared.explanation.Explained.{Explained}
 use Rattle.iloc_explain.specs.Listing.{explained_line, explained_lines}
 
--- the first of what is left
-drop_first : {X : Type 0} (xs : List X) (i : ℕ) (d : X) → i < length xs → drop i xs ≡ get_or xs i d ∷ drop (i + 1) xs
-drop_first xs i d within = rw add-one (drop-cons xs i d within)
-
 pub nop_passed : (block : List Op) (i : ℕ) (d : Op) → i < length block → get_or block i d ≡ Nop
     → without_nops (drop (i + 1) block) ≡ without_nops (drop i block)
-nop_passed block i d within is = sym (ap without_nops (drop_first block i d within ∙ ap (λ op. op ∷ drop (i + 1) block) is))
+nop_passed block i d within is = sym (ap without_nops (drop_more block i d within ∙ ap (λ op. op ∷ drop (i + 1) block) is))
 
 kept : (op : Op) (rest : List Op) → (op ≡ Nop → ⊥) → without_nops (op ∷ rest) ≡ op ∷ without_nops rest
 kept op rest other = by_bool (is_nop op)
@@ -24,7 +21,7 @@ kept op rest other = by_bool (is_nop op)
 pub op_taken : (block : List Op) (i : ℕ) (d : Op) → i < length block → (get_or block i d ≡ Nop → ⊥)
     → without_nops (drop i block) ≡ get_or block i d ∷ without_nops (drop (i + 1) block)
 op_taken block i d within other =
-    ap without_nops (drop_first block i d within) ∙ kept (get_or block i d) (drop (i + 1) block) other
+    ap without_nops (drop_more block i d within) ∙ kept (get_or block i d) (drop (i + 1) block) other
 
 -- one more line
 pub line_more : (text new all : List ℕ) (j : ℕ) (explained : List Explained) (left rest renamed : List Op)
@@ -35,8 +32,8 @@ pub line_more : (text new all : List ℕ) (j : ℕ) (explained : List Explained)
 line_more text new all j explained left rest renamed e op other known there is taken so_far pushed =
     let more : List ℕ = explained_lines (j + 1) (drop (j + 1) explained) rest (drop (j + 1) renamed) in
     let first : drop j explained ≡ e ∷ drop (j + 1) explained =
-    drop_first explained j e known ∙ ap (λ x. x ∷ drop (j + 1) explained) (sym is) in
-    let second : drop j renamed ≡ get_or renamed j other ∷ drop (j + 1) renamed = drop_first renamed j other there in
+    drop_more explained j e known ∙ ap (λ x. x ∷ drop (j + 1) explained) (sym is) in
+    let second : drop j renamed ≡ get_or renamed j other ∷ drop (j + 1) renamed = drop_more renamed j other there in
     let whole : explained_lines j (drop j explained) left (drop j renamed)
     ≡ explained_line j e op (get_or renamed j other) ++ more =
     rw (first, second, taken) refl in

@@ -1,6 +1,6 @@
 -- Where a block faults.
 use Rattle.std.proofs.Common.{◌≡◌, ◌∙◌, ℕ, ◌+◌, ◌-◌, ◌<◌, ◌≤◌, ◌||◌, Bool, true, false, List, length, refl, sym, ap, subst, Option, Some, unwrap_or, ℤ, pos, negsuc, ◌+ℤ◌, get_or, inl, inr, arith}
-use Rattle.std.proofs.lemmas.Bool.{cases_lt}
+use Rattle.std.proofs.lemmas.Bool.{cases_lt, or_left}
 use Rattle.std.proofs.lemmas.List.{get_or_default}
 use Rattle.iloc_ops.specs.declared.op.Reg.{Reg}
 use Rattle.iloc_ops.specs.declared.op.Op.{Op}
@@ -65,10 +65,6 @@ reach_faults (LoadAI addr offset dest) reg word a r bad = bad_faults (wrapped (r
 reach_faults (StoreAI value addr offset) reg word a r bad = bad_faults (wrapped (reg addr +ℤ constant offset)) (λ n. Writes n (reg value)) (same_address (wrapped (reg addr +ℤ constant offset)) a r bad)
 reach_faults _ reg word a r bad = cc
 
-left_or : (a b : Bool) → a ≡ true → (a || b) ≡ true
-left_or true b h = refl
-left_or false b h = cc
-
 -- after the place a block has a fault
 has_faulted : (ops : List Op) (memory : List ℤ) (place : FaultPlace) → IsFaultPlace ops memory place
     → has_fault (before memory ops (place.operation + 1)) ≡ true
@@ -78,7 +74,7 @@ has_faulted ops memory place is =
     let faults : is_fault (effect op (register_after trace) (word_after memory trace)) ≡ true =
     reach_faults op (register_after trace) (word_after memory trace) place.address is.reaches is.bad in
     let here : has_fault (then_executed memory op trace) ≡ true =
-    left_or (is_fault (effect op (register_after trace) (word_after memory trace))) (has_fault trace) faults in
+    or_left (is_fault (effect op (register_after trace) (word_after memory trace))) (has_fault trace) faults in
     rw (next memory ops ops place.operation Nop refl is.within) here
 
 later_faulted : (ops : List Op) (memory : List ℤ) (place : FaultPlace) (k : ℕ) → IsFaultPlace ops memory place
@@ -118,9 +114,9 @@ of_fault ops memory place is = rw (later_faulted ops memory place (length ops) i
 pub one_place : BlocksFaultAtOnePlace
 one_place = record { one = same_place; fault = of_fault }
 
-or_left : (a b : Bool) → (a || b) ≡ true → b ≡ false → a ≡ true
-or_left true b h none = refl
-or_left false b h none = cc
+first_or : (a b : Bool) → (a || b) ≡ true → b ≡ false → a ≡ true
+first_or true b h none = refl
+first_or false b h none = cc
 
 -- a run that stops at this operation has found its place
 pub stops_here : (memory : List ℤ) (ops : List Op) (i : ℕ) (other : Op) (state : MachineState) (found : Option ℤ) (address : ℤ)
@@ -134,7 +130,7 @@ stops_here memory ops i other state found address within follows reaches is faul
     let same : op_at ops i ≡ op = get_or_default ops i Nop other within in
     let registers : value_of state.registers ≡ register_after trace = λ k. λ r. follows.registers r k in
     let faults : is_fault (effect op (register_after trace) (word_after memory trace)) ≡ true =
-    or_left _ _ fault follows.no_fault in
+    first_or _ _ fault follows.no_fault in
     let bad = faults_reach op (register_after trace) (word_after memory trace) faults in
     let there : address ≡ bad.address =
     is ∙ ap (λ o. unwrap_or o (pos 0)) (reaches ∙ ap (reached op) registers ∙ bad.reaches) in

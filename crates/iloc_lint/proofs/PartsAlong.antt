@@ -1,9 +1,9 @@
 -- How far bytes go along each part of an operation, whatever follows it.
-use Rattle.std.proofs.Common.{◌≡◌, ◌∙◌, ℕ, suc, ◌+◌, ◌-◌, ◌≤◌, ◌<◌, Bool, true, false, cond, not, ◌&&◌, ◌==◌, nat_lt, List, [], ◌∷◌, ◌++◌, length, take, drop, codes, get_or, add-one, refl, true≢false, sym, ap, subst, arith, append_assoc}
+use Rattle.std.proofs.Common.{◌≡◌, ◌∙◌, ℕ, suc, ◌+◌, ◌-◌, ◌≤◌, ◌<◌, Bool, true, false, cond, not, ◌&&◌, ◌==◌, nat_lt, List, [], ◌∷◌, ◌++◌, length, take, drop, codes, get_or, refl, true≢false, sym, ap, subst, arith, append_assoc}
 use Rattle.std.specs.Char.{is_ascii_digit}
-use Rattle.std.proofs.Math.Seq.{drop-drop, drop-cons}
+use Rattle.std.proofs.Math.Seq.{drop-drop}
 use Rattle.std.proofs.Math.ListN.{drop_of_length-le}
-use Rattle.std.proofs.lemmas.List.{take_all, length-drop}
+use Rattle.std.proofs.lemmas.List.{take_all, length-drop, drop_more}
 use Rattle.std.proofs.lemmas.Bool.Decides.{nat_tests}
 use Rattle.std.proofs.lemmas.Bool.{and_parts, eqb-true, not-true}
 use Rattle.iloc_text.specs.Grammar.{◌⋅◌, Text, is_blank, Blanks}
@@ -205,20 +205,16 @@ end_along bytes = blanks_along comment_no_blank bytes (comment_in (drop (blanks_
 abbrev pub GoesOn : List Part → List ℕ → ℕ → ℕ → Type 0
 GoesOn parts bytes i at = (k : ℕ) → Longest (Rest (drop i parts)) (drop at bytes) k → Longest (Rest parts) bytes (at + k)
 
-next_part : (parts : List Part) (i : ℕ) (d : Part) → i < length parts
-    → drop i parts ≡ get_or parts i d ∷ drop (i + 1) parts
-next_part parts i d h = drop-cons parts i d h ∙ ap (λ n. get_or parts i d ∷ drop n parts) (sym (add-one i))
-
 pub part_fits : (parts : List Part) (i : ℕ) (d : Part) → i < length parts → alternate (drop i parts) ≡ true
     → alternate (drop (i + 1) parts) ≡ true
 part_fits parts i d h fit =
-    alternate_more (get_or parts i d) (drop (i + 1) parts) (ap alternate (sym (next_part parts i d h)) ∙ fit)
+    alternate_more (get_or parts i d) (drop (i + 1) parts) (ap alternate (sym (drop_more parts i d h)) ∙ fit)
 
 pub part_over : (parts : List Part) (bytes : List ℕ) (i at count : ℕ) (d : Part) → i < length parts
     → alternate (drop i parts) ≡ true → GoesOn parts bytes i at → PartAt (get_or parts i d) (drop at bytes) count true
     → GoesOn parts bytes (i + 1) (at + count)
 part_over parts bytes i at count d h fit on over k l =
-    let next = next_part parts i d h in
+    let next = drop_more parts i d h in
     let rest = subst (λ b. Longest (Rest (drop (i + 1) parts)) b k) (sym (drop-drop count at bytes)) l in
     let here = over (drop (i + 1) parts) k (ap alternate (sym next) ∙ fit) rest in
     at_length (omega arith) (on (count + k) (subst (λ ps. Longest (Rest ps) (drop at bytes) (count + k)) (sym next) here))
@@ -227,7 +223,7 @@ pub part_stops : (parts : List Part) (bytes : List ℕ) (i at count : ℕ) (d : 
     → alternate (drop i parts) ≡ true → GoesOn parts bytes i at → PartAt (get_or parts i d) (drop at bytes) count false
     → Longest (Rest parts) bytes (at + count)
 part_stops parts bytes i at count d h fit on stops =
-    let next = next_part parts i d h in
+    let next = drop_more parts i d h in
     let here = stops (drop (i + 1) parts) (ap alternate (sym next) ∙ fit) in
     on count (subst (λ ps. Longest (Rest ps) (drop at bytes) count) (sym next) here)
 

@@ -2,7 +2,7 @@
 use Rattle.std.proofs.Common.{◌≡◌, ◌∙◌, ℕ, ◌+◌, ◌-◌, ◌*◌, ◌<◌, ◌≤◌, zero, suc, Bool, true, false, cond, ◌&&◌, List, [], length, get_or, refl, sym, ap, subst, add-one, ◌⊎◌, inl, inr, arith}
 use Rattle.std.specs.Prelude.{count_by, nat_le, nat_lt}
 use Rattle.std.specs.List.{range_with_len}
-use Rattle.std.proofs.lemmas.Bool.{and_parts, cases_lt}
+use Rattle.std.proofs.lemmas.Bool.{and_parts, cases_lt, and_from}
 use Rattle.std.proofs.lemmas.Bool.Decides.{nat_tests}
 use Rattle.iloc_timed.specs.declared.kind.Kind.{Kind}
 use Rattle.iloc_sched.specs.declared.lower_bound.share.Share.{Share}
@@ -11,7 +11,7 @@ use Rattle.iloc_optimum.specs.Steps.Inside.{is_inside, count_inside}
 use Rattle.iloc_sched.specs.LowerBound.Shares.{width}
 use Rattle.iloc_sched.proofs.Basics.CountedRanges.{count_range}
 use Rattle.iloc_sched.proofs.Basics.Slots.{count_by-cons}
-use Rattle.iloc_sched.proofs.Bounds.Counting.{both, at_least}
+use Rattle.iloc_sched.proofs.Bounds.Counting.{at_least}
 
 pub is_less : (q p : ℕ) → nat_lt q p ≡ true → q < p
 is_less q p h = grind (arith, nat_tests)
@@ -20,7 +20,7 @@ pub in_between : (a c x : ℕ) → a ≤ x → x < c → between a c x ≡ true
 in_between a c x low high =
     let first : nat_le a x ≡ true = grind (arith, nat_tests) in
     let second : nat_lt x c ≡ true = grind (arith, nat_tests) in
-    both (nat_le a x) (nat_lt x c) first second
+    and_from (nat_le a x) (nat_lt x c) first second
 
 range_step : (p : ℕ → Bool) (a n j : ℕ) → a + n ≡ j
     → count_by p (range_with_len a (suc n)) ≡ count_by p (range_with_len a n) + cond (p j) 1 0
@@ -119,7 +119,7 @@ module _ (kinds : List Kind) (firsts lasts : List ℕ) (s : Share) (a e : ℕ) (
   unfolding then_issued
   inside_then same_firsts same_lasts w i below passes =
       let at = issued_inside same_firsts same_lasts w i below passes in
-      both (belongs kinds s i) (between a (e + 1) (t i)) at.0 (in_between a (e + 1) (t i) at.1 (omega arith))
+      and_from (belongs kinds s i) (between a (e + 1) (t i)) at.0 (in_between a (e + 1) (t i) at.1 (omega arith))
 
   -- more have their windows from a to e than the cycles hold: no schedule is within the windows
   pub too_many : length firsts ≡ length kinds → length lasts ≡ length kinds
@@ -145,7 +145,7 @@ module _ (kinds : List Kind) (firsts lasts : List ℕ) (s : Share) (a e : ℕ) (
         | inr late ↦ elim (cases_lt e (t k)) [
           | inl after ↦ inr after
           | inr before ↦
-              (let there : then_issued k ≡ true = both (belongs kinds s k) (between a (e + 1) (t k)) shares
+              (let there : then_issued k ≡ true = and_from (belongs kinds s k) (between a (e + 1) (t k)) shares
               (in_between a (e + 1) (t k) (omega arith) (omega arith)) in
               let most : count_by then_issued (range_with_len 0 (length kinds)) ≤ width s * (e + 1 - a) = crowd a (e + 1) in
               let more = count_more (is_inside kinds firsts lasts s a e) then_issued 0 (length kinds) k

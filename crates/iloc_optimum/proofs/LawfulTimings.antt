@@ -5,7 +5,7 @@ use Rattle.std.specs.Prelude.{count_by}
 use Rattle.std.specs.List.{range_with_len}
 use Rattle.std.proofs.lemmas.List.{length-map, get_or-map}
 use Rattle.std.proofs.Math.ListN as lists
-use Rattle.std.proofs.lemmas.Bool.{and_parts, cases_lt}
+use Rattle.std.proofs.lemmas.Bool.{and_parts, cases_lt, and_from}
 use Rattle.std.proofs.lemmas.List.Elements.{All-weaker}
 use Rattle.iloc_ops.specs.declared.op.Op.{Op}
 use Rattle.iloc_ops.specs.declared.op.Op.TheVariants.{Nop}
@@ -22,7 +22,6 @@ use Rattle.iloc_sched.specs.Lawful.{IsLawful}
 use Rattle.iloc_sched.specs.LowerBound.Least.{tails, tail}
 use Rattle.iloc_sched.specs.Renaming.{renamed}
 use Rattle.iloc_sched.specs.LowerBound.Shares.{shares, width}
-use Rattle.iloc_sched.proofs.Bounds.Counting.{both}
 use Rattle.iloc_sched.proofs.Bounds.PriorityBound.{ends_within}
 use Rattle.iloc_sched.proofs.Bounds.RowsHold.{Holds, holds_memory, holds_products, holds_outputs, holds_all, holds_loads}
 use Rattle.iloc_sched.proofs.Bounds.TailBound.{Fits, crowd_of, tail_within}
@@ -53,7 +52,7 @@ crowd_by_kinds ops s t crowd a c =
     let fewer : count_by p (range_with_len 0 (length ops)) ≤ count_by q (range_with_len 0 (length ops)) =
     count_grows p q 0 (length ops) (λ i low high passes.
     let parts = and_parts (belongs (map kind ops) s i) (between a c (t i)) passes in
-    both (shares s (kind (op_at ops i))) (between a c (t i)) (sym (same_share ops s i) ∙ parts.0) parts.1) in
+    and_from (shares s (kind (op_at ops i))) (between a c (t i)) (sym (same_share ops s i) ∙ parts.0) parts.1) in
     let most : count_by q (range_with_len 0 (length ops)) ≤ width s * (c - a) = crowd a c in
     let both_most : count_by p (range_with_len 0 (length ops)) ≤ width s * (c - a) = omega arith in
     let size : length (map kind ops) ≡ length ops = length-map ops kind in

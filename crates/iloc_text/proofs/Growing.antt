@@ -1,6 +1,7 @@
 -- What the steps of the reader do to the blocks.
 use Rattle.std.proofs.Common.{◌≡◌, ◌∙◌, ℕ, suc, ◌+◌, ◌-◌, ◌<◌, ◌≤◌, nat_lt, Bool, true, false, List, [], ◌∷◌, ◌++◌, length, refl, sym, ap, subst₂, is_some, Option, Some, None, Result, Ok, Err, length-append, inl, inr, arith}
 use Rattle.std.proofs.lemmas.Bool.Decides.{nat_tests}
+use Rattle.std.proofs.lemmas.List.{nil_from_length}
 use Rattle.iloc_ops.specs.Limits.{MAX_BLOCKS, MAX_OPS}
 use Rattle.iloc_ops.specs.declared.op.Op.{Op}
 use Rattle.iloc_ops.specs.declared.file.Block.{Block}
@@ -39,10 +40,6 @@ pub length-with_op : (op : Op) (bs : List Block) → length (with_op op bs) ≡ 
 length-with_op op (x ∷ y ∷ bs) = ap suc (length-with_op op (y ∷ bs))
 length-with_op op bs = refl
 
-no_blocks : (bs : List Block) → length bs ≡ 0 → bs ≡ []
-no_blocks [] none = refl
-no_blocks (b ∷ bs) none = absurd (omega arith)
-
 pub pushed_so_far : (op : Op) (done blocks : List Block) (o p : OpenBlock) → AreSoFar done o blocks → 0 < length blocks
     → p.count ≡ o.count
     → p.block ≡ record { name = o.block.name; ops = o.block.ops ++ op ∷ [] } → AreSoFar done p (with_op op blocks)
@@ -62,7 +59,7 @@ so_far_within done blocks o line h =
     let few = o.few in
     let short = o.short in
     let last : length (last_ops blocks) ≤ MAX_OPS = elim (none_or_some o.count) [
-      | inl none ↦ (let e = ap (λ bs. length (last_ops bs)) (no_blocks blocks (h.count ∙ none)) in omega arith)
+      | inl none ↦ (let e = ap (λ bs. length (last_ops bs)) (nil_from_length blocks (h.count ∙ none)) in omega arith)
       | inr some ↦ (let e = ap (λ bs. length (last_ops bs)) (h.last some) in let l = ap length (last-snoc done o.block) in
           omega arith)
     ] in
@@ -87,8 +84,8 @@ pub opened_first : (done blocks : List Block) (o p : OpenBlock) → AreSoFar don
     → p.block ≡ record { name = None; ops = [] } → AreSoFar done p (opened None blocks)
 opened_first done blocks o p h none count block =
     let before = h.before in
-    let no_block : blocks ≡ [] = no_blocks blocks (h.count ∙ none) in
-    let none_done : done ≡ [] = no_blocks done (omega arith) in
+    let no_block : blocks ≡ [] = nil_from_length blocks (h.count ∙ none) in
+    let none_done : done ≡ [] = nil_from_length done (omega arith) in
     let same : opened None blocks ≡ done ++ p.block ∷ [] = rw (no_block, none_done, block) refl in
     record {
       before = omega (arith, ap length none_done);

@@ -27,10 +27,6 @@ use Rattle.iloc_trace.proofs.Landing.{landing_lines}
 use Rattle.iloc_trace.proofs.Issuing.{arrivals_one, effect_now, slot_lines}
 
 -- what follows at `Ok` from what holds there
-pub on_ok : {X E : Type 0} (P Q : Type 0) (r : Result X E) → (P → Q) → OnOk r P → OnOk r Q
-on_ok P Q (Ok x) follows holds = follows holds
-on_ok P Q (Err e) follows holds = tt
-
 pub if_ok : {X E : Type 0} (P : Type 0) (Q R : X → Type 0) (r : Result X E) → ((x : X) → P → Q x → R x) → OnOk r P
     → IfOk r Q → IfOk r R
 if_ok P Q R (Ok x) follows holds says = follows x holds says

@@ -1,5 +1,5 @@
 -- Rows in terms, and the run of a schedule from its start to its end.
-use Rattle.std.proofs.Common.{◌≡◌, ◌<◌, ◌≤◌, ℕ, ◌+◌, true, false, List, length, get_or, Option, Some, option_to_list, Result, Ok, Err, OnOk, IfSome, ℤ, arith, sym, ap, ◌∙◌, subst, inl, inr}
+use Rattle.std.proofs.Common.{◌≡◌, ◌<◌, ◌≤◌, ℕ, ◌+◌, true, false, List, length, get_or, Option, Some, option_to_list, IfSome, ℤ, arith, sym, ap, ◌∙◌, subst, inl, inr}
 use Rattle.std.proofs.lemmas.List.{get_or_default}
 use Rattle.iloc_ops.specs.declared.op.Op.{Op}
 use Rattle.iloc_ops.specs.declared.op.Op.TheVariants.{Nop}
@@ -16,11 +16,6 @@ use Rattle.iloc_timed.proofs.WholeRuns.{slot_issued, row_more, no_fault}
 use Rattle.iloc_judge.specs.declared.symbols.Symbols.{Symbols}
 use Rattle.iloc_judge.specs.Steps.Terms.{Meaning}
 use Rattle.iloc_judge.specs.Steps.Tracking.{Tracks, Keeps, Stands, Ends}
-
--- what follows where a call answered
-pub on_ok : {X E : Type 0} (r : Result X E) (P Q : Type 0) → (P → Q) → OnOk r P → OnOk r Q
-on_ok (Ok x) P Q follows holds = follows holds
-on_ok (Err e) P Q follows holds = tt
 
 -- the operation of a slot
 pub keeps_slot : (memory : List ℤ) (d : Meaning) (lat : Latencies) (ops : List Op) (c i lasts : ℕ) (slot : Option ℕ)

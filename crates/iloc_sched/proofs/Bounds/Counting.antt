@@ -36,9 +36,6 @@ at_least q p h = grind (arith, nat_tests)
 pub is_at_least : (q p : ℕ) → q ≤ p → nat_le q p ≡ true
 is_at_least q p le = grind (arith, nat_tests)
 
-pub both : (a b : Bool) → a ≡ true → b ≡ true → (a && b) ≡ true
-both a b one other = rw (one, other) refl
-
 pub count-map : {X Y : Type 0} → (p : Y → Bool) (f : X → Y) (xs : List X)
     → count_by p (map f xs) ≡ count_by (λ x. p (f x)) xs
 count-map p f [] = refl

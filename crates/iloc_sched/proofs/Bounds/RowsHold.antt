@@ -1,5 +1,5 @@
 -- How many of some operations a row holds; for `laws::least_bounds_the_cycles`.
-use Rattle.std.proofs.Common.{◌≡◌, ◌∙◌, ℕ, ◌+◌, ◌≤◌, Bool, true, false, cond, not, ◌&&◌, List, [], ◌∷◌, ◌++◌, Option, Some, None, refl, sym, ap, ◌⊎◌, inl, inr, arith}
+use Rattle.std.proofs.Common.{◌≡◌, ◌∙◌, ℕ, ◌+◌, ◌≤◌, Bool, true, false, cond, not, ◌&&◌, List, [], ◌∷◌, ◌++◌, Option, Some, None, refl, sym, ap, inl, inr, arith}
 use Rattle.std.specs.Prelude.{count_by, option_to_list, IsTrue}
 use Rattle.iloc_ops.specs.declared.op.Op.{Op}
 use Rattle.iloc_meaning.specs.Trace.{op_at}
@@ -10,6 +10,7 @@ use Rattle.iloc_timed.specs.Rows.{slots, kind_in, is_some_kind, keeps_units}
 use Rattle.iloc_sched.proofs.Basics.Slots.{count_by-cons}
 use Rattle.iloc_sched.proofs.Bounds.Counting.{count-mono, count-append}
 use Rattle.std.proofs.lemmas.List.Sums.{count_by-le-length}
+use Rattle.std.proofs.lemmas.Bool.{and_cases}
 
 -- whether operation i is of such a kind
 abbrev pub is_kind : (Kind → Bool) → List Op → ℕ → Bool
@@ -64,17 +65,13 @@ holds_products ops row h =
     let one = one_slot p row.one in
     let sum = both_slots p row.one row.zero in omega arith
 
-one_false : (a b : Bool) → (a && b) ≡ false → (a ≡ false) ⊎ (b ≡ false)
-one_false true b h = inr h
-one_false false b h = inl refl
-
 pub holds_outputs : (ops : List Op) → Holds is_output 1 ops
 holds_outputs ops row h =
     let p : ℕ → Bool = is_kind is_output ops in
     let zero_one = one_slot p row.zero in
     let one_one = one_slot p row.one in
     let sum = both_slots p row.one row.zero in
-    elim (one_false (is_some_kind is_output (kind_in ops row.zero)) (is_some_kind is_output (kind_in ops row.one))
+    elim (and_cases (is_some_kind is_output (kind_in ops row.zero)) (is_some_kind is_output (kind_in ops row.one))
     (units_of ops row h).2) [
       | inl first ↦ (let none = not_there is_output ops row.zero first in omega arith)
       | inr second ↦ (let none = not_there is_output ops row.one second in omega arith)

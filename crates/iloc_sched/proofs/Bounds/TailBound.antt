@@ -3,7 +3,7 @@ use Rattle.std.proofs.Common.{◌≡◌, ◌∙◌, ℕ, ◌+◌, ◌-◌, ◌*�
 use Rattle.std.specs.Prelude.{count_by, nat_le, nat_lt, slice_index, fold}
 use Rattle.std.specs.List.{range_with_len}
 use Rattle.std.proofs.Math.Nat.{mul-suc, mul-div-le, mul-le-mul_left}
-use Rattle.std.proofs.lemmas.Bool.{and_parts, cases_lt}
+use Rattle.std.proofs.lemmas.Bool.{and_parts, cases_lt, and_from}
 use Rattle.std.proofs.lemmas.Bool.Decides.{nat_tests}
 use Rattle.std.proofs.lemmas.List.Sums.{length-filter}
 use Rattle.iloc_ops.specs.declared.op.Op.{Op}
@@ -25,7 +25,7 @@ use Rattle.iloc_sched.proofs.Basics.Maxima.{fold_max_reached}
 use Rattle.iloc_sched.proofs.Basics.Slots.{numbers_before, early_issued, issued_early, count_by-cons}
 use Rattle.iloc_sched.proofs.DelayPairs.DelayBounds.{in_when, delay_at_most}
 use Rattle.iloc_sched.proofs.PriorityValues.Longest.{Reached, from_reaches, outer_pair}
-use Rattle.iloc_sched.proofs.Bounds.Counting.{count-append, count-never, count-map, count-filter, count-mono, among, in_among, among-short, both, at_least}
+use Rattle.iloc_sched.proofs.Bounds.Counting.{count-append, count-never, count-map, count-filter, count-mono, among, in_among, among-short, at_least}
 use Rattle.iloc_sched.proofs.Bounds.Packing.{needed_mono}
 use Rattle.iloc_sched.proofs.Bounds.RowsHold.{Holds, is_kind}
 
@@ -60,7 +60,7 @@ in_between : (a c x : ℕ) → a ≤ x → x < c → between a c x ≡ true
 in_between a c x low high =
     let first : nat_le a x ≡ true = grind (arith, nat_tests) in
     let second : nat_lt x c ≡ true = grind (arith, nat_tests) in
-    both (nat_le a x) (nat_lt x c) first second
+    and_from (nat_le a x) (nat_lt x c) first second
 
 -- of the operations that pass a test a cycle holds so many
 abbrev pub Crowd : ℕ → (ℕ → Bool) → ℕ → (ℕ → ℕ) → Type 0
@@ -100,7 +100,7 @@ key width p q n t f a limit some crowd each start =
           let reach : b ≤ f i = at_least b (f i) parts.1 in
           let first : a ≤ t i = its.1 in
           let last : t i + f i ≤ limit = its.2 in
-          both (p i) (between a (limit - b + 1) (t i)) its.0
+          and_from (p i) (between a (limit - b + 1) (t i)) its.0
           (in_between a (limit - b + 1) (t i) first (omega arith))) in
           let few : count_by (λ i. p i && between a (limit - b + 1) (t i)) range ≤ width * ((limit - b + 1) - a) =
           crowd a (limit - b + 1) in
@@ -161,7 +161,7 @@ crowd_of test width ops rows table holds a c =
     let below = (from_range 0 (length ops) i there).1 in
     in_among early i (in_filter p (numbers_before rows c) i
     (early_issued ops rows table c i (omega arith) time.1)
-    (both (is_kind test ops i) (nat_le a (issue_cycle rows i)) parts.0 when_issued.0))) in
+    (and_from (is_kind test ops i) (nat_le a (issue_cycle rows i)) parts.0 when_issued.0))) in
     let few : count_by (among early) range ≤ length early = among-short early 0 (length ops) in
     let size : length early ≡ count_by p (numbers_before rows c) = length-filter p (numbers_before rows c) in
     let most : count_by p (numbers_before rows c) ≤ width * (c - a) =

@@ -1,12 +1,13 @@
 -- What is ready is just what can be issued, as more becomes ready and as a choice is issued; for `Waiting::release`,
 -- `issue_first`.
 use Rattle.std.proofs.Common.{◌≡◌, ◌≢◌, ℕ, ◌+◌, ◌%◌, ◌<◌, Bool, true, List, get_or, Some, None, inl, inr, sym, ◌∙◌, subst}
+use Rattle.std.proofs.lemmas.Bool.{or_cases}
 use Rattle.iloc_sched.specs.declared.cycle.calendar.Calendar.{Calendar}
 use Rattle.iloc_sched.specs.Steps.Cycle.Calendar.{has, Releases}
 use Rattle.iloc_sched.specs.Steps.Graph.{Graph, IsGraph}
 use Rattle.iloc_sched.specs.Steps.Cycle.Progress.{Progress, Waits, CanIssue, KeepsPlaces}
 use Rattle.iloc_sched.specs.Steps.Cycle.SoFar.{IsQueued}
-use Rattle.iloc_sched.proofs.Ranks.Calendars.{or_true, true_or}
+use Rattle.iloc_sched.proofs.Ranks.Calendars.{true_or}
 use Rattle.iloc_sched.proofs.Walking.BucketOfCycle.{due_now, then_due, later_still}
 use Rattle.iloc_sched.proofs.Walking.StillIssuable.{can_issue_still, can_issue_back}
 
@@ -35,7 +36,7 @@ queued_with_due ranks graph w c k k' bucket' is at waits queued released = recor
   only = λ j there held.
       let r = get_or ranks j 0 in
       still_can graph w (c + 1) j bucket'
-      (elim (or_true (has k 32 r) (has k (c % 32) r) (sym (released.union r) ∙ held)) [
+      (elim (or_cases (has k 32 r) (has k (c % 32) r) (sym (released.union r) ∙ held)) [
         | inl old ↦ later_still graph w c j (queued.only j there old)
         | inr due ↦ due_now graph w c is waits j there (at j ∙ due)
       ]);

@@ -1,12 +1,11 @@
 -- A near pair is a use, or comes from what stands last before the operation; for `Edges::add_all`.
 use Rattle.std.proofs.Common.{◌≡◌, ℕ, ◌<◌, Bool, true, false, if◌then◌else◌, List, length, Some, ◌⊎◌, inl, inr, refl, sym, ◌∙◌, ap, subst, arith}
 use Rattle.std.specs.Prelude.{Contains}
-use Rattle.std.proofs.lemmas.Bool.{false≢true}
+use Rattle.std.proofs.lemmas.Bool.{false≢true, false_from_ne_true}
 use Rattle.iloc_ops.specs.declared.op.Reg.{Reg}
 use Rattle.iloc_ops.specs.declared.op.Op.{Op}
 use Rattle.iloc_ops.specs.Registers.{used, defined}
 use Rattle.iloc_meaning.specs.Trace.{op_at, is_register}
-use Rattle.iloc_meaning.proofs.Cases.{by_bool}
 use Rattle.iloc_timed.specs.declared.kind.Kind.{Kind}
 use Rattle.iloc_timed.specs.declared.kind.Kind.TheVariants as K
 use Rattle.iloc_timed.specs.declared.latencies.Latencies.{Latencies}
@@ -60,9 +59,6 @@ output_is _ holds = cc
 load_is : (k : Kind) → is_load k ≡ true → k ≡ K.Load
 load_is K.Load holds = refl
 load_is _ holds = cc
-
-not_true : (b : Bool) → (b ≡ true → ⊥) → b ≡ false
-not_true b not = by_bool b (λ t. absurd (not t)) (λ f. f)
 
 module _ (lat : Latencies) (ops : List Op) (j : ℕ) (lasts : Lasts) (is : IsLasts ops lasts j) where
   none_like : (a : Kind) (i : ℕ) → kind (op_at ops i) ≡ a → NoneBetween ops i j → (k : ℕ) → i < k → k < j
@@ -155,14 +151,14 @@ module _ (lat : Latencies) (ops : List Op) (j : ℕ) (lasts : Lasts) (is : IsLas
   store_there i at =
       let h : IsLast (λ k. is_store (kind (op_at ops k)) ≡ true) j (Some i) =
       subst (IsLast (λ k. is_store (kind (op_at ops k)) ≡ true) j) at is.store in
-      (h.0, store_is (kind (op_at ops i)) h.1, λ k after before. not_true (Replaced K.Store k) (h.2 k after before))
+      (h.0, store_is (kind (op_at ops i)) h.1, λ k after before. false_from_ne_true (Replaced K.Store k) (h.2 k after before))
 
   output_there : (i : ℕ) → lasts.output ≡ Some i
       → (i < j) × (kind (op_at ops i) ≡ K.Output) × ((k : ℕ) → i < k → k < j → Replaced K.Output k ≡ false)
   output_there i at =
       let h : IsLast (λ k. is_output (kind (op_at ops k)) ≡ true) j (Some i) =
       subst (IsLast (λ k. is_output (kind (op_at ops k)) ≡ true) j) at is.output in
-      (h.0, output_is (kind (op_at ops i)) h.1, λ k after before. not_true (Replaced K.Output k) (h.2 k after before))
+      (h.0, output_is (kind (op_at ops i)) h.1, λ k after before. false_from_ne_true (Replaced K.Output k) (h.2 k after before))
 
   pub definer_there : (r : Reg) (i : ℕ) → number_at lasts.definers r.0 ≡ Some i
       → (i < j) × (defined (op_at ops i) ≡ Some r)

@@ -2,7 +2,7 @@
 use Rattle.std.proofs.Common.{◌≡◌, ℕ, ◌+◌, ◌<◌, ◌≤◌, zero, suc, Bool, true, false, ◌==◌, ◌||◌, ◌&&◌, List, [], ◌∷◌, length, ◌⊎◌, inl, inr, refl, sym, arith}
 use Rattle.std.specs.Prelude.{nat_lt}
 use Rattle.std.specs.List.{range_with_len}
-use Rattle.std.proofs.lemmas.Bool.{ltb-true, lt-ltb, and_parts, eq-eqb, true≢false, eqb-true}
+use Rattle.std.proofs.lemmas.Bool.{ltb-true, lt-ltb, and_parts, eq-eqb, true≢false, eqb-true, and_from, or_cases}
 use Rattle.iloc_ops.specs.declared.op.Op.{Op}
 use Rattle.iloc_meaning.specs.Trace.{op_at}
 use Rattle.iloc_timed.specs.declared.latencies.Latencies.{Latencies}
@@ -12,18 +12,10 @@ use Rattle.iloc_sched.specs.Steps.Members.{In}
 use Rattle.iloc_sched.specs.Steps.Ranking.Dependents.{Reaches}
 use Rattle.iloc_sched.proofs.Basics.Members.{contains_from, in_from, any_at, from_any, in_range_from, from_range}
 
-both : (a b : Bool) → a ≡ true → b ≡ true → (a && b) ≡ true
-both true b first second = second
-both false b first second = absurd (true≢false (sym first))
-
 either : (a b : Bool) → (a ≡ true) ⊎ (b ≡ true) → (a || b) ≡ true
 either true b one = refl
 either false b (inl first) = absurd (true≢false (sym first))
 either false b (inr second) = second
-
-from_either : (a b : Bool) → (a || b) ≡ true → (a ≡ true) ⊎ (b ≡ true)
-from_either true b one = inl refl
-from_either false b one = inr one
 
 -- a list with a member isn't empty, and the other way round
 not_empty : (ds : List ℕ) (d : ℕ) → In ds d → nat_lt 0 (length ds) ≡ true
@@ -36,7 +28,7 @@ some_delay (d ∷ ds) some = (d, inl refl)
 
 pub pair_waits : (lat : Latencies) (ops : List Op) (i k d : ℕ) → IsDelayPair lat ops i k d → waits_for lat ops i k ≡ true
 pair_waits lat ops i k d pair =
-    both (nat_lt i k) (nat_lt 0 (length (delays lat (op_at ops i) (op_at ops k)))) (lt-ltb i k pair.order)
+    and_from (nat_lt i k) (nat_lt 0 (length (delays lat (op_at ops i) (op_at ops k)))) (lt-ltb i k pair.order)
     (not_empty (delays lat (op_at ops i) (op_at ops k)) d (in_from (delays lat (op_at ops i) (op_at ops k)) d pair.delay))
 
 pub waits_pair : (lat : Latencies) (ops : List Op) (i k : ℕ) → k < length ops → waits_for lat ops i k ≡ true
@@ -61,7 +53,7 @@ one_more : (lat : Latencies) (ops : List Op) (n i k j d : ℕ) → IsDelayPair l
 one_more lat ops n i k j d pair rest =
     any_at (λ m. waits_for lat ops i m && ((m == j) || depends lat ops n m j)) (range_with_len 0 (length ops)) k
     (in_range_from 0 (length ops) k (omega arith) (let within : k < length ops = pair.within in omega arith))
-    (both (waits_for lat ops i k) ((k == j) || depends lat ops n k j) (pair_waits lat ops i k d pair)
+    (and_from (waits_for lat ops i k) ((k == j) || depends lat ops n k j) (pair_waits lat ops i k d pair)
     (either (k == j) (depends lat ops n k j)
     (elim rest [ inl same ↦ inl (eq-eqb k j same) | inr further ↦ inr further ])))
 
@@ -84,7 +76,7 @@ one_less lat ops n i j is =
       to = k;
       delay = pair.0;
       pair = pair.1;
-      rest = elim (from_either (k == j) (depends lat ops n k j) parts.1) [
+      rest = elim (or_cases (k == j) (depends lat ops n k j) parts.1) [
         | inl same ↦ inl (eqb-true k j same)
         | inr further ↦ inr further
       ];

@@ -1,6 +1,6 @@
 -- The calendar of a plan, as ranks are put into it, released and taken.
 use Rattle.std.proofs.Common.{◌≡◌, ◌≢◌, ℕ, ◌+◌, ◌/◌, ◌<◌, ◌≤◌, ◌⊎◌, ◌||◌, Bool, true, false, eqb, length, get_or, inl, inr, refl, sym, ◌∙◌, ap, subst, arith}
-use Rattle.std.proofs.lemmas.Bool.{true≢false}
+use Rattle.std.proofs.lemmas.Bool.{true≢false, or_cases}
 use Rattle.iloc_sched.specs.declared.cycle.calendar.Calendar.{Calendar}
 use Rattle.iloc_sched.specs.declared.cycle.class.Class.{Class}
 use Rattle.iloc_sched.specs.declared.cycle.class.Class.TheVariants as C
@@ -31,10 +31,6 @@ other_class C.Memory C.Memory apart = absurd (apart refl)
 other_class C.Product C.Product apart = absurd (apart refl)
 other_class C.Output C.Output apart = absurd (apart refl)
 other_class _ _ apart = refl
-
-pub or_true : (a b : Bool) → (a || b) ≡ true → (a ≡ true) ⊎ (b ≡ true)
-or_true true b is = inl refl
-or_true false b is = inr is
 
 pub true_or : (a b : Bool) → (a ≡ true) ⊎ (b ≡ true) → (a || b) ≡ true
 true_or true b is = refl
@@ -104,7 +100,7 @@ module _ (p : Plan) (plan : IsPlan p) where
     calendar_released b low released keeps = record {
       room = room_kept c c' (length p.tables.now.ops.items) keeps is.room;
       ranked = λ t r t_low held. by_eq t 32
-          (λ ready. elim (or_true (has c 32 r) (has c b r) (sym (released.union r) ∙ ap (λ u. has c' u r) (sym ready) ∙ held)) [
+          (λ ready. elim (or_cases (has c 32 r) (has c b r) (sym (released.union r) ∙ ap (λ u. has c' u r) (sym ready) ∙ held)) [
             | inl old ↦ is.ranked 32 r (omega arith) old
             | inr due ↦ is.ranked b r (omega arith) due
           ])
@@ -126,7 +122,7 @@ module _ (p : Plan) (plan : IsPlan p) where
       → Enters (length p.tables.now.ops.items) (bucket_of p.ranks.now c) (bucket_of p.ranks.now c') b j at_end
   puts_enters c c' b j ready at_end low there puts end begin = record {
     comes = λ over. puts.here ∙ true_or ready (has c b (rank_of p j)) (inl (begin over));
-    was = λ held. elim (or_true ready (has c b (rank_of p j)) (sym puts.here ∙ held)) [ inl is ↦ inr (end is) | inr old ↦ inl old ];
+    was = λ held. elim (or_cases ready (has c b (rank_of p j)) (sym puts.here ∙ held)) [ inl is ↦ inr (end is) | inr old ↦ inl old ];
     others = λ a k a_low k_there apart. puts.others a (rank_of p k) (omega arith)
         (λ same ranks. apart same (ranks_apart k j k_there there ranks));
   }

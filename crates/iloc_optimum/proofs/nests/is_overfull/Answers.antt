@@ -5,11 +5,10 @@ use Rattle.iloc_optimum.specs.Steps.Inside.{count_inside, is_inside}
 use Rattle.iloc_optimum.proofs.FullCycles.{is_less, in_between, issued_inside}
 use Rattle.std.specs.Prelude.{count_by}
 use Rattle.std.specs.List.{range_with_len}
-use Rattle.std.proofs.lemmas.Bool.{cases_lt}
+use Rattle.std.proofs.lemmas.Bool.{cases_lt, and_from}
 use Rattle.iloc_timed.specs.declared.kind.Kind.{Kind}
 use Rattle.iloc_sched.specs.declared.lower_bound.share.Share.{Share}
 use Rattle.iloc_sched.proofs.Basics.Slots.{count_by-cons}
-use Rattle.iloc_sched.proofs.Bounds.Counting.{both}
 use Rattle.iloc_optimum.specs.Timing.{Within, FitsShares, between, belongs}
 use Rattle.iloc_optimum.proofs.nests.is_overfull.Goals as goal
 
@@ -63,11 +62,11 @@ module _ (kinds : List Kind) (firsts lasts : List ℕ) (s : Share) (a e b f : �
       → ((belongs kinds All i && between b (f + 1) (t i)) ≡ true)
       ⊎ ((belongs kinds s i && between a b (t i)) ≡ true) ⊎ ((belongs kinds s i && between (f + 1) (e + 1) (t i)) ≡ true)
   placed i member low high = elim (cases_lt (t i) b) [
-    | inl early ↦ inr (inl (both (belongs kinds s i) (between a b (t i)) member (in_between a b (t i) low early)))
+    | inl early ↦ inr (inl (and_from (belongs kinds s i) (between a b (t i)) member (in_between a b (t i) low early)))
     | inr late ↦ elim (cases_lt f (t i)) [
-      | inl after ↦ inr (inr (both (belongs kinds s i) (between (f + 1) (e + 1) (t i)) member
+      | inl after ↦ inr (inr (and_from (belongs kinds s i) (between (f + 1) (e + 1) (t i)) member
           (in_between (f + 1) (e + 1) (t i) (omega arith) (omega arith))))
-      | inr before ↦ inl (both true (between b (f + 1) (t i)) refl (in_between b (f + 1) (t i) late (omega arith)))
+      | inr before ↦ inl (and_from true (between b (f + 1) (t i)) refl (in_between b (f + 1) (t i) late (omega arith)))
     ]
   ]
 
@@ -80,9 +79,9 @@ module _ (kinds : List Kind) (firsts lasts : List ℕ) (s : Share) (a e b f : �
       (belongs kinds All i && between b (f + 1) (t i)) (belongs kinds s i && between a b (t i))
       (belongs kinds s i && between (f + 1) (e + 1) (t i)) (is_inside kinds firsts lasts s b f i)
       (λ inner. let at = issued_inside kinds firsts lasts All b f t same_firsts same_lasts w i below inner in
-      both true (between b (f + 1) (t i)) refl (in_between b (f + 1) (t i) at.1 (omega arith)))
+      and_from true (between b (f + 1) (t i)) refl (in_between b (f + 1) (t i) at.1 (omega arith)))
       (λ inner outer. let at = issued_inside kinds firsts lasts s a e t same_firsts same_lasts w i below outer in
-      both (belongs kinds s i) (is_inside kinds firsts lasts All b f i) at.0 inner)
+      and_from (belongs kinds s i) (is_inside kinds firsts lasts All b f i) at.0 inner)
       (λ outer. let at = issued_inside kinds firsts lasts s a e t same_firsts same_lasts w i below outer in
       placed i at.0 at.1 at.2)
 

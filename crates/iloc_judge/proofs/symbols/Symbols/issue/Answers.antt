@@ -1,9 +1,9 @@
+use Rattle.std.proofs.lemmas.Result.{on_ok_weaker}
 use Rattle.iloc_judge.proofs.Runs.Tracking.{keeps_issue}
-use Rattle.iloc_judge.proofs.Runs.Rows.{on_ok}
 use Rattle.iloc_judge.proofs.symbols.Symbols.issue.Goals as goal
 
 pub returns : goal.returns
-returns c = on_ok c.perform.result _ _ (λ records memory d meaning.
+returns c = on_ok_weaker c.perform.result (λ records memory d meaning.
     let acts = c.in_ok-action.ensures memory d meaning in (
       acts.0,
       λ n log from upto keeps. keeps_issue memory d n c.args.due c.args.op.now log c.args.self.now c.perform.new.self

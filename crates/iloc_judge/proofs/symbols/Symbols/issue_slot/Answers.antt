@@ -1,8 +1,9 @@
-use Rattle.iloc_judge.proofs.Runs.Rows.{on_ok, keeps_slot}
+use Rattle.std.proofs.lemmas.Result.{on_ok_weaker}
+use Rattle.iloc_judge.proofs.Runs.Rows.{keeps_slot}
 use Rattle.iloc_judge.proofs.symbols.Symbols.issue_slot.Goals as goal
 
 pub returns-in-Some : goal.returns-in-Some
-returns-in-Some c = on_ok c.issue.result _ _ (λ says memory d meaning.
+returns-in-Some c = on_ok_weaker c.issue.result (λ says memory d meaning.
     let issued = says memory d meaning in (
       issued.0,
       keeps_slot memory d c.args.latencies.now c.args.ops.now c.args.cycle c.in-Some.i c.latency.result c.args.slot _

@@ -1,11 +1,11 @@
 use Rattle.std.proofs.Common.{◌+◌, subst}
+use Rattle.std.proofs.lemmas.Result.{on_ok_weaker}
 use Rattle.iloc_timed.proofs.WholeRuns.{row_issued}
 use Rattle.iloc_judge.specs.Steps.Tracking.{Keeps}
-use Rattle.iloc_judge.proofs.Runs.Rows.{on_ok}
 use Rattle.iloc_judge.proofs.symbols.Symbols.run_row.Goals as goal
 
 pub returns : goal.returns
-returns c = on_ok c.issue_slot-2.result _ _ (λ says memory d meaning.
+returns c = on_ok_weaker c.issue_slot-2.result (λ says memory d meaning.
     let second = says memory d meaning in
     let first = c.in_ok-issue_slot.ensures memory d second.0 in
     let landed = c.in_ok-land.ensures memory d first.0 in (

@@ -1,9 +1,10 @@
+use Rattle.std.proofs.lemmas.Result.{on_ok_weaker}
 use Rattle.iloc_trace.proofs.Landing.{after_landing}
-use Rattle.iloc_trace.proofs.RowsOn.{after_row, if_ok, on_ok, row_listed}
+use Rattle.iloc_trace.proofs.RowsOn.{after_row, if_ok, row_listed}
 use Rattle.iloc_trace.proofs.machine.Machine.run_row.Goals as goal
 
 pub returns-clause-lists : goal.returns-clause-lists
-returns-clause-lists c = on_ok _ _ c.issue.result
+returns-clause-lists c = on_ok_weaker c.issue.result
     (λ issued. λ memory log follows.
     row_listed c.args.latencies.now memory c.args.ops.now c.args.row c.args.cycle log c.args.self.now c.land.new.self
     c.args.text.now.items c.land.new.text.items c.issue.new.text.items follows
