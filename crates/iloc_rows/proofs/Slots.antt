@@ -1,6 +1,6 @@
 -- Each operation of rows with numbers is in exactly one slot.
-use Rattle.std.proofs.Common.{◌≡◌, ◌∙◌, ℕ, zero, suc, ◌+◌, ◌<◌, ◌≤◌, nat_lt, ◌==◌, ◌⊎◌, inl, inr, Bool, true, false, cond, List, [], ◌∷◌, ◌++◌, length, length-append, count_by, Option, Some, None, option_to_list, refl, arith, eq-eqb, ne_eqb}
-use Rattle.std.proofs.lemmas.Bool.{cases_lt, cases_eq, lt-ltb}
+use Rattle.std.proofs.Common.{◌≡◌, ◌≢◌, ◌∙◌, ℕ, zero, suc, ◌+◌, ◌<◌, ◌≤◌, nat_lt, ◌==◌, inl, inr, Bool, true, false, cond, List, [], ◌∷◌, ◌++◌, length, length-append, count_by, Option, Some, None, option_to_list, refl, arith, eq-eqb, ne_eqb}
+use Rattle.std.proofs.lemmas.Bool.{cases_lt, lt-ltb}
 use Rattle.std.proofs.lemmas.List.Sums.{sum_by-cons}
 use Rattle.iloc_ops.specs.declared.op.Op.{Op}
 use Rattle.iloc_timed.specs.declared.row.Row.{Row}
@@ -37,15 +37,8 @@ slot_elsewhere i n op apart = by (is_empty op) refl
     by true e = rw e refl
     by false e = rw (e, other) refl
 
-abbrev InSlot : ℕ → ℕ → Op → Type 0
-InSlot i n op = ((i ≡ n) × (times_in i (slot n op) ≡ length (filled op)))
-    ⊎ ((i ≡ n → ⊥) × (times_in i (slot n op) ≡ 0))
-
-in_slot : (i n : ℕ) (op : Op) → InSlot i n op
-in_slot i n op = elim (cases_eq i n) as (λ _. InSlot i n op) [
-  | inl here ↦ inl (here, rw here (slot_here n op))
-  | inr apart ↦ inr (apart, slot_elsewhere i n op apart)
-]
+in_slot : (i n : ℕ) (op : Op) → (i ≡ n → times_in i (slot n op) ≡ length (filled op)) × (i ≢ n → times_in i (slot n op) ≡ 0)
+in_slot i n op = (λ here. rw here (slot_here n op), slot_elsewhere i n op)
 
 one_at_most : (op : Op) → length (filled op) ≤ 1
 one_at_most op = by (is_empty op) refl
@@ -88,32 +81,13 @@ in_row i n r =
     length-append (filled r.0) (filled r.1) in
     let few = one_at_most r.0 in
     let few' = one_at_most r.1 in
-    elim (in_slot i n r.0) as (λ _. InRow i n r) [
-      | inl first ↦ elim (in_slot i (n + length (filled r.0)) r.1) as (λ _. InRow i n r) [
-        | inl second ↦ record {
-          before = λ b. omega (arith, both, size, first.0, first.1, second.0, second.1);
-          here = λ b h. omega (arith, both, size, few, few', first.0, first.1, second.0, second.1);
-          beyond = λ b. omega (arith, both, size, first.0, first.1, second.0, second.1);
-        }
-        | inr second ↦ record {
-          before = λ b. omega (arith, both, size, first.0, first.1, second.0, second.1);
-          here = λ b h. omega (arith, both, size, few, few', first.0, first.1, second.0, second.1);
-          beyond = λ b. omega (arith, both, size, first.0, first.1, second.0, second.1);
-        }
-      ]
-      | inr first ↦ elim (in_slot i (n + length (filled r.0)) r.1) as (λ _. InRow i n r) [
-        | inl second ↦ record {
-          before = λ b. omega (arith, both, size, first.0, first.1, second.0, second.1);
-          here = λ b h. omega (arith, both, size, few, few', first.0, first.1, second.0, second.1);
-          beyond = λ b. omega (arith, both, size, first.0, first.1, second.0, second.1);
-        }
-        | inr second ↦ record {
-          before = λ b. omega (arith, both, size, first.0, first.1, second.0, second.1);
-          here = λ b h. omega (arith, both, size, few, few', first.0, first.1, second.0, second.1);
-          beyond = λ b. omega (arith, both, size, first.0, first.1, second.0, second.1);
-        }
-      ]
-    ]
+    let first = in_slot i n r.0 in
+    let second = in_slot i (n + length (filled r.0)) r.1 in
+    record {
+      before = λ b. omega (arith, both, size, first.0, first.1, second.0, second.1);
+      here = λ b h. omega (arith, both, size, few, few', first.0, first.1, second.0, second.1);
+      beyond = λ b. omega (arith, both, size, first.0, first.1, second.0, second.1);
+    }
 
 -- All rows
 
