@@ -48,7 +48,6 @@ from_order (row ∷ rows) i there = elim (from_append (in_order row) (issue_orde
 
 module _ (lat : Latencies) (ops : List Op) (rows : List Row) (table : IsTable ops rows) (j : ℕ) (here : j < length ops)
     (ready : ℕ) where
-
   issued_at : (c i : ℕ) → c < length rows → In (in_order (row_at rows c)) i → issue_cycle rows i ≡ c
   issued_at c i within there =
       let held : holds (row_at rows c) i ≡ true = from_row (row_at rows c) i there in
