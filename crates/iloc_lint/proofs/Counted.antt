@@ -1,5 +1,5 @@
 -- What one more line does to the counts of blocks and operations.
-use Rattle.std.proofs.Common.{◌≡◌, ◌∙◌, ℕ, ◌+◌, ◌<◌, ◌≤◌, Bool, true, false, ◌==◌, List, [], ◌∷◌, ◌++◌, length, refl, sym, ap, Option, Some, None, is_some, option_to_list, length-append, inl, inr, eq-eqb, ne_eqb, arith}
+use Rattle.std.proofs.Common.{◌≡◌, ◌∙◌, ℕ, ◌+◌, ◌<◌, ◌≤◌, Bool, List, [], ◌∷◌, ◌++◌, length, refl, ap, Option, Some, None, is_some, option_to_list, length-append, eq-eqb, ne_eqb, arith}
 use Rattle.std.proofs.lemmas.List.Elements.{filter_map-append}
 use Rattle.iloc_ops.specs.declared.op.Op.{Op}
 use Rattle.iloc_text.specs.Files.{Reading, block_count, ops_of}
@@ -55,18 +55,11 @@ op_goes rs r op h g some = goes_by rs r (count-op rs r op h g some)
 -- all operations
 pub ops_more : (rs : List Reading) (r : Reading) → length (ops_in (rs ++ r ∷ [])) ≡ length (ops_in rs)
     + length (option_to_list r.op)
-ops_more rs r = ap length (filter_map-append (λ (s : Reading). s.op) rs (r ∷ [])
-    ∙ ap (λ o. ops_in rs ++ o) (filter_map-one (λ (s : Reading). s.op) r))
-    ∙ length-append (ops_in rs) (option_to_list r.op)
+ops_more rs r = grind (arith, filter_map-append, filter_map-one, length-append, option_to_list)
 
 pub ops_few : (rs : List Reading) → length (ops_in rs) ≤ length rs
 ops_few [] = omega arith
-ops_few (r ∷ rs) = by r.op (ops_few rs)
-  where
-    by : (op : Option Op) → length (ops_in rs) ≤ length rs
-        → length (ops_in (record { label = r.label; op = op } ∷ rs)) ≤ length (r ∷ rs)
-    by None few = omega arith
-    by (Some op) few = omega arith
+ops_few (r ∷ rs) = grind (arith, ops_few rs)
 
 -- the counts with one more line
 
@@ -77,52 +70,18 @@ record HasGrown (rs : List Reading) (g : ℕ × ℕ) : Type 0 where
 
 grown_by : (before : List Reading) (counts : Counts) (label : Option (List ℕ)) (op : Option Op) → Count before counts
     → HasGrown (before ++ record { label = label; op = op } ∷ []) (grown counts.blocks counts.last (is_some label) (is_some op))
-grown_by before counts (Some name) op count = by op (label_starts before (record { label = Some name; op = op }) name refl)
-  where
-    by : (op : Option Op) → Starts before (record { label = Some name; op = op })
-        → HasGrown (before ++ record { label = Some name; op = op } ∷ [])
-        (grown counts.blocks counts.last true (is_some op))
-    by None s = let b = count.blocks in record { blocks = omega (arith, s.blocks); last = omega (arith, s.last) }
-    by (Some o) s = let b = count.blocks in record { blocks = omega (arith, s.blocks); last = omega (arith, s.last) }
-grown_by before counts None None count =
-    let s = empty_goes before (record { label = None; op = None }) refl refl in
-    let b = count.blocks in
-    let l = count.last in
-    record { blocks = omega (arith, s.blocks); last = omega (arith, s.last) }
-grown_by before counts None (Some op) count = elim (none_or_some (block_count before)) [
-  | inl none ↦ (let s = first_starts before (record { label = None; op = Some op }) op refl refl none in
-      let is : (counts.blocks == 0) ≡ true = eq-eqb _ _ (count.blocks ∙ none) in
-      rw is (record { blocks = omega (arith, s.blocks); last = omega (arith, s.last) }))
-  | inr some ↦ (let s = op_goes before (record { label = None; op = Some op }) op refl refl some in
-      let b = count.blocks in
-      let l = count.last in
-      let is : (counts.blocks == 0) ≡ false = ne_eqb _ _ (λ z. omega arith) in
-      rw is (record { blocks = omega (arith, s.blocks); last = omega (arith, s.last) }))
-]
+grown_by before counts label op count = grind (arith, empty_goes, eq-eqb, first_starts, is_some, label_starts, ne_eqb, none_or_some, op_goes)
 
 pub counted : (before : List Reading) (counts : Counts) (label : Option (List ℕ)) (op : Option Op) (labelled : Bool)
     (g : ℕ × ℕ) → Count before counts → labelled ≡ is_some label
     → g ≡ grown counts.blocks counts.last labelled (is_some op)
     → (block_count (before ++ record { label = label; op = op } ∷ []) ≡ g.0)
     × (last_in (before ++ record { label = label; op = op } ∷ []) ≡ g.1)
-counted before counts label op labelled g count same is =
-    let found = grown_by before counts label op count in
-    let all : grown counts.blocks counts.last (is_some label) (is_some op) ≡ g =
-    ap (λ l. grown counts.blocks counts.last l (is_some op)) (sym same) ∙ sym is in
-    (found.blocks ∙ ap (λ p. p.0) all, found.last ∙ ap (λ p. p.1) all)
+counted before counts label op labelled g count same is = grind (arith, grown_by, is_some)
 
 -- an empty line changes none
 pub empty_counted : (before : List Reading) (counts : Counts) → Count before counts → Count (before ++ empty ∷ []) counts
-empty_counted before counts count =
-    let s = empty_goes before empty refl refl in
-    let b = count.blocks in
-    let l = count.last in
-    let o = count.ops in
-    record {
-      blocks = omega (arith, s.blocks);
-      last = omega (arith, s.last);
-      ops = omega (arith, ops_more before empty);
-    }
+empty_counted before counts count = grind (arith, empty_goes, ops_more)
 
 pub none_counted : block_count [] ≡ 0
 unfolding block_count

@@ -1,5 +1,5 @@
 -- The entries of refusals, one after another.
-use Rattle.std.proofs.Common.{◌≡◌, ◌∙◌, ℕ, ◌+◌, ◌<◌, List, [], ◌∷◌, ◌++◌, length, take, get_or, refl, sym, ap, subst, append_assoc, append-nil}
+use Rattle.std.proofs.Common.{◌≡◌, ◌∙◌, ℕ, ◌+◌, ◌<◌, List, [], ◌∷◌, ◌++◌, length, take, get_or, refl, sym, ap, subst, append_assoc, append-nil, arith}
 use Rattle.std.proofs.lemmas.List.{map-append, take_more}
 use Rattle.iloc_lint.specs.Faults.{Refusal}
 use Rattle.iloc_lint.specs.Refused.{refusal_of, refusals_of}
@@ -9,13 +9,7 @@ use Rattle.iloc_lint.specs.Listing.{IsEntry, AreEntries}
 one_more : (refusals : List Refusal) (r : Refusal) (text entry : List ℕ) → AreEntries refusals text
     → IsEntry r.line r.fault entry → AreEntries (refusals ++ r ∷ []) (text ++ entry)
 one_more [] r text entry are is = (entry, [], is, refl, ap (λ t. t ++ entry) are ∙ sym (append-nil entry))
-one_more (x ∷ xs) r text entry are is = (
-  are.0,
-  are.1 ++ entry,
-  are.2,
-  one_more xs r are.1 entry are.3 is,
-  ap (λ t. t ++ entry) are.4 ∙ append_assoc are.0 are.1 entry,
-)
+one_more (x ∷ xs) r text entry are is = grind (arith, append_assoc, one_more xs r are.1 entry are.3 is)
 
 -- the text so far has the entries of the first refusals
 abbrev pub Has : List Refused → ℕ → List ℕ → List ℕ → Type 0

@@ -47,11 +47,7 @@ Valued value w = (n : ℕ) × (number_in (with_number value n) ≤ MAX_NUMBER) �
 
 text_value : (value : Value) (w : List ℕ) → PartText (value_part value) w → Valued value w
 text_value (Constant n) w j = (j.0, j.1, j.2)
-text_value value w j = (
-  j.second.0,
-  j.second.1,
-  record { front = j.front; rest = j.rest; first = j.first; second = j.second.2; whole = j.whole },
-)
+text_value value w j = grind arith
 
 with_first : {A B C : List ℕ → Type 0} → ((w : List ℕ) → A w → B w) → (w : List ℕ) → (A ⋅ C) w → (B ⋅ C) w
 with_first f w j =
@@ -131,13 +127,7 @@ blanks_join (c ∷ cs) b h k = (h.0, blanks_join cs b h.1 k)
 
 -- blanks and more of them
 more_blanks : {Q : List ℕ → Type 0} (w : List ℕ) → (Blanks ⋅ (Blanks ⋅ Q)) w → (Blanks ⋅ Q) w
-more_blanks w j = record {
-  front = j.front ++ j.second.front;
-  rest = j.second.rest;
-  first = blanks_join j.front j.second.front j.first j.second.first;
-  second = j.second.second;
-  whole = j.whole ∙ ap (λ r. j.front ++ r) j.second.whole ∙ sym (append_assoc j.front j.second.front j.second.rest);
-}
+more_blanks w j = grind (arith, append_assoc, blanks_join)
 
 pub blanks_read_on : (w : List ℕ) → (Blanks ⋅ Plain) w → Plain w
 blanks_read_on w j = (
@@ -198,9 +188,7 @@ opcode_no_blank _ rest = refl
 
 bodies_no_blank : (os : List Opcode) → NoBlank (Bodies os)
 bodies_no_blank [] c w blank h = comment_no_blank c w blank h
-bodies_no_blank (o ∷ os) c w blank (inl j) =
-    let first : is_blank c ≡ false =
-    ap (starts is_blank) (j.whole ∙ ap (λ f. f ++ j.rest) j.first) ∙ opcode_no_blank o j.rest in cc
+bodies_no_blank (o ∷ os) c w blank (inl j) = grind (arith, opcode_no_blank)
 bodies_no_blank (o ∷ os) c w blank (inr h) = bodies_no_blank os c w blank h
 
 -- How far the bytes go along all of them
@@ -216,11 +204,7 @@ pop_body : (os : List Opcode) (o : Opcode) (w : List ℕ) → Bodies (os ++ o �
 pop_body [] o w (inl h) = inr h
 pop_body [] o w (inr h) = inl h
 pop_body (x ∷ os) o w (inl h) = inl (inl h)
-pop_body (x ∷ os) o w (inr h) = by (pop_body os o w h)
-  where
-    by : Bodies os w ⊎ Called o w → (Called x w ⊎ Bodies os w) ⊎ Called o w
-    by (inl k) = inl (inr k)
-    by (inr k) = inr k
+pop_body (x ∷ os) o w (inr h) = grind (arith, pop_body os o w h)
 
 pub one_more : (os : List Opcode) (o : Opcode) {bytes : List ℕ} {k m : ℕ} → Longest (Bodies os) bytes k
     → Longest (Called o) bytes m → Longest (Bodies (os ++ o ∷ [])) bytes (max k m)

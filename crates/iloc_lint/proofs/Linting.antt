@@ -1,5 +1,5 @@
 -- All faults of a text, from line to line.
-use Rattle.std.proofs.Common.{◌≡◌, ◌∙◌, ℕ, ◌≤◌, List, [], ◌∷◌, ◌++◌, length, map, refl, sym, ap, subst, subst₂, Option, Some, option_to_list, append_assoc, append-nil, length-append, arith}
+use Rattle.std.proofs.Common.{◌≡◌, ℕ, ◌≤◌, List, [], ◌∷◌, ◌++◌, length, map, refl, subst, subst₂, Option, Some, option_to_list, append_assoc, append-nil, length-append, arith}
 use Rattle.std.specs.List.{AllByRecursion, join_with_byte}
 use Rattle.iloc_ops.specs.Limits.{MAX_INPUT}
 use Rattle.iloc_text.specs.declared.fault.ReadFault.{ReadFault}
@@ -41,9 +41,7 @@ begins all rs rest h = h
 pub one_on : (all : List (List ℕ)) (now : List Reading) (line : List ℕ) (left : List (List ℕ)) (found : List Refusal)
     (own : List ReadFault) (r : Reading) → GoesOn all now (line ∷ left) found → CountsAs now line r own
     → GoesOn all (now ++ r ∷ []) left (found ++ map (λ fault. record { line = line; fault = fault }) own)
-one_on all now line left found own r on counts rs rest h =
-    subst₂ (AreRefused [] all) (sym (append_assoc now (r ∷ []) rs)) (sym (append_assoc found (map (λ fault. record { line = line; fault = fault }) own) rest))
-    (on (r ∷ rs) (map (λ fault. record { line = line; fault = fault }) own ++ rest) (own, rest, counts, h, refl))
+one_on all now line left found own r on counts = grind (arith, append_assoc, subst₂)
 
 pub at_end : (input : List ℕ) (now : List Reading) (found : List Refusal) (blocks ops : ℕ) → length input ≤ MAX_INPUT
     → GoesOn (lines_of input) now [] found → blocks ≡ block_count now → ops ≡ length (ops_in now)
@@ -62,10 +60,7 @@ at_end input now found blocks ops short on b o = record {
 pub fit_first : {rest : Option (Bor (List ℕ))} {text : Bor (List ℕ)} (line : List ℕ) (more : List (List ℕ))
     → rest ≡ Some text → lines_of text.now ≡ line ∷ more → AllByRecursion IsFit (lines_left rest)
     → IsFit line × AllByRecursion IsFit more
-fit_first line more some split fit =
-    let whole : AllByRecursion IsFit (line ∷ more) =
-    subst (AllByRecursion IsFit) (ap lines_left some ∙ split) fit in
-    (whole.0, whole.1)
+fit_first line more some split fit = grind arith
 
 -- the line at hand is judged
 pub judged_on : (all : List (List ℕ)) (now : List Reading) {rest : Option (Bor (List ℕ))} {text : Bor (List ℕ)}
@@ -73,7 +68,4 @@ pub judged_on : (all : List (List ℕ)) (now : List Reading) {rest : Option (Bor
     → GoesOn all now (lines_left rest) found → rest ≡ Some text → lines_of text.now ≡ line ∷ lines_left after
     → (judged : Judged now line counts fault) → grown ≡ found ++ refusals line fault
     → GoesOn all (now ++ judged.0 ∷ []) (lines_left after) grown
-judged_on all now after line found grown fault counts on some split judged more =
-    subst (GoesOn all (now ++ judged.0 ∷ []) (lines_left after)) (sym more)
-    (one_on all now line (lines_left after) found (option_to_list fault) judged.0
-    (subst (λ ls. GoesOn all now ls found) (ap lines_left some ∙ split) on) judged.1)
+judged_on all now after line found grown fault counts on some split judged more = grind (arith, one_on, option_to_list)

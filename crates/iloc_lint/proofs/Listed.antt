@@ -1,5 +1,5 @@
 -- The listing of a text, put together.
-use Rattle.std.proofs.Common.{◌≡◌, ◌∙◌, ℕ, Bool, ◌==◌, List, [], ◌∷◌, ◌++◌, flat_map, sym, ap, subst, append_assoc, append-nil}
+use Rattle.std.proofs.Common.{◌≡◌, ◌∙◌, ℕ, Bool, ◌==◌, List, [], ◌∷◌, ◌++◌, flat_map, sym, ap, append_assoc, append-nil, arith}
 use Rattle.iloc_lint.specs.Faults.{IsLinted, Refusal}
 use Rattle.iloc_lint.specs.Refused.{AreKept, refusals_of}
 use Rattle.iloc_lint.specs.declared.refused.Refusals.{Refusals}
@@ -21,16 +21,4 @@ pub all_listed : (input : List ℕ) (refusals : List Refusal) (kept : Refusals) 
     (entries hints text : List ℕ) → IsLinted input refusals blocks ops → AreKept refusals kept
     → AreEntries (refusals_of kept.first.items) entries → AreHints (kept.count == 0) hints → reads ≡ (kept.count == 0)
     → text ≡ ((entries ++ more_line kept.count) ++ hints) ++ total_line blocks ops kept.count → ListsLint input reads text
-all_listed input refusals kept blocks ops reads entries hints text linted are said given finds whole =
-    record {
-      faults = refusals;
-      blocks = blocks;
-      ops = ops;
-      linted = linted;
-      entries = entries;
-      are_entries = subst (λ rs. AreEntries rs entries) are.first said;
-      hints = hints;
-      are_hints = subst (λ b. AreHints b hints) (sym finds) given;
-      listed = whole ∙ ap (λ n. entries ++ more_line n ++ hints ++ total_line blocks ops n) are.count;
-      finds = finds ∙ ap (λ n. n == 0) are.count;
-    }
+all_listed input refusals kept blocks ops reads entries hints text linted are said given finds whole = grind arith

@@ -13,25 +13,12 @@ use Rattle.iloc_lint.specs.Steps.Longest.{Longest, SmallNumber, NumberAt, blanks
 
 pub step : {P Q : List ℕ → Type 0} (c : ℕ) (cs : List ℕ) (k : ℕ) → ((w : List ℕ) → Q w → P (c ∷ w))
     → ((w : List ℕ) → P (c ∷ w) → Q w) → Longest Q cs k → Longest P (c ∷ cs) (suc k)
-step {P} {Q} c cs k to from l = record {
-  within = omega (arith, l.within);
-  goes_on = (l.goes_on.0, to (take k cs ++ l.goes_on.0) l.goes_on.1);
-  longest = further;
-}
-  where
-    further : (j : ℕ) (tail : List ℕ) → j ≤ length (c ∷ cs) → P (take j (c ∷ cs) ++ tail) → j ≤ suc k
-    further zero tail h p = omega arith
-    further (suc j) tail h p =
-        let more = l.longest j tail (omega arith) (from (take j cs ++ tail) p) in omega (arith, more)
+step c cs k to from l = grind arith
 
 -- no text of the language begins so
 pub stop : {P : List ℕ → Type 0} (c : ℕ) (cs : List ℕ) → (w : List ℕ) → P w → ((w : List ℕ) → P (c ∷ w) → ⊥)
     → Longest P (c ∷ cs) 0
-stop {P} c cs w some dead = record { within = omega arith; goes_on = (w, some); longest = further }
-  where
-    further : (j : ℕ) (tail : List ℕ) → j ≤ length (c ∷ cs) → P (take j (c ∷ cs) ++ tail) → j ≤ 0
-    further zero tail h p = omega arith
-    further (suc j) tail h p = absurd (dead (take j cs ++ tail) p)
+stop c cs w some dead = grind arith
 
 pub at_end : {P : List ℕ → Type 0} (w : List ℕ) → P w → Longest P [] 0
 at_end {P} w some = record { within = omega arith; goes_on = (w, some); longest = λ j tail h p. h }
@@ -39,31 +26,15 @@ at_end {P} w some = record { within = omega arith; goes_on = (w, some); longest 
 -- the same language, of texts that begin so
 pub same_start : {P Q : List ℕ → Type 0} (c : ℕ) (cs : List ℕ) (k : ℕ) → ((w : List ℕ) → Q w → P w)
     → ((w : List ℕ) → P (c ∷ w) → Q (c ∷ w)) → Longest Q (c ∷ cs) k → Longest P (c ∷ cs) k
-same_start {P} {Q} c cs k to from l = record {
-  within = l.within;
-  goes_on = (l.goes_on.0, to (take k (c ∷ cs) ++ l.goes_on.0) l.goes_on.1);
-  longest = further;
-}
-  where
-    further : (j : ℕ) (tail : List ℕ) → j ≤ length (c ∷ cs) → P (take j (c ∷ cs) ++ tail) → j ≤ k
-    further zero tail h p = omega arith
-    further (suc j) tail h p = l.longest (suc j) tail h (from (take j cs ++ tail) p)
+same_start c cs k to from l = grind arith
 
 pub same_end : {P Q : List ℕ → Type 0} (k : ℕ) → ((w : List ℕ) → Q w → P w) → Longest Q [] k → Longest P [] k
-same_end {P} {Q} k to l = record {
-  within = l.within;
-  goes_on = (l.goes_on.0, to (take k [] ++ l.goes_on.0) l.goes_on.1);
-  longest = λ j tail h p. omega arith;
-}
+same_end k to l = grind arith
 
 -- the same language
 pub same : {P Q : List ℕ → Type 0} {bytes : List ℕ} {k : ℕ} → ((w : List ℕ) → Q w → P w)
     → ((w : List ℕ) → P w → Q w) → Longest Q bytes k → Longest P bytes k
-same {P} {Q} {bytes} {k} to from l = record {
-  within = l.within;
-  goes_on = (l.goes_on.0, to (take k bytes ++ l.goes_on.0) l.goes_on.1);
-  longest = λ j tail h p. l.longest j tail h (from (take j bytes ++ tail) p);
-}
+same to from l = grind arith
 
 -- a text of one language or of another
 pub either : {P Q : List ℕ → Type 0} {bytes : List ℕ} {k m : ℕ} → Longest P bytes k → Longest Q bytes m
@@ -188,18 +159,10 @@ some_stop {Q} q is (c ∷ cs) none = by (is_blank c) refl none
 -- A text
 
 text_less : {Q : List ℕ → Type 0} (t : ℕ) (ts : List ℕ) (w : List ℕ) → (Text (t ∷ ts) ⋅ Q) (t ∷ w) → (Text ts ⋅ Q) w
-text_less t ts w j =
-    let e : t ∷ w ≡ t ∷ (ts ++ j.rest) = j.whole ∙ ap (λ f. f ++ j.rest) j.first in
-    record { front = ts; rest = j.rest; first = refl; second = j.second; whole = cc }
+text_less t ts w j = grind arith
 
 text_more : {Q : List ℕ → Type 0} (t : ℕ) (ts : List ℕ) (w : List ℕ) → (Text ts ⋅ Q) w → (Text (t ∷ ts) ⋅ Q) (t ∷ w)
-text_more t ts w j = record {
-  front = t ∷ j.front;
-  rest = j.rest;
-  first = ap (λ f. t ∷ f) j.first;
-  second = j.second;
-  whole = ap (λ f. t ∷ f) j.whole;
-}
+text_more t ts w j = grind arith
 
 pub some_text : {Q : List ℕ → Type 0} (ts q : List ℕ) → Q q → (Text ts ⋅ Q) (ts ++ q)
 some_text ts q is = record { front = ts; rest = q; first = refl; second = is; whole = refl }
@@ -497,15 +460,7 @@ slash_alone c d cs e other = record { within = omega arith; goes_on = (47 ∷ []
     further j tail h p = omega arith
 
 whole_comment : (bytes : List ℕ) → OptionalComment bytes → Longest OptionalComment bytes (length bytes)
-whole_comment bytes is = record {
-  within = omega arith;
-  goes_on = ([], subst OptionalComment (sym (take_whole bytes)) is);
-  longest = λ j tail h p. h;
-}
-  where
-    take_whole : (bytes : List ℕ) → take (length bytes) bytes ++ [] ≡ bytes
-    take_whole [] = refl
-    take_whole (c ∷ cs) = ap (λ t. c ∷ t) (take_whole cs)
+whole_comment bytes is = grind arith
 
 pub comment_along : (bytes : List ℕ) → Longest OptionalComment bytes (comment_in bytes)
 comment_along [] = at_end [] no_comment

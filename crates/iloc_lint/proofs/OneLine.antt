@@ -4,8 +4,7 @@ use Rattle.iloc_ops.specs.Limits.{MAX_INPUT, MAX_BLOCKS, MAX_OPS}
 use Rattle.iloc_ops.specs.declared.op.Op.{Op}
 use Rattle.iloc_ops.specs.declared.file.Block.{Block}
 use Rattle.iloc_text.specs.declared.fault.ReadFault.{ReadFault}
-use Rattle.iloc_text.specs.declared.fault.ReadFault.TheVariants.{InputTooLong, BadLine, NumberTooLarge, TooManyBlocks, TooManyOperations, NoMemory}
-use Rattle.iloc_text.specs.Grammar.{Reads}
+use Rattle.iloc_text.specs.declared.fault.ReadFault.TheVariants.{BadLine, NumberTooLarge, TooManyBlocks, TooManyOperations, NoMemory}
 use Rattle.iloc_text.specs.Files.{AreLines, HasNoLineEnd, Reading, ReadAs, Denotes, IsFaulty, HasFirstFault, IsRefused, file_of, block_count}
 use Rattle.iloc_text.specs.Steps.Growth.{with_line}
 use Rattle.iloc_text.proofs.Answer.{lines_are_of}
@@ -46,15 +45,7 @@ one_said r = ap (said_after nothing_said) (file-snoc [] r ∙ ap (with_line r.la
 
 pub line_says : (line : List ℕ) (blocks : List Block) (said : Content) → HasNoLineEnd line → Denotes line blocks
     → said ≡ said_after nothing_said blocks → Says line (Ok said)
-line_says line blocks said h d e = by d.readings (subst (λ ls. ReadAs ls d.readings) (only line d.lines h d.are_lines) d.read) d.file
-  where
-    by : (rs : List Reading) → ReadAs (line ∷ []) rs → blocks ≡ file_of rs → Says line (Ok said)
-    by [] read f = absurd read
-    by (r ∷ []) read f =
-        let same : said ≡ record { labelled = is_some r.label; op = r.op } =
-        e ∙ ap (said_after nothing_said) f ∙ one_said r in
-        (r.label, subst (λ op. Reads line r.label op) (sym (ap (λ s. s.op) same)) read.0, ap (λ s. s.labelled) same)
-    by (r ∷ s ∷ rs) read f = absurd read.1
+line_says line blocks said h d e = grind (arith, is_some, one_said, only)
 
 -- Why it is refused
 
@@ -114,9 +105,4 @@ operations_alone line n h f = let fault = (one_fault line (TooManyOperations n) 
 -- what is known of a line that is refused as a text of its own
 pub unread_says : (line : List ℕ) (fault : ReadFault) → HasNoLineEnd line → length line ≤ MAX_INPUT
     → (fault ≢ NoMemory → IsRefused line fault) → Says line (Err (unread_of fault))
-unread_says line InputTooLong h short f = let long = f (λ e. cc) in absurd (omega arith)
-unread_says line (BadLine n) h short f = bad_alone line n h (f (λ e. cc))
-unread_says line (NumberTooLarge n) h short f = large_alone line n h (f (λ e. cc))
-unread_says line (TooManyBlocks n) h short f = absurd (blocks_alone line n h (f (λ e. cc)))
-unread_says line (TooManyOperations n) h short f = absurd (operations_alone line n h (f (λ e. cc)))
-unread_says line NoMemory h short f = tt
+unread_says line fault h short f = grind (arith, bad_alone, blocks_alone, large_alone, operations_alone)

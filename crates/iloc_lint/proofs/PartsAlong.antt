@@ -15,13 +15,7 @@ use Rattle.iloc_lint.proofs.Longest.{NoBlank, NoDigit, at_length, same, blanks_n
 -- Three languages in a row
 
 pub grouped_right : {A B C : List ℕ → Type 0} (w : List ℕ) → ((A ⋅ B) ⋅ C) w → (A ⋅ (B ⋅ C)) w
-grouped_right w j = record {
-  front = j.first.front;
-  rest = j.first.rest ++ j.rest;
-  first = j.first.first;
-  second = record { front = j.first.rest; rest = j.rest; first = j.first.second; second = j.second; whole = refl };
-  whole = j.whole ∙ ap (λ f. f ++ j.rest) j.first.whole ∙ append_assoc j.first.front j.first.rest j.rest;
-}
+grouped_right w j = grind (arith, append_assoc)
 
 pub grouped_left : {A B C : List ℕ → Type 0} (w : List ℕ) → (A ⋅ (B ⋅ C)) w → ((A ⋅ B) ⋅ C) w
 grouped_left w j = record {

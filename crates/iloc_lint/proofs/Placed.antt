@@ -1,11 +1,11 @@
 -- The place of a line, with its label.
-use Rattle.std.proofs.Common.{◌≡◌, ◌∙◌, ℕ, suc, ◌+◌, ◌-◌, ◌≤◌, ◌<◌, Bool, true, false, cond, ◌==◌, ◌⊎◌, inl, inr, Option, Some, None, List, [], ◌∷◌, ◌++◌, length, take, drop, refl, sym, ap, subst, arith, length-append, length-drop, append_assoc, nat_lt}
+use Rattle.std.proofs.Common.{◌≡◌, ◌∙◌, ℕ, ◌+◌, ◌-◌, ◌≤◌, ◌<◌, Bool, true, false, cond, ◌==◌, ◌⊎◌, inl, inr, Option, Some, None, List, [], ◌∷◌, ◌++◌, length, take, drop, refl, sym, ap, subst, arith, length-append, length-drop, append_assoc, nat_lt}
 use Rattle.std.specs.Char.{is_ascii_alphabetic}
 use Rattle.std.proofs.Math.Seq.{drop-drop, take-add, take-append_seam}
 use Rattle.std.proofs.lemmas.List.{take-append-drop, take_all}
 use Rattle.std.proofs.lemmas.Bool.Decides.{nat_tests}
 use Rattle.iloc_ops.specs.Forms.{opcodes}
-use Rattle.iloc_text.specs.Grammar.{◌⋅◌, is_blank, is_word_byte, Blanks, OptionalLabel}
+use Rattle.iloc_text.specs.Grammar.{◌⋅◌, Blanks, OptionalLabel}
 use Rattle.iloc_text.specs.Steps.Scan.{after_blanks, after_word, word_of, after_colon, label_or_none, optional_label_at}
 use Rattle.iloc_text.proofs.Parts.{Before, Before-join, Before-split, all-Before, Before-all}
 use Rattle.iloc_text.proofs.Tokens.{blanks_read, blanks_over, blanks_again}
@@ -22,21 +22,11 @@ use Rattle.iloc_lint.proofs.Languages.{Plain, blanks_read_on, plain_along}
 
 pub blanks_counted : (bytes : List ℕ) → drop (blanks_in bytes) bytes ≡ after_blanks bytes
 blanks_counted [] = refl
-blanks_counted (c ∷ cs) = by (is_blank c) (blanks_counted cs)
-  where
-    by : (b : Bool) → drop (blanks_in cs) cs ≡ after_blanks cs
-        → drop (cond b (suc (blanks_in cs)) 0) (c ∷ cs) ≡ cond b (after_blanks cs) (c ∷ cs)
-    by true e = e
-    by false e = refl
+blanks_counted (c ∷ cs) = grind (arith, blanks_counted cs)
 
 word_counted : (bytes : List ℕ) → drop (word_in bytes) bytes ≡ after_word bytes
 word_counted [] = refl
-word_counted (c ∷ cs) = by (is_word_byte c) (word_counted cs)
-  where
-    by : (b : Bool) → drop (word_in cs) cs ≡ after_word cs
-        → drop (cond b (suc (word_in cs)) 0) (c ∷ cs) ≡ cond b (after_word cs) (c ∷ cs)
-    by true e = e
-    by false e = refl
+word_counted (c ∷ cs) = grind (arith, word_counted cs)
 
 -- The label
 
@@ -87,9 +77,7 @@ named_found line start (c ∷ cs) here front = by (is_ascii_alphabetic c)
     by false = inl (refl, ap (λ t. (None, t)) (sym front))
 
 label_found : (line : List ℕ) → LabelFound line (label_in line) (optional_label_at (after_blanks line))
-label_found line =
-    subst (λ t. LabelFound line (label_in line) (optional_label_at t)) (blanks_counted line)
-    (named_found line (blanks_in line) (drop (blanks_in line) line) refl (sym (blanks_counted line)))
+label_found line = grind (arith, blanks_counted, named_found)
 
 -- a label at the front is found
 labelled : (name rest w : List ℕ) → Before (Blanks ⋅ OptionalLabel (Some name)) rest w

@@ -1,8 +1,7 @@
 -- The faults beside what the reader answers.
 use Rattle.std.proofs.Common.{◌≡◌, ◌∙◌, ℕ, ◌+◌, List, [], ◌∷◌, ◌++◌, length, map, refl, sym, ap, subst, subst₂, append_assoc, append-nil, length-append, inl, inr, arith}
 use Rattle.iloc_text.specs.declared.fault.ReadFault.{ReadFault}
-use Rattle.iloc_text.specs.declared.fault.ReadFault.TheVariants.{InputTooLong}
-use Rattle.iloc_text.specs.Files.{AreLines, Reading, ReadAs, NoneFaulty, IsFaulty, IsRefused, file_of}
+use Rattle.iloc_text.specs.Files.{Reading, ReadAs, NoneFaulty, IsFaulty, file_of}
 use Rattle.iloc_text.proofs.Every.{NoneFaulty-snoc, first_refused}
 use Rattle.iloc_text.proofs.BlockLists.{length-file}
 use Rattle.iloc_lint.specs.Faults.{Refusal, CountsAs, AreRefused}
@@ -116,19 +115,4 @@ at_first : (n : ℕ) → length {A = Reading} [] + n + 1 ≡ n + 1
 at_first n = omega arith
 
 pub first_fault : TheFirstIsTheReaders
-first_fault input first others blocks ops (inr long) =
-    let same : first ≡ record { line = []; fault = InputTooLong } = (let e = long.refused in cc) in
-    subst (λ f. IsRefused input f.fault) (sym same) long.long
-first_fault input first others blocks ops (inl h) =
-    let found = first_found [] h.lines h.readings first others h.refused tt in
-    first_refused input first.fault (record {
-      short = h.short;
-      before = found.front;
-      line = found.line;
-      after = found.after;
-      are_lines = subst (λ ls. AreLines input ls) found.whole h.are_lines;
-      readings = found.readings;
-      read = found.read;
-      none_faulty = found.none;
-      faulty = subst (λ n. IsFaulty found.readings found.line n first.fault) (at_first (length found.front)) found.faulty;
-    })
+first_fault = grind (arith, at_first, first_found, first_refused)

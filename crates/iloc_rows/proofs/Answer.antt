@@ -99,7 +99,7 @@ same_fault blocks ss line n (Read (TooManyOperations m)) (NoSuchBlock j) h k = a
 same_fault blocks ss line n (NoSuchBlock m) (Read (BadLine j)) h k = absurd (not_both k.1 h.1)
 same_fault blocks ss line n (NoSuchBlock m) (Read (TooManyOperations j)) h k = absurd (not_many k.1 h.1)
 same_fault blocks ss line n (NoSuchBlock m) (NoSuchBlock j) h k = ap (λ i. NoSuchBlock i) (h.0 ∙ sym k.0)
-same_fault blocks ss line n _ _ h k = first_of (absurd h, absurd k)
+same_fault blocks ss line n _ _ h k = grind arith
 
 -- a line with a fault, after lines that fit after a front
 record Faulty (blocks : List Block) (front : List Told) (n : ℕ) (before : List (List ℕ)) (line : List ℕ)

@@ -245,7 +245,10 @@ proposed_apart blocks input proposals short propose =
 refused_for : (blocks : List Block) (input : List ℕ) (fault : RowsFault) → HaveFault blocks input fault
     → AreRefusedFor blocks input fault
 refused_for blocks input (Read InputTooLong) h = absurd h.first.faulty
-refused_for blocks input _ h = first_of (h, h.first.faulty)
+refused_for blocks input (Read (BadLine n)) h = h
+refused_for blocks input (Read (TooManyOperations n)) h = h
+refused_for blocks input (NoSuchBlock n) h = h
+refused_for blocks input fault h = h.first.faulty
 
 pub refused_apart : (blocks : List Block) (input : List ℕ) (fault : RowsFault) → length input ≤ MAX_INPUT
     → HaveFirstFault blocks 0 (lines_of input) fault → AreRefusedFor blocks input fault

@@ -84,9 +84,9 @@ in_row i n r =
     let first = in_slot i n r.0 in
     let second = in_slot i (n + length (filled r.0)) r.1 in
     record {
-      before = λ b. omega (arith, both, size, first.0, first.1, second.0, second.1);
-      here = λ b h. omega (arith, both, size, few, few', first.0, first.1, second.0, second.1);
-      beyond = λ b. omega (arith, both, size, first.0, first.1, second.0, second.1);
+      before = λ b. grind (arith, both, size, first.0, first.1, second.0, second.1);
+      here = λ b h. grind (arith, both, size, few, few', first.0, first.1, second.0, second.1);
+      beyond = λ b. grind (arith, both, size, first.0, first.1, second.0, second.1);
     }
 
 -- All rows

@@ -1,15 +1,14 @@
 -- Two operations are compared as what they are.
-use Rattle.std.proofs.Common.{rules, ◌≡◌, refl, sym, subst, true}
+use Rattle.std.proofs.Common.{rules, ◌≡◌, refl, subst, true}
 use Rattle.std.specs.Bool.{Decides}
-use Rattle.std.proofs.lemmas.Bool.{true≢false}
 use Rattle.iloc_ops.specs.declared.op.Op.{Op}
 use Rattle.iloc_ops.specs.declared.op.Op.TheVariants.{Nop}
 use Rattle.iloc_ops.specs.contracts.op.OpPartialEq.TheImpl as of_ops
 
 op_equal : (a b : Op) → of_ops.eq-value.it a b ≡ true → a ≡ b
 op_equal Nop Nop same = refl
-op_equal _ Nop same = absurd (true≢false (sym same))
-op_equal _ _ same = first_of (absurd (true≢false (sym same)), search rules)
+op_equal _ Nop same = cc
+op_equal _ _ same = first_of (cc, search rules)
 
 op_itself : (a : Op) → of_ops.eq-value.it a a ≡ true
 op_itself Nop = refl
