@@ -1,5 +1,5 @@
 -- A worker's steps towards a job.
-use Rattle.std.proofs.Common.{◌≡◌, ℕ, ◌<◌, ◌≤◌, true, [], ◌∷◌, ◌++◌, refl, ap, sym, ◌∙◌, arith}
+use Rattle.std.proofs.Common.{◌≡◌, ℕ, ◌<◌, ◌≤◌, true, [], ◌++◌, refl, ap, sym, ◌∙◌, arith}
 use Rattle.std.proofs.lemmas.List.{append-nil, append_assoc, map-append}
 use Rattle.iloc_board.specs.declared.step.Step.{Step}
 use Rattle.iloc_board.specs.declared.step.Step.TheVariants.{Hand}
@@ -8,9 +8,9 @@ use Rattle.iloc_board.specs.declared.step.Reply.TheVariants.{Block, NoneLeft, To
 use Rattle.iloc_board.specs.declared.board.state.State.TheVariants.{Free, Looked, Holding}
 use Rattle.iloc_board.specs.declared.step.Journal.{Journal}
 use Rattle.iloc_board.specs.Core.{IsWithin}
-use Rattle.iloc_board.specs.History.{handed_by, accepted}
+use Rattle.iloc_board.specs.History.{accepted}
 use Rattle.iloc_board.specs.Journal.{state_of, seen, noted, handed}
-use Rattle.iloc_board.specs.Views.{BoardView, PassView, state, stepped, with_answer, is_looking, job_of, priced}
+use Rattle.iloc_board.specs.Views.{BoardView, PassView, state, stepped, with_answer, is_looking, job_of}
 use Rattle.iloc_board.specs.Working.{Runs, HandsBack, IsDone}
 use Rattle.iloc_board.specs.Steps.Course.{left, Goes, Ended, HandsNothing}
 use Rattle.iloc_board.proofs.Parts.{state_from-snoc, handed_from-snoc}
@@ -33,43 +33,17 @@ module _ {J A : Type 0} where
 
   module _ (fits : ℕ → A → Type 0) (price : A → ℕ) where
     pub hands_first : (p : PassView J A) → HandsBack fits price p p
-    hands_first p = record {
-      more = [];
-      answers = sym (append-nil p.answers);
-      fit = tt;
-      each = sym (append-nil (handed p.journal.entries));
-    }
+    hands_first p = grind (arith, append-nil)
 
     pub hands_same : (o p q : PassView J A) → HandsBack fits price o p → HandsNothing p q → HandsBack fits price o q
-    hands_same o p q h n = record {
-      more = h.more;
-      answers = n.answers ∙ h.answers;
-      fit = h.fit;
-      each = n.each
-          ∙ h.each;
-    }
+    hands_same o p q h n = grind arith
 
     pub hands_equal : (o p q : PassView J A) → HandsBack fits price o p → q ≡ p → HandsBack fits price o q
     hands_equal o p q h e = rw e h
 
     hands_one : (o p : PassView J A) (k : ℕ) (a : A) → HandsBack fits price o p → state p ≡ Holding k → fits k a
         → HandsBack fits price o (with_answer p k a (price a))
-    hands_one o p k a h holding fit =
-        let x : Step = Hand p.journal.worker (price a) in
-        let one : accepted (state p) x Handed ≡ (k, price a) ∷ [] = ap (λ s. handed_by s x) holding in
-        let now : handed (noted p.journal x Handed).entries ≡ handed p.journal.entries ++ (k, price a) ∷ [] =
-        handed_from-snoc Free p.journal.entries x Handed ∙ ap (λ t. handed p.journal.entries ++ t) one in
-        record {
-          more = h.more ++ (k, a) ∷ [];
-          answers = ap (λ t. t ++ (k, a) ∷ []) h.answers ∙ append_assoc o.answers h.more ((k, a) ∷ []);
-          fit = all_fit-append fits h.more ((k, a) ∷ []) h.fit (fit, tt);
-          each =
-              now
-              ∙ (ap (λ t. t ++ (k, price a) ∷ []) h.each
-              ∙ (append_assoc (handed o.journal.entries) (priced price h.more) ((k, price a) ∷ [])
-              ∙ ap (λ t. handed o.journal.entries ++ t)
-              (sym (map-append (λ (z : ℕ × A). (z.0, price z.1)) h.more ((k, a) ∷ [])))));
-        }
+    hands_one o p k a h holding fit = grind (arith, all_fit-append, append_assoc, handed_from-snoc, map-append)
 
 module _ {J A : Type 0} (count : ℕ) where
   -- a pass of this board that has looked at a job, on its way from the pass o
@@ -102,16 +76,7 @@ module _ {J A : Type 0} (count : ℕ) where
 
   pub looks_first : (b : BoardView J) (p q : PassView J A) (x : Step) (k : ℕ) → p.board ≡ b → q ≡ stepped p x (Block k)
       → state p ≡ Free → seen count p.journal ≤ k → k < count → Tries b p q
-  looks_first b p q x k own e free low lt =
-      let now : state_of (noted p.journal x (Block k)).entries ≡ Looked k =
-      state_from-snoc Free p.journal.entries x (Block k) in
-      rw e record {
-        own = own;
-        looking = ap is_looking now;
-        within = rw now lt;
-        goes = works.block_goes count p.journal p.journal x k (works.goes_none count p.journal) free low lt;
-        nothing = hands_none_more p p x (Block k) (hands_none p) refl;
-      }
+  looks_first b p q x k own e free low lt = grind (arith, hands_none, hands_none_more, state_from-snoc)
 
   -- the job that a pass looks at
   at : (b : BoardView J) (o p : PassView J A) → Tries b o p → (state p ≡ Looked (job_of (state p)))

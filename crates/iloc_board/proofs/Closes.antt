@@ -1,5 +1,5 @@
 -- What a closed board shows.
-use Rattle.std.proofs.Common.{◌≡◌, ◌≢◌, ℕ, zero, suc, ◌+◌, ◌<◌, ◌≤◌, ◌⊎◌, Bool, true, false, ◌||◌, cond, ◌==◌, List, [], ◌∷◌, length, map, replicate, refl, ap, sym, ◌∙◌, subst, arith, inl, inr, Option, Some, None, length-set}
+use Rattle.std.proofs.Common.{◌≡◌, ◌≢◌, ℕ, zero, suc, ◌+◌, ◌<◌, ◌≤◌, ◌⊎◌, Bool, true, false, ◌||◌, ◌==◌, List, [], ◌∷◌, length, map, replicate, refl, ap, sym, ◌∙◌, subst, arith, inl, inr, Option, Some, None, length-set}
 use Rattle.std.specs.Prelude.{slice_get, slice_set, slice_index, slice_index_or}
 use Rattle.std.specs.List.{range_with_len, All, Contains, list_any}
 use Rattle.std.proofs.lemmas.Bool.{eqb-true, eq-eqb, cases_eq, cases_lt, or_cases, or_left, or_right, or_from, ne_eqb, and_parts, and_from}
@@ -12,7 +12,6 @@ use lib.ListN.{get_elem?}
 use Rattle.iloc_board.specs.declared.step.Step.{Step}
 use Rattle.iloc_board.specs.declared.step.Reply.{Reply}
 use Rattle.iloc_board.specs.declared.board.state.State.TheVariants.{Holding}
-use Rattle.iloc_board.specs.declared.step.Reply.TheVariants.{Took}
 use Rattle.iloc_board.specs.declared.step.Entry.{Entry}
 use Rattle.iloc_board.specs.declared.step.Journal.{Journal}
 use Rattle.iloc_board.specs.declared.board.seat_view.Role.TheVariants.{Root}
@@ -26,7 +25,7 @@ use Rattle.iloc_board.specs.Views.{BoardView, RootView, AllFit, priced}
 use Rattle.iloc_board.specs.Steps.Inside.{IsRoot}
 use Rattle.iloc_board.specs.Steps.Closing.{IsClosed}
 use Rattle.iloc_board.specs.Steps.Row.{placed, IsFirstHole, HoleOf}
-use Rattle.iloc_board.specs.Collecting.{AllMade, answer, handed_back_in, FitsHandedBack, IsLegalWith, NoneTwice, jobs_of, workers_of, AreTheAnswers, IsFirstMissing, IsWhole, MissingOf, IsNoMemory}
+use Rattle.iloc_board.specs.Collecting.{AllMade, handed_back_in, FitsHandedBack, IsLegalWith, NoneTwice, jobs_of, workers_of, AreTheAnswers, IsFirstMissing, IsWhole, MissingOf, IsNoMemory}
 use Rattle.iloc_board.specs.declared.collect.CollectFault.{CollectFault}
 use Rattle.iloc_board.specs.declared.collect.CollectFault.TheVariants.{Missing, NoMemory}
 use Rattle.iloc_board.proofs.Runs.{length-costs_final}
@@ -40,11 +39,7 @@ module _ {B : Type 0} where
   set_cases : (l : List B) (i j : ℕ) (b y : B) → slice_get (slice_set l i b) j ≡ Some y → ((j ≡ i) × (b ≡ y))
       ⊎ (slice_get l j ≡ Some y)
   set_cases (x ∷ xs) zero zero b y e = inl (refl, cc)
-  set_cases (x ∷ xs) (suc i) (suc j) b y e = elim (set_cases xs i j b y e) [
-    | inl h ↦ inl (ap suc h.0, h.1)
-    | inr h ↦
-        inr h
-  ]
+  set_cases (x ∷ xs) (suc i) (suc j) b y e = grind (arith, set_cases xs i j b y e)
   set_cases l i j b y e = inr e
 
   mapped : (xs : List B) (i : ℕ) (b : B) → slice_get xs i ≡ Some b → slice_get (map (λ x. Some x) xs) i ≡ Some (Some b)
@@ -61,14 +56,7 @@ module _ {A : Type 0} where
   pub placed_has : (row : List (Option A)) (xs : List (ℕ × A)) (i : ℕ) (a : A) → slice_get (placed row xs) i ≡ Some (Some a)
       → Contains xs (i, a) ⊎ (slice_get row i ≡ Some (Some a))
   placed_has row [] i a e = inr e
-  placed_has row (x ∷ xs) i a e =
-      elim (placed_has (slice_set row x.0 (Some x.1)) xs i a e) [
-        | inl h ↦ inl (contains_later x xs (i, a) h)
-        | inr h ↦ elim (set_cases row x.0 i (Some x.1) (Some a) h) [
-          | inl p ↦ let same : x.1 ≡ a = cc in inl (contains_here x xs (i, a) (λ k. (sym p.0 k, same k)))
-          | inr p ↦ inr p
-        ]
-      ]
+  placed_has row (x ∷ xs) i a e = grind (arith, contains_here, contains_later, set_cases, placed_has (slice_set row x.0 (Some x.1)) xs i a e)
 
   some_stays : (row : List (Option A)) (xs : List (ℕ × A)) (i : ℕ) (a : A) → slice_get row i ≡ Some (Some a)
       → (b : A) × (slice_get (placed row xs) i ≡ Some (Some b))
@@ -136,12 +124,7 @@ module _ {A : Type 0} where
   pub said_fits : (fits : ℕ → A → Type 0) (xs : List (ℕ × A)) → AllFit fits xs → (k cost : ℕ)
       → FitsHandedBack fits k (handed_back_in xs k cost)
   said_fits fits [] f k cost = tt
-  said_fits fits (x ∷ xs) f k cost = go (k == x.0) refl (said_fits fits xs f.1 k cost)
-    where
-      go : (b : Bool) → (k == x.0) ≡ b → FitsHandedBack fits k (handed_back_in xs k cost)
-          → FitsHandedBack fits k (cond b (answer x.1) (handed_back_in xs k cost))
-      go true e rest = rw (eqb-true k x.0 e) f.0
-      go false e rest = rest
+  said_fits fits (x ∷ xs) f k cost = grind (arith, eqb-true, said_fits fits xs f.1 k cost)
 
 -- Journals by their places
 
@@ -241,12 +224,7 @@ took_from i (p ∷ ps) a (suc n) e low high =
 took_from i ps a zero e low high = absurd (omega arith)
 
 taker_is : (w k v : ℕ) (r : Reply) → is_out w k (taken_by v r) ≡ true → w ≡ v
-taker_is w k v (Took j) e = elim (or_cases (is_pair w k (v, j)) false e) [
-  | inl p ↦
-      eqb-true w v (and_parts (w == v) (k == j) p).0
-  | inr p ↦ absurd (cc)
-]
-taker_is w k v r e = absurd (cc)
+taker_is w k v r e = grind (arith, and_parts, eqb-true, or_cases)
 
 taker_made : (count made w k : ℕ) (xs : List Step) (c : Core) → AllMade made xs → is_out w k (takes (played count c xs))
     ≡ true → w < made
@@ -484,6 +462,4 @@ module _ {J A : Type 0} (number : J → ℕ) (fits : J → ℕ → A → Type 0)
   -- the costs that were read stand behind the next job
   pub costs_are : (d : BoardView J) (q : RootView J A) (s : TableState) (f : Found d q s) (costs : List ℕ) (next : ℕ)
       → s.words ≡ next ∷ costs → (final (number d.jobs) f.steps).costs ≡ costs
-  costs_are d q s f costs next w =
-      let both : (final (number d.jobs) f.steps).next ∷ (final (number d.jobs) f.steps).costs ≡ next ∷ costs =
-      sym f.words ∙ w in cc
+  costs_are d q s f costs next w = grind arith

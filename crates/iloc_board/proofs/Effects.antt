@@ -1,5 +1,5 @@
 -- What a step does, case by case.
-use Rattle.std.proofs.Common.{◌≡◌, ◌≢◌, ℕ, ◌<◌, ◌≤◌, Bool, true, false, ◌==◌, [], ◌∷◌, refl}
+use Rattle.std.proofs.Common.{◌≡◌, ◌≢◌, ℕ, ◌<◌, ◌≤◌, Bool, true, false, ◌==◌, [], ◌∷◌, refl, arith}
 use Rattle.std.specs.Prelude.{nat_lt, slice_set}
 use Rattle.std.proofs.lemmas.Bool.{ltb-true, ltb-false, eqb-true, eq-eqb, ne_eqb}
 use Rattle.iloc_board.specs.declared.step.Step.{Step}
@@ -30,11 +30,7 @@ pub data Effect (count : ℕ) (c : Core) (x : Step) : Type 0 where
 
 looks : (count : ℕ) (c : Core) (w : ℕ) (s : State) → c.state w ≡ s → (b : Bool) → nat_lt c.next count ≡ b
     → Effect count c (Look w)
-looks count c w Free e true lt = finds refl (rw e) (ltb-true _ _ lt) (rw (e, lt))
-looks count c w Free e false lt = none refl (rw e) (ltb-false _ _ lt) (rw (e, lt))
-looks count c w (Looked k) e true lt = finds refl (rw e) (ltb-true _ _ lt) (rw (e, lt))
-looks count c w (Looked k) e false lt = none refl (rw e) (ltb-false _ _ lt) (rw (e, lt))
-looks count c w (Holding k) e b lt = waits refl (rw e)
+looks count c w s e b lt = grind (arith, ltb-false, ltb-true)
 
 tries : (count : ℕ) (c : Core) (w : ℕ) (s : State) → c.state w ≡ s → (b : Bool) → nat_lt c.next count ≡ b
     → Effect count c (Try w)

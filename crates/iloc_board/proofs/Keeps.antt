@@ -1,6 +1,6 @@
 -- The five atomic steps keep the rule.
 use Rattle.std.proofs.Common.{◌≡◌, ◌≢◌, ℕ, zero, suc, ◌+◌, ◌<◌, ◌≤◌, ◌⊎◌, Bool, true, false, cond, ◌==◌, List, [], ◌∷◌, ◌++◌, length, replicate, refl, ap, sym, ◌∙◌, subst, arith, inl, inr, set, length-set, length-append}
-use Rattle.std.specs.Prelude.{slice_set, slice_index, nat_lt}
+use Rattle.std.specs.Prelude.{slice_set, slice_index}
 use Rattle.std.proofs.lemmas.Bool.{cases_eq}
 use mathlib.Core.Option.{none, some, some-injective, some-ne-none}
 use lib.ListN.{get_elem?}
@@ -11,7 +11,7 @@ use Rattle.atomic_table.proofs.Lists.{at_set, set_here, set_else, set_again, at_
 use Rattle.iloc_board.specs.declared.step.Step.{Step}
 use Rattle.iloc_board.specs.declared.step.Step.TheVariants.{Look, Try, Hand}
 use Rattle.iloc_board.specs.declared.step.Reply.{Reply}
-use Rattle.iloc_board.specs.declared.step.Reply.TheVariants.{Block, NoneLeft, Took, Stale, Handed, NotNow}
+use Rattle.iloc_board.specs.declared.step.Reply.TheVariants.{Took, Handed, NotNow}
 use Rattle.iloc_board.specs.declared.board.state.State.{State}
 use Rattle.iloc_board.specs.declared.board.state.State.TheVariants.{Looked, Holding}
 use Rattle.iloc_board.specs.declared.step.Journal.{Journal}
@@ -35,41 +35,12 @@ module _ {A : Type 0} where
   at_snoc_place [] a b zero e = inr (refl, some-injective a b e)
   at_snoc_place [] a b (suc j) e = absurd (some-ne-none b (sym e))
   at_snoc_place (x ∷ xs) a b zero e = inl e
-  at_snoc_place (x ∷ xs) a b (suc j) e = elim (at_snoc_place xs a b j e) [
-    | inl h ↦ inl h
-    | inr h ↦
-        inr (ap suc h.0, h.1)
-  ]
+  at_snoc_place (x ∷ xs) a b (suc j) e = grind (arith, at_snoc_place xs a b j e)
 
 -- the rule at the beginning
 pub begins : (count : ℕ) (words : List ℕ) → words ≡ 0 ∷ replicate count 0
     → IsKept count (table.opening words [] (root_seat count 0 []))
-begins count words e = record {
-  made = 0;
-  seats = refl;
-  steps = [];
-  words = e;
-  below = tt;
-  answered = tt;
-  fits = λ i v h. first i v h;
-}
-  where
-    first : (i : ℕ) (v : SeatView) → get_elem? (root_seat count 0 [] ∷ []) i ≡ some v
-        → Fits count 0 [] (root_seat count 0 [] ∷ []) i v
-    first zero v h =
-        let is : root_seat count 0 [] ≡ v = some-injective _ _ h in
-        rw (← is) (
-          (λ role. absurd (cc)),
-          (λ role. record {
-            place = refl;
-            counts = refl;
-            made_is = refl;
-            gathered = λ i j g.
-                absurd (some-ne-none j (sym g));
-            apart = λ a b i j g. absurd (some-ne-none i (sym g));
-          }),
-        )
-    first (suc i) v h = absurd (some-ne-none v (sym h))
+begins count words e = grind (arith, get_elem?, some, some-injective, some-ne-none)
 
 -- a pass's own step adds its entry
 pub adds_one : (count : ℕ) (s : TableState) (k : IsKept count s) (id : ℕ) (v : SeatView) → get_elem? s.views id ≡ some v
@@ -142,32 +113,16 @@ next_word : (ws costs : List ℕ) (next : ℕ) → ws ≡ next ∷ costs → sli
 next_word ws costs next e = ap (λ t. slice_index t 0) e
 
 stays_found : (next count : ℕ) → next_after next (found count next) ≡ next
-stays_found next count = go (nat_lt next count)
-  where
-    go : (b : Bool) → next_after next (cond b (Block next) NoneLeft) ≡ next
-    go true = refl
-    go false = refl
+stays_found next count = grind arith
 
 stays_missed : (next count : ℕ) → next_after next (missed count next) ≡ next
-stays_missed next count = go (nat_lt next count)
-  where
-    go : (b : Bool) → next_after next (cond b (Stale next) NoneLeft) ≡ next
-    go true = refl
-    go false = refl
+stays_missed next count = grind arith
 
 found_answers : (count next : ℕ) → found count next ≢ NotNow
-found_answers count next = go (nat_lt next count)
-  where
-    go : (b : Bool) → cond b (Block next) NoneLeft ≢ NotNow
-    go true e = absurd (cc)
-    go false e = absurd (cc)
+found_answers count next = grind arith
 
 missed_answers : (count next : ℕ) → missed count next ≢ NotNow
-missed_answers count next = go (nat_lt next count)
-  where
-    go : (b : Bool) → cond b (Stale next) NoneLeft ≢ NotNow
-    go true e = absurd (cc)
-    go false e = absurd (cc)
+missed_answers count next = grind arith
 
 free_looks : (count next : ℕ) (s : State) → is_holding s ≡ false → look_reply count next s ≡ found count next
 free_looks count next (Holding k) e = absurd (cc)

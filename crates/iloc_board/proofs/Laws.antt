@@ -1,5 +1,5 @@
 -- The history of any steps is legal at the board of one thread, which ends where the core does.
-use Rattle.std.proofs.Common.{◌≡◌, ◌≢◌, ℕ, suc, ◌+◌, ◌-◌, ◌<◌, ◌≤◌, Bool, true, false, not, ◌&&◌, ◌||◌, cond, ◌==◌, List, [], ◌∷◌, ◌++◌, map, drop, refl, ap, sym, ◌∙◌, subst, arith, inl, inr}
+use Rattle.std.proofs.Common.{◌≡◌, ℕ, suc, ◌-◌, ◌<◌, ◌≤◌, Bool, true, false, not, ◌&&◌, ◌||◌, ◌==◌, List, [], ◌∷◌, ◌++◌, map, drop, refl, ap, sym, ◌∙◌, subst, arith}
 use Rattle.std.specs.List.{range_with_len, filter}
 use Rattle.std.proofs.lemmas.Bool.{eqb-true, eq-eqb, ne_eqb, and_parts}
 use Rattle.std.proofs.lemmas.List.{map-append, append-nil, append_assoc, map-id}
@@ -26,13 +26,7 @@ free_holds s k e = refl
 same_held : (count : ℕ) (c : Core) (x : Step) (r : Reply) → reply_to count c x ≡ r
     → ((k : ℕ) → holds_job (state_after (c.state (worker_of x)) r) k ≡ holds_job (c.state (worker_of x)) k)
     → (p : ℕ × ℕ) → is_held (after count c x) p ≡ is_held c p
-same_held count c x r e same p =
-    elim (state_by count c x r e p.0) [
-      | inl h ↦ ap (λ s. holds_job s p.1) h.1
-          ∙ (ap (λ w. holds_job (state_after (c.state w) r) p.1) h.0
-          ∙ (same p.1 ∙ ap (λ w. holds_job (c.state w) p.1) (sym h.0)))
-      | inr h ↦ ap (λ s. holds_job s p.1) h.1
-    ]
+same_held count c x r e same p = grind (arith, state_by)
 
 filter_same : (f g : ℕ × ℕ → Bool) → ((p : ℕ × ℕ) → f p ≡ g p) → (ps : List (ℕ × ℕ)) → filter f ps ≡ filter g ps
 filter_same f g h ps = ap (λ t. filter t ps) (λ i p. h p i)
@@ -45,27 +39,15 @@ or_true false = refl
 filter_on : (f g : ℕ × ℕ → Bool) (ps : List (ℕ × ℕ)) → ((w k : ℕ) → is_out w k ps ≡ true → f (w, k) ≡ g (w, k))
     → filter f ps ≡ filter g ps
 filter_on f g [] h = refl
-filter_on f g (p ∷ ps) h =
-    let here : f p ≡ g p = h p.0 p.1 (rw (eq-eqb p.0 p.0 refl, eq-eqb p.1 p.1 refl)) in
-    let rest : filter f ps ≡ filter g ps = filter_on f g ps (λ w k o. h w k (rw o (or_true (is_pair w k p)))) in
-    ap (λ b. cond b (p ∷ filter f ps) (filter f ps)) here ∙ ap (λ t. cond (g p) (p ∷ t) t) rest
+filter_on f g (p ∷ ps) h = grind (arith, eq-eqb, or_true, filter_on f g ps (λ w k o. h w k (rw o (or_true (is_pair w k p)))))
 
 filter-filter : (f g : ℕ × ℕ → Bool) (ps : List (ℕ × ℕ)) → filter g (filter f ps) ≡ filter (λ p. f p && g p) ps
 filter-filter f g [] = refl
-filter-filter f g (p ∷ ps) = go (f p) (filter-filter f g ps)
-  where
-    go : (b : Bool) → filter g (filter f ps) ≡ filter (λ p. f p && g p) ps
-        → filter g (cond b (p ∷ filter f ps) (filter f ps)) ≡ cond (b && g p) (p ∷ filter (λ p. f p && g p) ps)
-        (filter (λ p. f p && g p) ps)
-    go true e = ap (λ t. cond (g p) (p ∷ t) t) e
-    go false e = e
+filter-filter f g (p ∷ ps) = grind (arith, filter-filter f g ps)
 
 -- what waits from n on, below the count
 first_waits : (count n : ℕ) → n < count → range_with_len n (count - n) ≡ n ∷ range_with_len (suc n) (count - suc n)
-first_waits count n lt =
-    let more : count - n ≡ suc (count - suc n) = omega arith in
-    let next : n + 1 ≡ suc n = omega arith in
-    ap (λ m. range_with_len n m) more ∙ ap (λ m. n ∷ range_with_len m (count - suc n)) next
+first_waits count n lt = grind arith
 
 none_waits : (count n : ℕ) → count ≤ n → range_with_len n (count - n) ≡ []
 none_waits count n le = let e : count - n ≡ 0 = omega arith in ap (λ m. range_with_len n m) e
@@ -94,24 +76,7 @@ held_after_take : (count : ℕ) (c : Core) (taken : List (ℕ × ℕ)) → Stand
     → c.state (worker_of x) ≡ Looked k → c.next ≡ k → reply_to count c x ≡ Took k
     → filter (is_held c) taken ++ (worker_of x, k) ∷ [] ≡ filter (is_held (after count c x))
     (taken ++ (worker_of x, k) ∷ [])
-held_after_take count c taken h x k looked at e =
-    let d : Core = after count c x in
-    let w : ℕ = worker_of x in
-    let by = state_by count c x (Took k) e in
-    let old : filter (is_held c) taken ≡ filter (is_held d) taken =
-    filter_on (is_held c) (is_held d) taken (λ v j o.
-    let lt : j < c.next = h.below v j o in
-    let ne : k ≢ j = λ q. absurd (omega arith) in
-    elim (by v) [
-      | inl p ↦ ap (λ u. holds_job (c.state u) j) p.0
-          ∙ (ap (λ s. holds_job s j) looked ∙ (sym (ne_eqb k j ne) ∙ ap (λ s. holds_job s j) (sym p.1)))
-      | inr p ↦ ap (λ s. holds_job s j) (sym p.1)
-    ]) in
-    let new : d.state w ≡ Holding k = state_here count c x w refl ∙ ap (λ r. state_after (c.state w) r) e in
-    let one : filter (is_held d) ((w, k) ∷ []) ≡ (w, k) ∷ [] =
-    ap (λ b. cond b ((w, k) ∷ []) []) (holds_itself (d.state w) k new) in
-    ap (λ t. t ++ (w, k) ∷ []) old ∙ (ap (λ t. filter (is_held d) taken ++ t) (sym one)
-    ∙ sym (filter-append (is_held d) taken ((w, k) ∷ [])))
+held_after_take count c taken h x k looked at e = grind (arith, filter-append, filter_on, holds_itself, ne_eqb, state_by, state_here)
 
 and_not : (b : Bool) → b && not b ≡ false
 and_not true = refl
@@ -125,23 +90,7 @@ and_true false = refl
 held_after_hand : (count : ℕ) (c : Core) (taken : List (ℕ × ℕ)) (x : Step) (k : ℕ) → c.state (worker_of x) ≡ Holding k
     → reply_to count c x ≡ Handed
     → without (worker_of x) k (filter (is_held c) taken) ≡ filter (is_held (after count c x)) taken
-held_after_hand count c taken x k holding e =
-    let d : Core = after count c x in
-    let w : ℕ = worker_of x in
-    let by = state_by count c x Handed e in
-    filter-filter (is_held c) (λ p. not (is_pair w k p)) taken ∙ filter_same (λ p. is_held c p && not (is_pair w k p))
-    (is_held d) (λ p.
-    elim (by p.0) [
-      | inl h ↦
-          let was : is_held c p ≡ (k == p.1) = ap (λ u. holds_job (c.state u) p.1) h.0
-          ∙ ap (λ s. holds_job s p.1) holding in
-          let pair : is_pair w k p ≡ (k == p.1) = ap (λ b. b && (k == p.1)) (eq-eqb w p.0 (sym h.0)) in
-          ap (λ b. b && not (is_pair w k p)) was
-          ∙ (ap (λ b. (k == p.1) && not b) pair ∙ (and_not (k == p.1) ∙ ap (λ s. holds_job s p.1) (sym h.1)))
-      | inr h ↦
-          let pair : is_pair w k p ≡ false = ap (λ b. b && (k == p.1)) (ne_eqb w p.0 (λ q. h.0 (sym q))) in
-          ap (λ b. is_held c p && not b) pair ∙ (and_true (is_held c p) ∙ ap (λ s. holds_job s p.1) (sym h.1))
-    ]) taken
+held_after_hand count c taken x k holding e = grind (arith, and_not, and_true, eq-eqb, filter-filter, filter_same, ne_eqb, state_by)
 
 module _ {A : Type 0} where
   pub board_after-append : (b : SequentialBoard A) (xs ys : List (Call A))
@@ -153,11 +102,7 @@ module _ {A : Type 0} where
   stays : (count : ℕ) (c d : Core) (taken : List (ℕ × ℕ)) (answers : List (ℕ × A)) (b : SequentialBoard A)
       → StandsAt count c taken answers b → d.next ≡ c.next → ((p : ℕ × ℕ) → is_held d p ≡ is_held c p)
       → StandsAt count d taken answers b
-  stays count c d taken answers b s next same = record {
-    waiting = s.waiting ∙ ap (λ n. range_with_len n (count - n)) (sym next);
-    out = s.out ∙ filter_same (is_held c) (is_held d) (λ p. sym (same p)) taken;
-    done = s.done;
-  }
+  stays count c d taken answers b s next same = grind (arith, filter_same)
 
   module _ (fits : ℕ → A → Type 0) (said : ℕ → ℕ → A) (fit : (k cost : ℕ) → fits k (said k cost)) where
     -- calls that lead from one board to another, and what follows them
@@ -280,40 +225,20 @@ module _ {A : Type 0} where
 pub stands_all : (count : ℕ) (xs : List Step) (c : Core) (taken : List (ℕ × ℕ)) → Stands count c taken
     → Stands count (ends count c xs) (taken ++ takes (played count c xs))
 stands_all count [] c taken h = rw (append-nil taken) h
-stands_all count (x ∷ xs) c taken h =
-    let rest = stands_all count xs (after count c x) (taken ++ taken_by (worker_of x) (reply_to count c x))
-    (stands count c taken h x) in
-    rw (append_assoc taken (taken_by (worker_of x) (reply_to count c x))
-    (takes (played count (after count c x) xs))) at rest
+stands_all count (x ∷ xs) c taken h = grind (arith, append_assoc, stands, stands_all count xs (after count c x) (taken ++ taken_by (worker_of x) (reply_to count c x)) (stands count c taken h x))
 
 pub exact_step : (count : ℕ) (c : Core) (taken : List (ℕ × ℕ)) → Stands count c taken → (x : Step)
     → IsExactReply count c (worker_of x) (reply_to count c x)
-exact_step count c taken h x =
-    let P : Reply → Type 0 = λ r. IsExactReply count c (worker_of x) r in
-    elim (effect count c x) [
-      | finds costs free lt e ↦ subst P (sym e) tt
-      | misses costs free lt e ↦ subst P (sym e) tt
-      | none costs free all e ↦ subst P (sym e) (let low : c.next ≤ count = h.low in omega arith)
-      | wins k costs looked here e ↦ subst P (sym e) (looked, here)
-      | returns v cost k is holding by costs e ↦ subst P (sym e) tt
-      | waits costs e ↦ subst P (sym e) tt
-    ]
+exact_step count c taken h x = grind (arith, effect, finds, misses, none, returns, waits, wins)
 
 pub exact : (count : ℕ) (xs : List Step) (c : Core) (taken : List (ℕ × ℕ)) → Stands count c taken → IsExact count c xs
 exact count [] c taken h = tt
-exact count (x ∷ xs) c taken h = (
-  exact_step count c taken h x,
-  exact count xs (after count c x) _ (stands count c taken h x),
-)
+exact count (x ∷ xs) c taken h = grind (arith, exact_step, stands, exact count xs (after count c x) _ (stands count c taken h x))
 
 -- the law for a whole list, from the opening
 module _ {A : Type 0} (fits : ℕ → A → Type 0) (said : ℕ → ℕ → A) (fit : (k cost : ℕ) → fits k (said k cost)) where
   starts : (count : ℕ) → StandsAt {A = A} count (opening count) [] [] (opened count)
-  starts count = record {
-    waiting = let e : count - 0 ≡ count = omega arith in ap (λ n. range_with_len 0 n) (sym e);
-    out = refl;
-    done = refl;
-  }
+  starts count = grind arith
 
   pub whole : (count : ℕ) (xs : List Step)
       → Legal fits (opened count) (history said count (opening count) xs)

@@ -1,6 +1,6 @@
 -- What stands in lists.
 use Rattle.std.proofs.Common.{◌≡◌, ◌≢◌, ℕ, zero, suc, ◌<◌, ◌⊎◌, false, ◌==◌, List, [], ◌∷◌, ◌++◌, length, refl, ap, sym, ◌∙◌, arith, inl, inr, Some}
-use Rattle.std.specs.Prelude.{slice_get, slice_set, slice_index_or}
+use Rattle.std.specs.Prelude.{slice_get, slice_set}
 use Rattle.std.specs.List.{Contains, list_any}
 use Rattle.std.proofs.lemmas.Bool.{ne_eqb, or_from}
 use Rattle.std.proofs.lemmas.List.{map-append}
@@ -18,11 +18,7 @@ module _ {B : Type 0} where
   contains_later x xs b h = (suc h.0, let lt : h.0 < length xs = h.1 in omega arith, h.2)
 
   pub contains_cases : (x : B) (xs : List B) (b : B) → Contains (x ∷ xs) b → (x ≡ b) ⊎ Contains xs b
-  contains_cases x xs b h = go h.0 h.1 h.2
-    where
-      go : (k : ℕ) → k < length (x ∷ xs) → slice_index_or (x ∷ xs) k b ≡ b → (x ≡ b) ⊎ Contains xs b
-      go zero lt e = inl e
-      go (suc k) lt e = inr (k, omega arith, e)
+  contains_cases x xs b h = grind arith
 
   pub contains_one : (x b : B) → Contains (x ∷ []) b → x ≡ b
   contains_one x b h = elim (contains_cases x [] b h) [ inl e ↦ e | inr r ↦ absurd (contains_none b r) ]

@@ -1,17 +1,17 @@
 -- Each worker's part of a list of steps.
-use Rattle.std.proofs.Common.{◌≡◌, ◌≢◌, ℕ, suc, ◌<◌, ◌≤◌, max, Bool, true, false, cond, ◌==◌, List, [], ◌∷◌, ◌++◌, refl, ap, sym, ◌∙◌, subst, arith, inl, inr}
+use Rattle.std.proofs.Common.{◌≡◌, ◌≢◌, ℕ, suc, ◌<◌, ◌≤◌, max, true, cond, List, [], ◌∷◌, ◌++◌, refl, ap, ◌∙◌, arith, inl, inr}
 use Rattle.std.proofs.lemmas.Bool.{eq-eqb, ne_eqb, or_cases}
 use Rattle.std.proofs.lemmas.List.{append-nil, append_assoc}
 use mathlib.Core.Option.{some}
 use lib.ListN.{get_elem?}
 use Rattle.iloc_board.specs.declared.step.Step.{Step}
 use Rattle.iloc_board.specs.declared.step.Reply.{Reply}
-use Rattle.iloc_board.specs.declared.step.Reply.TheVariants.{Block, NoneLeft, Stale, NotNow}
+use Rattle.iloc_board.specs.declared.step.Reply.TheVariants.{NoneLeft, NotNow}
 use Rattle.iloc_board.specs.declared.step.Entry.{Entry}
 use Rattle.iloc_board.specs.declared.board.state.State.{State}
 use Rattle.iloc_board.specs.declared.board.state.State.TheVariants.{Free, Looked}
 use Rattle.iloc_board.specs.declared.step.Journal.{Journal}
-use Rattle.iloc_board.specs.Core.{Core, opening, worker_of, reply_to, state_after, next_after, after, ends, entry, played}
+use Rattle.iloc_board.specs.Core.{Core, opening, worker_of, reply_to, state_after, after, ends, entry, played}
 use Rattle.iloc_board.specs.History.{accepted}
 use Rattle.iloc_board.specs.Journal.{entries_of, state_from, state_of, shown, seen_from, seen, seen_in, is_none_left, saw_none, handed_from, noted}
 use Rattle.iloc_board.specs.Play.{final}
@@ -22,13 +22,7 @@ use Rattle.iloc_board.proofs.Runs.{played-snoc, final-snoc}
 
 pub entries_of-append : (w : ℕ) (xs ys : List Entry) → entries_of w (xs ++ ys) ≡ entries_of w xs ++ entries_of w ys
 entries_of-append w [] ys = refl
-entries_of-append w (e ∷ xs) ys = go (entries_of-append w xs ys) (w == worker_of e.step)
-  where
-    go : entries_of w (xs ++ ys) ≡ entries_of w xs ++ entries_of w ys → (b : Bool)
-        → cond b (e ∷ entries_of w (xs ++ ys)) (entries_of w (xs ++ ys))
-        ≡ cond b (e ∷ entries_of w xs) (entries_of w xs) ++ entries_of w ys
-    go rest true = ap (λ t. e ∷ t) rest
-    go rest false = rest
+entries_of-append w (e ∷ xs) ys = grind (arith, entries_of-append w xs ys)
 
 -- one entry more is the worker's own, or another's
 pub entries_here : (w : ℕ) (es : List Entry) (x : Step) (r : Reply) → w ≡ worker_of x
@@ -38,23 +32,13 @@ entries_here w es x r e = entries_of-append w es (entry x r ∷ [])
 
 pub entries_else : (w : ℕ) (es : List Entry) (x : Step) (r : Reply) → w ≢ worker_of x
     → entries_of w (es ++ entry x r ∷ []) ≡ entries_of w es
-entries_else w es x r ne = entries_of-append w es (entry x r ∷ [])
-    ∙ (ap (λ b. entries_of w es ++ cond b (entry x r ∷ []) []) (ne_eqb w (worker_of x) ne)
-    ∙ append-nil (entries_of w es))
+entries_else w es x r ne = grind (arith, append-nil, entries_of-append, ne_eqb)
 
 -- the core's state of a worker follows from the worker's entries
 pub state_is : (count : ℕ) (c : Core) (xs : List Step) (w : ℕ)
     → (ends count c xs).state w ≡ state_from (c.state w) (entries_of w (played count c xs))
 state_is count c [] w = refl
-state_is count c (x ∷ xs) w = state_is count (after count c x) xs w ∙ go (w == worker_of x)
-  where
-    rest : List Entry
-    rest = entries_of w (played count (after count c x) xs)
-
-    go : (b : Bool) → state_from (cond b (state_after (c.state w) (reply_to count c x)) (c.state w)) rest
-        ≡ state_from (c.state w) (cond b (entry x (reply_to count c x) ∷ rest) rest)
-    go true = refl
-    go false = refl
+state_is count c (x ∷ xs) w = grind (arith, state_is count (after count c x) xs w)
 
 pub state_final : (count : ℕ) (steps : List Step) (w : ℕ)
     → (final count steps).state w ≡ state_of (entries_of w (played count (opening count) steps))
@@ -88,73 +72,24 @@ answered-snoc (e ∷ es) x r h ne = (h.0, answered-snoc es x r h.1 ne)
 pub none_yet : (count : ℕ) (c : Core) (xs : List Step) (made : ℕ) → AllMade made xs
     → entries_of made (played count c xs) ≡ []
 none_yet count c [] made h = refl
-none_yet count c (x ∷ xs) made h =
-    let lt : worker_of x < made = h.0 in
-    let ne : made ≢ worker_of x = λ e. absurd (omega arith) in
-    ap (λ b. cond b (entry x (reply_to count c x) ∷ entries_of made (played count (after count c x) xs))
-    (entries_of made (played count (after count c x) xs))) (ne_eqb made (worker_of x) ne)
-    ∙ none_yet count (after count c x) xs made h.1
+none_yet count c (x ∷ xs) made h = grind (arith, ne_eqb, none_yet count (after count c x) xs made h.1)
 
 -- the next job never falls, and is at least what a reply shows
 pub next_rises : (count : ℕ) (c : Core) (x : Step) → c.next ≤ (after count c x).next
-next_rises count c x =
-    let P : Reply → Type 0 = λ r. c.next ≤ next_after c.next r in
-    elim (effect count c x) [
-      | finds costs free lt e ↦ subst P (sym e) (omega arith)
-      | misses costs free lt e ↦ subst P (sym e) (omega arith)
-      | none costs free all e ↦ subst P (sym e) (omega arith)
-      | wins k costs looked here e ↦ subst P (sym e) (omega arith)
-      | returns v cost k is holding by costs e ↦ subst P (sym e) (omega arith)
-      | waits costs e ↦ subst P (sym e) (omega arith)
-    ]
+next_rises count c x = grind (arith, effect, finds, misses, none, returns, waits, wins)
 
 pub shown_low : (count : ℕ) (c : Core) (x : Step) → shown count (reply_to count c x) ≤ (after count c x).next
-shown_low count c x =
-    let P : Reply → Type 0 = λ r. shown count r ≤ next_after c.next r in
-    elim (effect count c x) [
-      | finds costs free lt e ↦ subst P (sym e) (omega arith)
-      | misses costs free lt e ↦ subst P (sym e) (omega arith)
-      | none costs free all e ↦ subst P (sym e) all
-      | wins k costs looked here e ↦ subst P (sym e) (omega arith)
-      | returns v cost k is holding by costs e ↦ subst P (sym e) (omega arith)
-      | waits costs e ↦ subst P (sym e) (omega arith)
-    ]
+shown_low count c x = grind (arith, effect, finds, misses, none, returns, waits, wins)
 
 -- a journal after its own step, and after another's
 pub tells_here : (count : ℕ) (steps : List Step) (j : Journal) (x : Step) (r : Reply)
     → reply_to count (final count steps) x ≡ r → j.worker ≡ worker_of x → Tells count steps j
     → Tells count (steps ++ x ∷ []) (noted j x r)
-tells_here count steps j x r e w h =
-    let c : Core = final count steps in
-    let es : List Entry = played count (opening count) steps in
-    let low : seen count j ≤ c.next = h.seen_low in
-    let rises : c.next ≤ (after count c x).next = next_rises count c x in
-    let shows : shown count r ≤ (after count c x).next = let P : Reply → Type 0 =
-    λ q. shown count q ≤ (after count c x).next in subst P e (shown_low count c x) in
-    let next : (final count (steps ++ x ∷ [])).next ≡ (after count c x).next =
-    ap (λ (q : Core). q.next) (final-snoc count steps x) in
-    let sees : seen count (noted j x r) ≡ max (seen count j) (shown count r) =
-    seen_from-snoc count j.start j.entries x r in
-    record {
-      entries =
-          ap (λ t. entries_of j.worker t) (played-snoc count (opening count) steps x ∙ ap (λ q. es ++ entry x q ∷ []) e)
-          ∙ (entries_here j.worker es x r w ∙ ap (λ t. t ++ entry x r ∷ []) h.entries);
-      seen_low = omega arith;
-    }
+tells_here count steps j x r e w h = grind (arith, entries_here, final-snoc, next_rises, played-snoc, seen_from-snoc, shown_low)
 
 pub tells_else : (count : ℕ) (steps : List Step) (j : Journal) (x : Step) → j.worker ≢ worker_of x → Tells count steps j
     → Tells count (steps ++ x ∷ []) j
-tells_else count steps j x ne h =
-    let c : Core = final count steps in
-    let low : seen count j ≤ c.next = h.seen_low in
-    let rises : c.next ≤ (after count c x).next = next_rises count c x in
-    let next : (final count (steps ++ x ∷ [])).next ≡ (after count c x).next =
-    ap (λ (q : Core). q.next) (final-snoc count steps x) in
-    record {
-      entries = ap (λ t. entries_of j.worker t) (played-snoc count (opening count) steps x)
-          ∙ (entries_else j.worker (played count (opening count) steps) x (reply_to count c x) ne ∙ h.entries);
-      seen_low = omega arith;
-    }
+tells_else count steps j x ne h = grind (arith, entries_else, final-snoc, next_rises, played-snoc)
 
 pub seen_in_low : (count n : ℕ) (js : List Journal)
     → ((i : ℕ) (j : Journal) → get_elem? js i ≡ some j → seen count j ≤ n) → seen_in count js ≤ n
@@ -167,10 +102,7 @@ seen_in_low count n (j ∷ js) h =
 pub handed_from-snoc : (s : State) (es : List Entry) (x : Step) (r : Reply) → handed_from s (es ++ entry x r ∷ [])
     ≡ handed_from s es ++ accepted (state_from s es) x r
 handed_from-snoc s [] x r = append-nil (accepted s x r)
-handed_from-snoc s (e ∷ es) x r =
-    ap (λ t. accepted s e.step e.reply ++ t) (handed_from-snoc (state_after s e.reply) es x r)
-    ∙ sym (append_assoc (accepted s e.step e.reply) (handed_from (state_after s e.reply) es)
-    (accepted (state_from (state_after s e.reply) es) x r))
+handed_from-snoc s (e ∷ es) x r = grind (arith, append_assoc, handed_from-snoc (state_after s e.reply) es x r)
 
 pub seen_more : (count start : ℕ) (es : List Entry) → start ≤ seen_from count start es
 seen_more count start [] = omega arith
@@ -197,10 +129,7 @@ told_none count j h = none_seen count j.start j.entries h
 
 looks_step : (k start count : ℕ) (s : State) (r : Reply) → ((j : ℕ) → s ≡ Looked j → j ≤ start)
     → state_after s r ≡ Looked k → k ≤ max start (shown count r)
-looks_step k start count s (Block j) h e = let same : j ≡ k = cc in omega arith
-looks_step k start count s (Stale j) h e = let same : j ≡ k = cc in omega arith
-looks_step k start count s NotNow h e = let low : k ≤ start = h k e in omega arith
-looks_step k start count s r h e = absurd (cc)
+looks_step k start count s r h e = grind arith
 
 looks_seen : (k start count : ℕ) (s : State) (es : List Entry) → ((j : ℕ) → s ≡ Looked j → j ≤ start)
     → state_from s es ≡ Looked k → k ≤ seen_from count start es

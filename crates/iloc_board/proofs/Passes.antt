@@ -15,9 +15,9 @@ use Rattle.iloc_board.specs.History.{accepted}
 use Rattle.iloc_board.specs.Steps.Inside.{IsPass, IsRoot}
 use Rattle.std.proofs.lemmas.List.{append-nil, append_assoc, map-append}
 use Rattle.iloc_board.proofs.Parts.{state_from-snoc, handed_from-snoc, told_none, looked_seen}
-use Rattle.iloc_board.specs.Journal.{state_of, noted, handed, all_handed, seen, saw_none}
-use Rattle.iloc_board.specs.Steps.Rule.{Sat, pass_seat, root_seat, adds, gathers}
-use Rattle.iloc_board.specs.Views.{BoardView, PassView, RootView, state, job_of, AllFit, priced}
+use Rattle.iloc_board.specs.Journal.{state_of, handed, all_handed, seen, saw_none}
+use Rattle.iloc_board.specs.Steps.Rule.{Sat, adds, gathers}
+use Rattle.iloc_board.specs.Views.{BoardView, PassView, RootView, state, job_of, AllFit}
 
 pub all_fit-append : {A : Type 0} (fits : ℕ → A → Type 0) (xs ys : List (ℕ × A)) → AllFit fits xs → AllFit fits ys
     → AllFit fits (xs ++ ys)
@@ -77,25 +77,7 @@ module _ {J A : Type 0} {number : ℕ} {fits : ℕ → A → Type 0} {price : A 
   steps_inside : {new : Sat} {next : State} {id : TableId} (x : Step) (r : Reply) → new ≡ adds me x r
       → next ≡ state_after about r → IsWithin number next → accepted (state_of p.journal.entries) x r ≡ []
       → IsPass number fits price new worker next (after_step id new p)
-  steps_inside {new} x r n s within none =
-      let journal : new.0.journal ≡ noted p.journal x r = ap (λ (v : Sat). v.0.journal) n
-      ∙ ap (λ v. noted v x r) (sym j) in
-      let entries : new.0.journal.entries ≡ p.journal.entries ++ entry x r ∷ [] = ap (λ v. v.entries) journal in
-      let empty : me.1 ≡ [] = ap (λ (v : Sat). v.1) h.seat in
-      record {
-        seat =
-            let f : (pass_seat me.0.count (noted me.0.journal x r), me.1) ≡ (pass_seat number new.0.journal, []) =
-            λ i. (pass_seat (counts i) ((ap (λ (v : Sat). v.0.journal) (sym n)) i), empty i) in
-            n ∙ f;
-        worker_is = h.worker_is ∙ ap (λ v. v.worker) (sym journal);
-        state_is = s ∙ (ap (λ t. state_after t r) h.state_is
-            ∙ (sym (state_from-snoc Free p.journal.entries x r) ∙ ap state_of (sym entries)));
-        within = within;
-        fit = h.fit;
-        each = h.each ∙ (sym (append-nil (handed p.journal.entries))
-            ∙ (ap (λ t. handed p.journal.entries ++ t) (sym none)
-            ∙ (sym (handed_from-snoc Free p.journal.entries x r) ∙ ap handed (sym entries))));
-      }
+  steps_inside x r n s within none = grind (arith, append-nil, counts, handed_from-snoc, state_from-snoc)
 
   module _ {new : Sat} {id : TableId} {n : ℕ} (w : ℕ) where
     -- a look that finds the job n, and one that finds none
@@ -131,22 +113,12 @@ module _ {J A : Type 0} {number : ℕ} {fits : ℕ → A → Type 0} {price : A 
   -- what was told once, that none is left, holds of each later number found
   pub none_stays : {q : PassView J A} {n : ℕ} → p ≡ q → seen me.0.count me.0.journal ≤ n
       → saw_none q.journal.entries ≡ true → number ≤ n
-  none_stays {q} {n} e low told =
-      let mine : saw_none me.0.journal.entries ≡ true = ap (λ (v : Journal). saw_none v.entries) (sym j)
-      ∙ (ap (λ (v : PassView J A). saw_none v.journal.entries) e ∙ told) in
-      let all : number ≤ seen number me.0.journal = told_none number me.0.journal mine in
-      let same : seen me.0.count me.0.journal ≡ seen number me.0.journal = ap (λ m. seen m me.0.journal) counts in
-      omega arith
+  none_stays e low told = grind (arith, counts, told_none)
 
   -- what a try tells: the number found is no less than what was seen, which is no less than the job looked at
   pub try_fresh : {q : PassView J A} {n k : ℕ} → p ≡ q → about ≡ Looked k → seen me.0.count me.0.journal ≤ n
       → (seen number q.journal ≤ n) × (k ≤ seen number q.journal) × (job_of (state q) ≡ k)
-  try_fresh {q} {n} {k} e looked low =
-      let same : seen me.0.count me.0.journal ≡ seen number q.journal = ap (λ m. seen m me.0.journal) counts
-      ∙ (ap (λ v. seen number v) (sym j) ∙ ap (λ (v : PassView J A). seen number v.journal) e) in
-      let state : state_of q.journal.entries ≡ Looked k = ap (λ (v : PassView J A). state_of v.journal.entries) (sym e)
-      ∙ (sym h.state_is ∙ looked) in
-      (omega arith, looked_seen k number q.journal state, ap job_of state)
+  try_fresh e looked low = grind (arith, counts, looked_seen)
 
 module _ {J A : Type 0} (number : ℕ) (fits : ℕ → A → Type 0) (price : A → ℕ) where
   -- a hand-back
@@ -159,32 +131,7 @@ module _ {J A : Type 0} (number : ℕ) (fits : ℕ → A → Type 0) (price : A 
         journal = new.0.journal;
         answers = answers;
       }
-  handed_inside me new worker about p id k cost w a answers h j n holding more fit cheap =
-      let journal : new.0.journal ≡ noted p.journal (Hand w cost) Handed = ap (λ (v : Sat). v.0.journal) n
-      ∙ ap (λ v. noted v (Hand w cost) Handed) (sym j) in
-      let entries : new.0.journal.entries ≡ p.journal.entries ++ entry (Hand w cost) Handed ∷ [] =
-      ap (λ v. v.entries) journal in
-      let count : me.0.count ≡ number = ap (λ (v : Sat). v.0.count) h.seat in
-      let empty : me.1 ≡ [] = ap (λ (v : Sat). v.1) h.seat in
-      let state : state_of p.journal.entries ≡ Holding k = sym h.state_is ∙ holding in
-      record {
-        seat =
-            let f : (pass_seat me.0.count (noted me.0.journal (Hand w cost) Handed), me.1)
-            ≡ (pass_seat number new.0.journal, []) =
-            λ i. (pass_seat (count i) ((ap (λ (v : Sat). v.0.journal) (sym n)) i), empty i) in
-            n ∙ f;
-        worker_is = h.worker_is ∙ ap (λ v. v.worker) (sym journal);
-        state_is = sym (state_from-snoc Free p.journal.entries (Hand w cost) Handed) ∙ ap state_of (sym entries);
-        within = tt;
-        fit = rw more (all_fit-append fits p.answers ((k, a) ∷ []) h.fit (fit, tt));
-        each =
-            ap (λ t. priced price t) more
-            ∙ (map-append (λ (x : ℕ × A). (x.0, price x.1)) p.answers ((k, a) ∷ [])
-            ∙ (ap (λ t. t ++ (k, price a) ∷ []) h.each
-            ∙ (ap (λ t. handed p.journal.entries ++ (k, t) ∷ []) (sym cheap)
-            ∙ (ap (λ t. handed p.journal.entries ++ accepted t (Hand w cost) Handed) (sym state)
-            ∙ (sym (handed_from-snoc Free p.journal.entries (Hand w cost) Handed) ∙ ap handed (sym entries))))));
-      }
+  handed_inside me new worker about p id k cost w a answers h j n holding more fit cheap = grind (arith, all_fit-append, handed_from-snoc, map-append, state_from-snoc)
 
   -- a root that gathered a pass
   pub gathered_inside : (me new him : Sat) (worker : ℕ) (about : State) (r : RootView J A) (p : PassView J A)
@@ -198,25 +145,7 @@ module _ {J A : Type 0} (number : ℕ) (fits : ℕ → A → Type 0) (price : A 
         gathered = new.0.gathered;
         answers = answers;
       }
-  gathered_inside me new him worker about r p id answers h g i j n more =
-      let count : me.0.count ≡ number = ap (λ (v : Sat). v.0.count) h.seat in
-      let made : me.0.made ≡ r.made = ap (λ (v : Sat). v.0.made) h.seat in
-      let empty : me.1 ≡ [] = ap (λ (v : Sat). v.1) h.seat in
-      let gathered : new.0.gathered ≡ r.gathered ++ p.journal ∷ [] = ap (λ (v : Sat). v.0.gathered) n
-      ∙ (ap (λ t. t ++ him.0.journal ∷ []) (sym g) ∙ ap (λ t. r.gathered ++ t ∷ []) (sym j)) in
-      record {
-        seat =
-            let f : (gathers me.0 him.0, me.1) ≡ (root_seat number r.made new.0.gathered, []) =
-            λ k. (root_seat (count k) (made k) ((ap (λ (v : Sat). v.0.gathered) (sym n)) k), empty k) in
-            n ∙ f;
-        fit = rw more (all_fit-append fits r.answers p.answers h.fit i.fit);
-        each =
-            ap (λ t. priced price t) more
-            ∙ (map-append (λ (x : ℕ × A). (x.0, price x.1)) r.answers p.answers
-            ∙ (ap (λ t. t ++ priced price p.answers) h.each
-            ∙ (ap (λ t. all_handed r.gathered ++ t) i.each
-            ∙ (sym (all_handed-snoc r.gathered p.journal) ∙ ap all_handed (sym gathered)))));
-      }
+  gathered_inside me new him worker about r p id answers h g i j n more = grind (arith, all_fit-append, all_handed-snoc, map-append)
 
 pub free_after : (es : List Entry) (x : Step) → state_of (es ++ entry x Handed ∷ []) ≡ Free
 free_after es x = state_from-snoc Free es x Handed

@@ -36,40 +36,17 @@ pub record Retired (c : Core) (taken : List (ℕ × ℕ)) (es : List Entry) : Ty
       ⊎ ((cost : ℕ) × Contains (handed (entries_of w es)) (k, cost))
 
 pub retires_first : (count : ℕ) → Retired (opening count) [] []
-retires_first count = record {
-  state = λ w. refl;
-  low = λ w k cost h. absurd (contains_none (k, cost) h);
-  gone = λ w v k cost h. absurd (contains_none (k, cost) h);
-  cost_stands = λ w k cost h. absurd (contains_none (k, cost) h);
-  one = λ w v k a b h. absurd (contains_none (k, a) h);
-  twice = λ w. tt;
-  fate = λ w k h. absurd (cc);
-}
+retires_first count = grind (arith, contains_none)
 
 state_more : (count : ℕ) (c : Core) (es : List Entry) (x : Step) → ((w : ℕ) → c.state w ≡ state_of (entries_of w es))
     → (w : ℕ) → (after count c x).state w ≡ state_of (entries_of w (es ++ entry x (reply_to count c x) ∷ []))
-state_more count c es x h w =
-    let r : Reply = reply_to count c x in
-    elim (cases_eq w (worker_of x)) [
-      | inl e ↦ state_here count c x w e ∙ (ap (λ s. state_after s r) (h w)
-          ∙ (sym (state_from-snoc Free (entries_of w es) x r) ∙ ap state_of (sym (entries_here w es x r e))))
-      | inr ne ↦ state_else count c x w ne ∙ (h w ∙ ap state_of (sym (entries_else w es x r ne)))
-    ]
+state_more count c es x h w = grind (arith, cases_eq, entries_else, entries_here, state_else, state_from-snoc, state_here)
 
 -- what a worker handed back, after a step that hands nothing back
 same_handed : (count : ℕ) (c : Core) (es : List Entry) (x : Step) (r : Reply) → reply_to count c x ≡ r
     → ((s : State) → accepted s x r ≡ []) → (w : ℕ)
     → handed (entries_of w (es ++ entry x (reply_to count c x) ∷ [])) ≡ handed (entries_of w es)
-same_handed count c es x r e clean w =
-    elim (cases_eq w (worker_of x)) [
-      | inl same ↦
-          ap handed (entries_here w es x (reply_to count c x) same)
-          ∙ (handed_from-snoc Free (entries_of w es) x (reply_to count c x)
-          ∙ (ap (λ q. handed (entries_of w es) ++ accepted (state_of (entries_of w es)) x q) e
-          ∙ (ap (λ t. handed (entries_of w es) ++ t) (clean (state_of (entries_of w es)))
-          ∙ append-nil (handed (entries_of w es)))))
-      | inr ne ↦ ap handed (entries_else w es x (reply_to count c x) ne)
-    ]
+same_handed count c es x r e clean w = grind (arith, append-nil, cases_eq, entries_else, entries_here, handed_from-snoc)
 
 -- a step that hands nothing back
 idles : (count : ℕ) (c : Core) (taken : List (ℕ × ℕ)) (es : List Entry) → Stands count c taken → Retired c taken es

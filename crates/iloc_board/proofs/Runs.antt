@@ -1,9 +1,8 @@
 -- One step more at the end of a list of steps.
-use Rattle.std.proofs.Common.{◌≡◌, ℕ, ◌+◌, ◌<◌, List, [], ◌∷◌, ◌++◌, length, map, take, get_or, refl, ap, sym, ◌∙◌, length-set}
+use Rattle.std.proofs.Common.{◌≡◌, ℕ, ◌+◌, ◌<◌, List, [], ◌∷◌, ◌++◌, length, take, get_or, refl, ap, ◌∙◌, length-set, arith}
 use Rattle.std.proofs.lemmas.List.{map-append, length-replicate, take_more}
 use Rattle.iloc_board.specs.declared.step.Step.{Step}
 use Rattle.iloc_board.specs.declared.step.Reply.{Reply}
-use Rattle.iloc_board.specs.declared.step.Entry.{Entry}
 use Rattle.iloc_board.specs.declared.board.state.State.{State}
 use Rattle.iloc_board.specs.Core.{Core, opening, reply_to, after, ends, entry, played}
 use Rattle.std.specs.BTreeMap.{BTreeMap}
@@ -22,15 +21,7 @@ played-snoc count c [] x = refl
 played-snoc count c (y ∷ xs) x = ap (λ t. entry y (reply_to count c y) ∷ t) (played-snoc count (after count c y) xs x)
 
 pub length-costs : (count : ℕ) (c : Core) (x : Step) → length (after count c x).costs ≡ length c.costs
-length-costs count c x =
-    elim (effect count c x) [
-      | finds costs free lt e ↦ ap length costs
-      | misses costs free lt e ↦ ap length costs
-      | none costs free all e ↦ ap length costs
-      | wins k costs looked here e ↦ ap length costs
-      | returns v cost k is holding by costs e ↦ ap length costs ∙ length-set c.costs k cost
-      | waits costs e ↦ ap length costs
-    ]
+length-costs count c x = grind (arith, effect, finds, length-set, misses, none, returns, waits, wins)
 
 pub length-costs_all : (count : ℕ) (xs : List Step) (c : Core) → length (ends count c xs).costs ≡ length c.costs
 length-costs_all count [] c = refl
@@ -45,10 +36,7 @@ final-snoc count xs x = ends-snoc count (opening count) xs x
 
 pub replies-snoc : (count : ℕ) (xs : List Step) (x : Step) → replies count (xs ++ x ∷ []) ≡ replies count xs
     ++ reply_to count (final count xs) x ∷ []
-replies-snoc count xs x =
-    ap (λ t. map (λ (e : Entry). e.reply) t) (played-snoc count (opening count) xs x)
-    ∙ map-append (λ (e : Entry). e.reply) (played count (opening count) xs)
-    (entry x (reply_to count (final count xs) x) ∷ [])
+replies-snoc count xs x = grind (arith, map-append, played-snoc)
 
 -- a loop's step, over the item at i
 pub final_more : (count : ℕ) (xs : List Step) (i : ℕ) (d : Step) → i < length xs → final count (take (i + 1) xs)
@@ -71,6 +59,4 @@ pub told_more : (count n : ℕ) (xs : List Step) (i : ℕ) (d : Step) → i < le
     → (told : List Reply) (r : Reply)
     → told ≡ replies count (take i xs) → r ≡ reply_to n (final count (take i xs)) (get_or xs i d)
     → told ++ r ∷ [] ≡ replies count (take (i + 1) xs)
-told_more count n xs i d lt same told r e f =
-    ap (λ t. t ++ r ∷ []) e ∙ (ap (λ q. replies count (take i xs) ++ q ∷ [])
-    (f ∙ ap (λ m. reply_to m (final count (take i xs)) (get_or xs i d)) same) ∙ sym (replies_more count xs i d lt))
+told_more count n xs i d lt same told r e f = grind (arith, replies_more)

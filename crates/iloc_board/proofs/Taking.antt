@@ -1,5 +1,5 @@
 -- What any steps keep: each job is taken once, in order, and is held by whom took it.
-use Rattle.std.proofs.Common.{◌≡◌, ◌≢◌, ℕ, zero, suc, ◌+◌, ◌<◌, ◌≤◌, ◌⊎◌, true, false, ◌||◌, ◌==◌, List, [], ◌∷◌, ◌++◌, map, refl, ap, sym, ◌∙◌, subst, arith, inl, inr}
+use Rattle.std.proofs.Common.{◌≡◌, ◌≢◌, ℕ, zero, suc, ◌+◌, ◌<◌, ◌≤◌, ◌⊎◌, true, false, ◌==◌, List, [], ◌∷◌, ◌++◌, map, refl, ap, sym, ◌∙◌, subst, arith, inl, inr}
 use Rattle.std.specs.List.{range_with_len}
 use Rattle.std.proofs.lemmas.Bool.{eqb-true, eq-eqb, cases_eq, or_cases, or_left, or_right, and_parts, and_from}
 use Rattle.std.proofs.lemmas.List.{map-append, append-nil}
@@ -24,44 +24,23 @@ pub record Stands (count : ℕ) (c : Core) (taken : List (ℕ × ℕ)) : Type 0 
   pub one : (w v k : ℕ) → c.state w ≡ Holding k → c.state v ≡ Holding k → w ≡ v
 
 pub begins : (count : ℕ) → Stands count (opening count) []
-begins count = record {
-  low = omega arith;
-  within = λ w. tt;
-  once = refl;
-  below = λ w k e. absurd (cc);
-  has = λ w k e. absurd (cc);
-  one = λ w v k e f. absurd (cc);
-}
+begins count = grind arith
 
 -- a worker's state after a step, by the reply
 pub state_by : (count : ℕ) (c : Core) (x : Step) (r : Reply) → reply_to count c x ≡ r → (w : ℕ)
     → ((w ≡ worker_of x) × ((after count c x).state w ≡ state_after (c.state w) r))
     ⊎ ((w ≢ worker_of x) × ((after count c x).state w ≡ c.state w))
-state_by count c x r e w =
-    let h : (w ≡ worker_of x) ⊎ (w ≢ worker_of x) = cases_eq w (worker_of x) in
-    elim h [
-      | inl same ↦ inl (same, state_here count c x w same ∙ ap (λ q. state_after (c.state w) q) e)
-      | inr other ↦ inr (other, state_else count c x w other)
-    ]
+state_by count c x r e w = grind (arith, cases_eq, state_else, state_here)
 
 pub within_by : (count : ℕ) (c : Core) (x : Step) (r : Reply) → reply_to count c x ≡ r
     → ((w : ℕ) → IsWithin count (c.state w)) → ((s : State) → IsWithin count s → IsWithin count (state_after s r))
     → (w : ℕ) → IsWithin count ((after count c x).state w)
-within_by count c x r e within step w =
-    let P : State → Type 0 = λ s. IsWithin count s in
-    elim (state_by count c x r e w) [
-      | inl h ↦ subst P (sym h.1) (step (c.state w) (within w))
-      | inr h ↦ subst P (sym h.1) (within w)
-    ]
+within_by count c x r e within step w = grind (arith, state_by)
 
 pub holds_by : (count : ℕ) (c : Core) (x : Step) (r : Reply) → reply_to count c x ≡ r
     → ((s : State) (k : ℕ) → state_after s r ≡ Holding k → s ≡ Holding k)
     → (w k : ℕ) → (after count c x).state w ≡ Holding k → c.state w ≡ Holding k
-holds_by count c x r e step w k is =
-    elim (state_by count c x r e w) [
-      | inl h ↦ step (c.state w) k (sym h.1 ∙ is)
-      | inr h ↦ sym h.1 ∙ is
-    ]
+holds_by count c x r e step w k is = grind (arith, state_by)
 
 -- a step that takes nothing
 idles : (count : ℕ) (c : Core) (taken : List (ℕ × ℕ)) → Stands count c taken → (x : Step) (r : Reply)
@@ -101,16 +80,7 @@ out_more w k v j taken o = list_any-append (is_pair w k) taken ((v, j) ∷ []) �
 
 pub out_split : (w k v j : ℕ) (taken : List (ℕ × ℕ)) → is_out w k (taken ++ (v, j) ∷ []) ≡ true
     → (is_out w k taken ≡ true) ⊎ ((w ≡ v) × (k ≡ j))
-out_split w k v j taken o =
-    let e : (is_out w k taken || (is_pair w k (v, j) || false)) ≡ true =
-    sym (list_any-append (is_pair w k) taken ((v, j) ∷ [])) ∙ o in
-    elim (or_cases _ _ e) [
-      | inl h ↦ inl h
-      | inr h ↦ elim (or_cases _ _ h) [
-        | inl p ↦ let q = and_parts (w == v) (k == j) p in inr (eqb-true w v q.0, eqb-true k j q.1)
-        | inr p ↦ absurd (cc)
-      ]
-    ]
+out_split w k v j taken o = grind (arith, and_parts, eqb-true, list_any-append, or_cases)
 
 takes_one : (count : ℕ) (c : Core) (taken : List (ℕ × ℕ)) → Stands count c taken → (x : Step) (k : ℕ)
     → c.state (worker_of x) ≡ Looked k → c.next ≡ k → reply_to count c x ≡ Took k

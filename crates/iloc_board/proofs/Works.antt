@@ -1,10 +1,10 @@
 -- How a worker's run falls.
-use Rattle.std.proofs.Common.{◌≡◌, ℕ, suc, ◌+◌, ◌<◌, ◌≤◌, max, true, List, [], ◌∷◌, ◌++◌, length, refl, ap, ap₂, sym, ◌∙◌, arith, length-append}
+use Rattle.std.proofs.Common.{◌≡◌, ℕ, suc, ◌+◌, ◌<◌, ◌≤◌, max, true, List, [], ◌∷◌, ◌++◌, length, refl, ap, arith, length-append}
 use Rattle.std.proofs.lemmas.Bool.{or_right}
 use Rattle.std.proofs.lemmas.List.{append-nil, append_assoc}
 use Rattle.iloc_board.specs.declared.step.Step.{Step}
 use Rattle.iloc_board.specs.declared.step.Reply.{Reply}
-use Rattle.iloc_board.specs.declared.step.Reply.TheVariants.{Block, NoneLeft, Took, Stale, Handed, NotNow}
+use Rattle.iloc_board.specs.declared.step.Reply.TheVariants.{NoneLeft, Took, Stale, Handed}
 use Rattle.iloc_board.specs.declared.step.Entry.{Entry}
 use Rattle.iloc_board.specs.declared.board.state.State.{State}
 use Rattle.iloc_board.specs.declared.board.state.State.TheVariants.{Free, Looked, Holding}
@@ -33,30 +33,14 @@ stands count t s e = (ap (left_in count (seen count t)) e, ap (slack_in count (s
 stands_noted : (count : ℕ) (t : Journal) (x : Step) (r : Reply) (s : State) → state_of t.entries ≡ s
     → (left count (noted t x r) ≡ left_in count (max (seen count t) (shown count r)) (state_after s r))
     × (slack count (noted t x r) ≡ slack_in count (max (seen count t) (shown count r)) (state_after s r))
-stands_noted count t x r s e =
-    let low = seen_from-snoc count t.start t.entries x r in
-    let now = state_from-snoc Free t.entries x r ∙ ap (λ q. state_after q r) e in
-    (ap₂ (left_in count) low now, ap₂ (slack_in count) low now)
+stands_noted count t x r s e = grind (arith, seen_from-snoc, state_from-snoc)
 
 adds_more : (j t : Journal) (added : List Entry) (x : Step) (r : Reply) → Adds j t added
     → Adds j (noted t x r) (added ++ entry x r ∷ [])
-adds_more j t added x r h = record {
-  worker = h.worker;
-  start = h.start;
-  entries = ap (λ q. q ++ entry x r ∷ []) h.entries ∙ append_assoc j.entries added (entry x r ∷ []);
-}
+adds_more j t added x r h = grind (arith, append_assoc)
 
 pub goes_none : (count : ℕ) (j : Journal) → Goes count j j
-goes_none count j = record {
-  added = [];
-  adds = record {
-    worker = refl;
-    start = refl;
-    entries = sym (append-nil j.entries);
-  };
-  few = omega arith;
-  stale = omega arith;
-}
+goes_none count j = grind (arith, append-nil)
 
 pays_more : (count : ℕ) (j t : Journal) (x : Step) (r : Reply) (entries late : ℕ) → Goes count j t
     → 1 + entries ≤ left count t → one_if_stale r + late ≤ slack count t → Pays count j (noted t x r) entries late
@@ -70,12 +54,7 @@ pays_more count j t x r entries late h fall few =
     }
 
 adds_join : (j t u : Journal) (xs ys : List Entry) → Adds j t xs → Adds t u ys → Adds j u (xs ++ ys)
-adds_join j t u xs ys h i = record {
-  worker = i.worker ∙ h.worker;
-  start = i.start ∙ h.start;
-  entries = i.entries
-      ∙ (ap (λ q. q ++ ys) h.entries ∙ append_assoc j.entries xs ys);
-}
+adds_join j t u xs ys h i = grind (arith, append_assoc)
 
 stales-append : (xs ys : List Entry) → stales (xs ++ ys) ≡ stales xs + stales ys
 stales-append [] ys = omega arith
@@ -101,35 +80,18 @@ pub runs : (count : ℕ) (j t : Journal) → state_of j.entries ≡ Free → End
 runs count j t free h = let a = stands count j Free free in
     record { added = h.added; adds = h.adds; few = omega arith; late = omega arith }
 
--- the steps, each with what it costs
-pub block_goes : (count : ℕ) (j t : Journal) (x : Step) (k : ℕ) → Goes count j t → state_of t.entries ≡ Free
-    → seen count t ≤ k → k < count → Goes count j (noted t x (Block k))
-block_goes count j t x k h free low lt =
-    let a = stands count t Free free in
-    let b = stands_noted count t x (Block k) Free free in
-    pays_more count j t x (Block k) _ _ h (omega arith) (omega arith)
-
 pub took_goes : (count : ℕ) (j t : Journal) (x : Step) (k : ℕ) → Goes count j t → state_of t.entries ≡ Looked k
     → k < count → Goes count j (noted t x (Took k))
-took_goes count j t x k h looked lt =
-    let a = stands count t (Looked k) looked in
-    let b = stands_noted count t x (Took k) (Looked k) looked in
-    pays_more count j t x (Took k) _ _ h (omega arith) (omega arith)
+took_goes count j t x k h looked lt = grind (arith, pays_more, stands, stands_noted)
 
 pub stale_goes : (count : ℕ) (j t : Journal) (x : Step) (k n : ℕ) → Goes count j t → state_of t.entries ≡ Looked k
     → k < n → n < count → Goes count j (noted t x (Stale n))
-stale_goes count j t x k n h looked lt capacity =
-    let a = stands count t (Looked k) looked in
-    let b = stands_noted count t x (Stale n) (Looked k) looked in
-    pays_more count j t x (Stale n) _ _ h (omega arith) (omega arith)
+stale_goes count j t x k n h looked lt capacity = grind (arith, pays_more, stands, stands_noted)
 
 -- the measure of the loop of tries
 pub stale_falls : (count : ℕ) (t : Journal) (x : Step) (k n : ℕ) → state_of t.entries ≡ Looked k → k < n → n < count
     → left count (noted t x (Stale n)) < left count t
-stale_falls count t x k n looked lt capacity =
-    let a = stands count t (Looked k) looked in
-    let b = stands_noted count t x (Stale n) (Looked k) looked in
-    omega arith
+stale_falls count t x k n looked lt capacity = grind (arith, stands, stands_noted)
 
 pub none_ends : (count : ℕ) (j t : Journal) (x : Step) → Goes count j t → state_of t.entries ≡ Free
     → Ended count j (noted t x NoneLeft)
@@ -142,18 +104,12 @@ late_ends count j t x k h looked lt = let a = stands count t (Looked k) looked i
     pays_more count j t x NoneLeft 0 0 h (omega arith) (omega arith)
 
 pub is_done : (t : Journal) (x : Step) → IsDone (noted t x NoneLeft)
-is_done t x = record {
-  free = state_from-snoc Free t.entries x NoneLeft;
-  last = (t.entries, x, refl);
-  told = saw_none-snoc t.entries x;
-}
+is_done t x = grind (arith, saw_none-snoc, state_from-snoc)
 
 -- a job held was taken, which shows that the next is past it
 holds_step : (k start count : ℕ) (s : State) (r : Reply) → ((j : ℕ) → s ≡ Holding j → suc j ≤ start)
     → state_after s r ≡ Holding k → suc k ≤ max start (shown count r)
-holds_step k start count s (Took j) h e = let same : j ≡ k = cc in omega arith
-holds_step k start count s NotNow h e = let low : suc k ≤ start = h k e in omega arith
-holds_step k start count s r h e = absurd (cc)
+holds_step k start count s r h e = grind arith
 
 holds_seen : (k start count : ℕ) (s : State) (es : List Entry) → ((j : ℕ) → s ≡ Holding j → suc j ≤ start)
     → state_from s es ≡ Holding k → suc k ≤ seen_from count start es
@@ -166,11 +122,7 @@ held_seen k count j e = holds_seen k j.start count Free j.entries (λ i f. absur
 
 pub hand_goes : (count : ℕ) (j t : Journal) (x : Step) (k : ℕ) → Goes count j t → state_of t.entries ≡ Holding k
     → k < count → Goes count j (noted t x Handed)
-hand_goes count j t x k h holding lt =
-    let s : suc k ≤ seen count t = held_seen k count t holding in
-    let a = stands count t (Holding k) holding in
-    let b = stands_noted count t x Handed (Holding k) holding in
-    pays_more count j t x Handed _ _ h (omega arith) (omega arith)
+hand_goes count j t x k h holding lt = grind (arith, held_seen, pays_more, stands, stands_noted)
 
 pub looking_at : (s : State) → is_looking s ≡ true → (k : ℕ) × (s ≡ Looked k)
 looking_at (Looked k) e = (k, refl)
@@ -178,8 +130,4 @@ looking_at s e = absurd (cc)
 
 pub hand_falls : (count : ℕ) (j t : Journal) (x : Step) (k : ℕ) → Goes count j t → state_of t.entries ≡ Holding k
     → k < count → left count (noted t x Handed) < left count j
-hand_falls count j t x k h holding lt =
-    let s : suc k ≤ seen count t = held_seen k count t holding in
-    let a = stands count t (Holding k) holding in
-    let b = stands_noted count t x Handed (Holding k) holding in
-    omega arith
+hand_falls count j t x k h holding lt = grind (arith, held_seen, stands, stands_noted)
