@@ -7,7 +7,7 @@ use Rattle.iloc_ops.specs.Limits.{MAX_INPUT}
 use Rattle.iloc_ops.specs.declared.op.Op.{Op}
 use Rattle.iloc_ops.specs.declared.file.Block.{Block}
 use Rattle.iloc_text.specs.declared.fault.ReadFault.{ReadFault}
-use Rattle.iloc_text.specs.declared.fault.ReadFault.TheVariants.{InputTooLong, BadLine, NumberTooLarge, TooManyBlocks, TooManyOperations, NoMemory}
+use Rattle.iloc_text.specs.declared.fault.ReadFault.TheVariants.{InputTooLong, BadLine, NumberTooLarge, TooManyBlocks, TooManyOperations}
 use Rattle.iloc_text.specs.Grammar.{Reads, HasReading, HasWideReading}
 use Rattle.iloc_text.specs.Steps.Scan.{line_at, is_within}
 use Rattle.iloc_text.specs.Lines.{is_line_end, lines_of}
@@ -32,9 +32,7 @@ lines_joined : (lines : List (List ℕ)) → 0 < length lines → AllByRecursion
     → lines_of (join_with_byte 10 lines) ≡ lines
 lines_joined [] some each = absurd (omega arith)
 lines_joined (l ∷ []) some each = slice_split_none is_line_end l (no_end l each.0)
-lines_joined (l ∷ m ∷ ls) some each =
-    slice_split_at is_line_end l 10 (join_with_byte 10 (m ∷ ls)) (no_end l each.0) refl
-    ∙ ap (λ x. l ∷ x) (lines_joined (m ∷ ls) (omega arith) each.1)
+lines_joined (l ∷ m ∷ ls) some each = grind (arith, no_end, slice_split_at, lines_joined (m ∷ ls) (omega arith) each.1)
 
 pub lines_are_of : (input : List ℕ) (lines : List (List ℕ)) → AreLines input lines → lines_of input ≡ lines
 lines_are_of input lines a = ap lines_of a.whole ∙ lines_joined lines a.some a.each
@@ -144,13 +142,7 @@ fault_answer input fault h = answer_short input h.short
     (faulty_verdict h.readings h.line (length h.before + 1) fault h.faulty)
 
 refusal_answer : (input : List ℕ) (fault : ReadFault) → IsRefused input fault → answer input ≡ Err fault
-refusal_answer input InputTooLong h = let long : nat_lt MAX_INPUT (length input) ≡ true = grind (arith, nat_tests) in
-    rw long refl
-refusal_answer input (BadLine n) h = fault_answer input (BadLine n) h
-refusal_answer input (NumberTooLarge n) h = fault_answer input (NumberTooLarge n) h
-refusal_answer input (TooManyBlocks n) h = fault_answer input (TooManyBlocks n) h
-refusal_answer input (TooManyOperations n) h = fault_answer input (TooManyOperations n) h
-refusal_answer input NoMemory h = absurd h
+refusal_answer input fault h = grind (arith, fault_answer, nat_tests)
 
 same : {r a b : Result (List Block) ReadFault} → r ≡ a → r ≡ b → a ≡ b
 same e f = sym e ∙ f

@@ -1,18 +1,17 @@
 -- The parts of a text are read apart as they are in the text.
-use Rattle.std.proofs.Common.{◌≡◌, ◌∙◌, ℕ, suc, ◌+◌, ◌<◌, ◌≤◌, nat_lt, Bool, true, false, cond, List, [], ◌∷◌, ◌++◌, length, refl, sym, ap, ap₂, Option, Some, None, is_some, Result, Ok, Err, append_assoc, append-nil, length-append, ◌⊎◌, inl, inr, arith}
+use Rattle.std.proofs.Common.{◌≡◌, ◌∙◌, ℕ, suc, ◌+◌, ◌<◌, ◌≤◌, nat_lt, true, false, List, [], ◌∷◌, ◌++◌, length, refl, sym, ap, ap₂, Option, Some, is_some, Result, Ok, Err, append_assoc, append-nil, length-append, ◌⊎◌, inl, inr, arith}
 use Rattle.std.specs.List.{onto_first}
 use Rattle.std.proofs.lemmas.Bool.Decides.{nat_tests}
 use Rattle.iloc_ops.specs.Limits.{MAX_BLOCKS, MAX_OPS}
 use Rattle.iloc_ops.specs.declared.op.Op.{Op}
 use Rattle.iloc_ops.specs.declared.file.Block.{Block}
 use Rattle.iloc_text.specs.declared.fault.ReadFault.{ReadFault}
-use Rattle.iloc_text.specs.declared.fault.ReadFault.TheVariants.{NumberTooLarge, TooManyBlocks, TooManyOperations}
 use Rattle.iloc_text.specs.Grammar.{Reads}
 use Rattle.iloc_text.specs.Files.{Denotes}
 use Rattle.iloc_text.specs.Parts.{BeginsLabelled}
-use Rattle.iloc_text.specs.Lines.{is_line_end, lines_of}
-use Rattle.iloc_text.specs.Steps.Scan.{line_at, is_within}
-use Rattle.iloc_text.specs.Steps.Growth.{opened, with_op, with_optional_op, with_line, last_ops, limited}
+use Rattle.iloc_text.specs.Lines.{lines_of}
+use Rattle.iloc_text.specs.Steps.Scan.{line_at}
+use Rattle.iloc_text.specs.Steps.Growth.{with_op, with_optional_op, with_line, last_ops, limited}
 use Rattle.iloc_text.proofs.Splitting.{lines_are}
 use Rattle.iloc_text.specs.Steps.Verdicts.{verdict_on, verdict, answer_from, on_verdict}
 use Rattle.iloc_text.proofs.Answer.{reads_verdict, lines_are_of, file_answer}
@@ -27,13 +26,7 @@ onto_first_of c (l ∷ ls) ms some = refl
 
 pub lines_of_both : (front back : List ℕ) → lines_of (front ++ 10 ∷ back) ≡ lines_of front ++ lines_of back
 lines_of_both [] back = refl
-lines_of_both (c ∷ cs) back = by (is_line_end c) (lines_of_both cs back) (lines_are cs).some
-  where
-    by : (b : Bool) → lines_of (cs ++ 10 ∷ back) ≡ lines_of cs ++ lines_of back → 0 < length (lines_of cs)
-        → cond b ([] ∷ lines_of (cs ++ 10 ∷ back)) (onto_first c (lines_of (cs ++ 10 ∷ back)))
-        ≡ cond b ([] ∷ lines_of cs) (onto_first c (lines_of cs)) ++ lines_of back
-    by true e some = ap (λ ls. [] ∷ ls) e
-    by false e some = ap (onto_first c) e ∙ onto_first_of c (lines_of cs) (lines_of back) some
+lines_of_both (c ∷ cs) back = grind (arith, lines_are, onto_first_of, lines_of_both cs back)
 
 -- The answer of both
 
@@ -75,74 +68,32 @@ Opens label blocks = (is_some label ≡ true) ⊎ (0 < length blocks)
 
 longer_with_line : (label : Option (List ℕ)) (op : Option Op) (blocks : List Block)
     → length blocks ≤ length (with_line label op blocks)
-longer_with_line None op blocks = length-with_optional op blocks
-longer_with_line (Some name) op blocks =
-    omega (arith, length-opened (Some name) blocks, length-with_optional op (opened (Some name) blocks))
+longer_with_line label op blocks = grind (arith, length-opened, length-with_optional)
 
 with_line_behind : (label : Option (List ℕ)) (op : Option Op) (front blocks : List Block) → Opens label blocks
     → (with_line label op (front ++ blocks) ≡ front ++ with_line label op blocks)
     × (0 < length (with_line label op blocks))
-with_line_behind None op front blocks (inl named) = cc
-with_line_behind None op front blocks (inr some) =
-    (optional_op_behind op front blocks some, omega (arith, length-with_optional op blocks))
-with_line_behind (Some name) op front blocks opens =
-    let count = length-opened (Some name) blocks in (
-      ap (with_optional_op op) (append_assoc front blocks (record { name = Some name; ops = [] } ∷ []))
-          ∙ optional_op_behind op front (opened (Some name) blocks) (omega arith),
-      omega (arith, length-with_optional op (opened (Some name) blocks)),
-    )
+with_line_behind label op front blocks opens = grind (arith, append_assoc, length-opened, length-with_optional, optional_op_behind)
 
 within : (blocks grown : List Block) (m : ℕ) → limited blocks m ≡ Ok grown
     → (blocks ≡ grown) × (nat_lt MAX_OPS (length (last_ops blocks)) ≡ false)
-within blocks grown m e = by (nat_lt MAX_BLOCKS (length blocks)) (nat_lt MAX_OPS (length (last_ops blocks))) refl e
-  where
-    by : (many long : Bool) → nat_lt MAX_OPS (length (last_ops blocks)) ≡ long
-        → cond many (Err (TooManyBlocks m)) (cond long (Err (TooManyOperations m)) (Ok blocks)) ≡ Ok grown
-        → (blocks ≡ grown) × (nat_lt MAX_OPS (length (last_ops blocks)) ≡ false)
-    by false false l f = (cc, l)
-    by many long l f = cc
+within blocks grown m e = grind arith
 
 -- what is within the limits stays so behind others, if all are no more than a file may have
 limited_behind : (front blocks grown : List Block) (m n : ℕ) → limited blocks m ≡ Ok grown → 0 < length blocks
     → length front + length grown ≤ MAX_BLOCKS → limited (front ++ blocks) n ≡ Ok (front ++ grown)
-limited_behind front blocks grown m n e some few =
-    let w = within blocks grown m e in
-    let size : length blocks ≡ length grown = ap length w.0 in
-    let all = length-append front blocks in
-    let count : nat_lt MAX_BLOCKS (length (front ++ blocks)) ≡ false = grind (arith, nat_tests) in
-    let short : nat_lt MAX_OPS (length (last_ops (front ++ blocks))) ≡ false =
-    ap (λ ops. nat_lt MAX_OPS (length ops)) (last_ops_behind front blocks some) ∙ w.1 in
-    rw (count, short) (ap (λ bs. Ok (front ++ bs)) w.0)
+limited_behind front blocks grown m n e some few = grind (arith, last_ops_behind, length-append, nat_tests, within)
 
 -- Lines behind others
 
 verdict_longer : (found : Option (Option (List ℕ) × Option Op)) (blocks grown : List Block) (m : ℕ)
     → verdict_on found blocks m ≡ Ok grown → length blocks ≤ length grown
-verdict_longer None blocks grown m e = cc
-verdict_longer (Some found) blocks grown m e = by (is_within found.1) e
-  where
-    by : (b : Bool) → cond b (limited (with_line found.0 found.1 blocks) m) (Err (NumberTooLarge m)) ≡ Ok grown
-        → length blocks ≤ length grown
-    by true f = omega (
-      arith,
-      longer_with_line found.0 found.1 blocks,
-      ap length (within (with_line found.0 found.1 blocks) grown m f).0,
-    )
-    by false f = cc
+verdict_longer found blocks grown m e = grind (arith, longer_with_line, within)
 
 verdict_behind : (found : Option (Option (List ℕ) × Option Op)) (front blocks grown : List Block) (m n : ℕ)
     → verdict_on found blocks m ≡ Ok grown → 0 < length blocks → length front + length grown ≤ MAX_BLOCKS
     → verdict_on found (front ++ blocks) n ≡ Ok (front ++ grown)
-verdict_behind None front blocks grown m n e some few = cc
-verdict_behind (Some found) front blocks grown m n e some few = by (is_within found.1) e
-  where
-    by : (b : Bool) → cond b (limited (with_line found.0 found.1 blocks) m) (Err (NumberTooLarge m)) ≡ Ok grown
-        → cond b (limited (with_line found.0 found.1 (front ++ blocks)) n) (Err (NumberTooLarge n))
-        ≡ Ok (front ++ grown)
-    by true f = let w = with_line_behind found.0 found.1 front blocks (inr some) in
-        ap (λ bs. limited bs n) w.0
-        ∙ limited_behind front (with_line found.0 found.1 blocks) grown m n f w.1 few
-    by false f = cc
+verdict_behind found front blocks grown m n e some few = grind (arith, limited_behind, with_line_behind)
 
 answer_longer : (blocks out : List Block) (n : ℕ) (lines : List (List ℕ)) → answer_from blocks n lines ≡ Ok out
     → length blocks ≤ length out

@@ -1,5 +1,5 @@
 -- What one more line does to the blocks of a file.
-use Rattle.std.proofs.Common.{◌≡◌, ◌∙◌, ℕ, suc, ◌+◌, ◌<◌, List, [], ◌∷◌, ◌++◌, length, refl, sym, ap, ap₂, Option, Some, None, option_to_list, append-nil, length-append, inl, inr, arith}
+use Rattle.std.proofs.Common.{◌≡◌, ◌∙◌, ℕ, suc, ◌+◌, ◌<◌, List, [], ◌∷◌, ◌++◌, length, refl, sym, ap, ap₂, Option, Some, None, option_to_list, append-nil, length-append, arith}
 use Rattle.iloc_ops.specs.declared.op.Op.{Op}
 use Rattle.iloc_ops.specs.declared.file.Block.{Block}
 use Rattle.iloc_text.specs.Files.{Reading, block_names, block_count, ops_of, blocks_from, file_of}
@@ -11,18 +11,13 @@ blocks-same : (k : ℕ) (names : List (Option (List ℕ))) (rs ss : List Reading
     → ((j : ℕ) → j < k + length names → ops_of j ss ≡ ops_of j rs)
     → blocks_from k names ss ≡ blocks_from k names rs
 blocks-same k [] rs ss h = refl
-blocks-same k (name ∷ names) rs ss h =
-    ap₂ (λ ops rest. record { name = name; ops = ops } ∷ rest) (h k (omega arith))
-    (blocks-same (k + 1) names rs ss (λ j lt. h j (omega arith)))
+blocks-same k (name ∷ names) rs ss h = grind (arith, blocks-same (k + 1) names rs ss (λ j lt. h j (omega arith)))
 
 blocks-snoc : (k : ℕ) (names : List (Option (List ℕ))) (name : Option (List ℕ)) (rs : List Reading)
     → blocks_from k (names ++ name ∷ []) rs ≡ blocks_from k names rs
     ++ record { name = name; ops = ops_of (k + length names) rs } ∷ []
 blocks-snoc k [] name rs = ap (λ n. record { name = name; ops = ops_of n rs } ∷ []) (omega arith)
-blocks-snoc k (n ∷ names) name rs =
-    ap (λ rest. record { name = n; ops = ops_of k rs } ∷ rest)
-    (blocks-snoc (k + 1) names name rs ∙ ap
-    (λ m. blocks_from (k + 1) names rs ++ record { name = name; ops = ops_of m rs } ∷ []) (omega arith))
+blocks-snoc k (n ∷ names) name rs = grind (arith, blocks-snoc (k + 1) names name rs)
 
 length-blocks : (k : ℕ) (names : List (Option (List ℕ))) (rs : List Reading) → length (blocks_from k names rs)
     ≡ length names
@@ -127,12 +122,7 @@ file-op rs r op h g some = elim (ends (block_names rs)) [
 
 file-by : (rs : List Reading) (r : Reading) (label : Option (List ℕ)) (op : Option Op) → r.label ≡ label → r.op ≡ op
     → file_of (rs ++ r ∷ []) ≡ with_line label op (file_of rs)
-file-by rs r (Some name) op h g = file-label rs r name op h g
-file-by rs r None None h g = file-empty rs r h g
-file-by rs r None (Some op) h g = elim (none_or_some (block_count rs)) [
-  | inl none ↦ file-first rs r op h g none
-  | inr some ↦ file-op rs r op h g some
-]
+file-by rs r label op h g = grind (arith, file-empty, file-first, file-label, file-op, none_or_some)
 
 -- the file of one line more
 pub file-snoc : (rs : List Reading) (r : Reading) → file_of (rs ++ r ∷ []) ≡ with_line r.label r.op (file_of rs)

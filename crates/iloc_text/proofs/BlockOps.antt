@@ -1,8 +1,7 @@
 -- What one more line does to the operations of each block.
-use Rattle.std.proofs.Common.{◌≡◌, ◌≢◌, ◌∙◌, ℕ, ◌<◌, ◌≤◌, Bool, true, false, cond, ◌==◌, List, [], ◌∷◌, ◌++◌, filter_map, refl, sym, ap, subst, Option, Some, None, is_some, option_to_list, append_assoc, append-nil, eq-eqb, ne_eqb, arith}
+use Rattle.std.proofs.Common.{◌≡◌, ◌≢◌, ◌∙◌, ℕ, ◌<◌, Bool, true, false, cond, ◌==◌, List, [], ◌∷◌, ◌++◌, filter_map, refl, sym, ap, subst, Option, None, is_some, option_to_list, append_assoc, append-nil, eq-eqb, ne_eqb, arith}
 use Rattle.std.proofs.lemmas.List.Elements.{filter_map-append}
-use Rattle.iloc_ops.specs.declared.op.Op.{Op}
-use Rattle.iloc_text.specs.Files.{Reading, block_count, fronts, last_op, ops_of}
+use Rattle.iloc_text.specs.Files.{Reading, block_count, ops_of}
 use Rattle.iloc_text.proofs.Counts.{fronts-snoc, last_op-snoc, count-snoc}
 
 pub one_or_none : {A : Type 0} (b : Bool) (o p : Option A) → o ≡ p
@@ -11,21 +10,12 @@ one_or_none true o p h = ap option_to_list h
 one_or_none false o p h = refl
 
 pub filter_map-one : {A B : Type 0} (f : A → Option B) (x : A) → filter_map f (x ∷ []) ≡ option_to_list (f x)
-filter_map-one {A} {B} f x = by (f x) refl
-  where
-    by : (o : Option B) → f x ≡ o → filter_map f (x ∷ []) ≡ option_to_list o
-    by None e = rw e refl
-    by (Some y) e = rw e refl
+filter_map-one f x = grind (arith, filter_map, option_to_list)
 
 pub ops_of-snoc : (k : ℕ) (rs : List Reading) (r : Reading)
     → ops_of k (rs ++ r ∷ []) ≡ ops_of k rs ++ cond (block_count (rs ++ r ∷ []) == k) (option_to_list r.op) []
 unfolding ops_of
-ops_of-snoc k rs r =
-    let f : List Reading → Option Op = λ front. cond (block_count front == k) (last_op front) None in
-    ap (filter_map f) (fronts-snoc rs r) ∙ filter_map-append f (fronts rs) ((rs ++ r ∷ []) ∷ [])
-    ∙ ap (λ o. filter_map f (fronts rs) ++ o)
-    (filter_map-one f (rs ++ r ∷ []) ∙ one_or_none (block_count (rs ++ r ∷ []) == k) (last_op (rs ++ r ∷ [])) r.op
-    (last_op-snoc rs r))
+ops_of-snoc k rs r = grind (arith, filter_map, filter_map-append, filter_map-one, fronts-snoc, last_op-snoc, one_or_none)
 
 pub ops_of-here : (k : ℕ) (rs : List Reading) (r : Reading) → block_count (rs ++ r ∷ []) ≡ k
     → ops_of k (rs ++ r ∷ []) ≡ ops_of k rs ++ option_to_list r.op
@@ -38,13 +28,7 @@ ops_of-else k rs r h = let other : (block_count (rs ++ r ∷ []) == k) ≡ false
     ops_of-snoc k rs r ∙ ap (λ b. ops_of k rs ++ cond b (option_to_list r.op) []) other ∙ append-nil (ops_of k rs)
 
 pub ops_of-no_op : (k : ℕ) (rs : List Reading) (r : Reading) → r.op ≡ None → ops_of k (rs ++ r ∷ []) ≡ ops_of k rs
-ops_of-no_op k rs r h = ops_of-snoc k rs r
-    ∙ ap (λ o. ops_of k rs ++ cond (block_count (rs ++ r ∷ []) == k) (option_to_list o) []) h
-    ∙ ap (λ o. ops_of k rs ++ o) (by (block_count (rs ++ r ∷ []) == k)) ∙ append-nil (ops_of k rs)
-  where
-    by : (b : Bool) → ◌≡◌ {A = List Op} (cond b [] []) []
-    by true = refl
-    by false = refl
+ops_of-no_op k rs r h = grind (arith, append-nil, ops_of-snoc, option_to_list)
 
 -- from line to line
 pub over_lines : (P : List Reading → Type 0) → ((rs : List Reading) (r : Reading) → P rs → P (rs ++ r ∷ []))
@@ -58,18 +42,7 @@ abbrev pub HasNoMore : List Reading → Type 0
 HasNoMore rs = (ops_of 0 rs ≡ []) × ((k : ℕ) → block_count rs < k → ops_of k rs ≡ [])
 
 pub no_more-step : (rs : List Reading) (r : Reading) → HasNoMore rs → HasNoMore (rs ++ r ∷ [])
-no_more-step rs r h = (zeroth r.op refl, later)
-  where
-    grown : (block_count rs ≤ block_count (rs ++ r ∷ [])) × (is_some r.op ≡ true → 0 < block_count (rs ++ r ∷ []))
-    grown = count-snoc rs r r.label r.op refl refl
-
-    zeroth : (op : Option Op) → r.op ≡ op → ops_of 0 (rs ++ r ∷ []) ≡ []
-    zeroth None e = ops_of-no_op 0 rs r e ∙ h.0
-    zeroth (Some op) e = let some : 0 < block_count (rs ++ r ∷ []) = grown.1 (ap is_some e) in
-        ops_of-else 0 rs r (λ z. omega arith) ∙ h.0
-
-    later : (k : ℕ) → block_count (rs ++ r ∷ []) < k → ops_of k (rs ++ r ∷ []) ≡ []
-    later k lt = ops_of-else k rs r (λ z. omega arith) ∙ h.1 k (omega (arith, grown.0))
+no_more-step rs r h = grind (arith, count-snoc, is_some, ops_of-else, ops_of-no_op)
 
 pub no_more-none : HasNoMore []
 unfolding ops_of

@@ -35,16 +35,12 @@ optional_read (c ∷ cs) = by (is_word_byte c)
 pub optional_here : (bytes : List ℕ) → starts is_word_byte bytes ≡ true
     → optional_operation_at bytes ≡ (operation_at bytes >>= (λ found. Some (Some found.0, found.1)))
 unfolding optional_operation_at
-optional_here [] h = cc
-optional_here (c ∷ cs) h = ap (λ b. cond b (operation_at (c ∷ cs) >>= (λ found. Some (Some found.0, found.1)))
-    (Some (None, c ∷ cs))) h
+optional_here bytes h = grind arith
 
 pub optional_none : (bytes : List ℕ) → starts is_word_byte bytes ≡ false
     → optional_operation_at bytes ≡ Some (None, bytes)
 unfolding optional_operation_at
-optional_none [] h = refl
-optional_none (c ∷ cs) h = ap (λ b. cond b (operation_at (c ∷ cs) >>= (λ found. Some (Some found.0, found.1)))
-    (Some (None, c ∷ cs))) h
+optional_none bytes h = grind arith
 
 -- The end of a line
 
@@ -52,19 +48,13 @@ pub slashes : (c d : ℕ) → ((c == 47) && (d == 47)) ≡ true → (c ≡ 47) �
 slashes c d h = (grind (arith, nat_tests), grind (arith, nat_tests))
 
 pub end_read : (rest : List ℕ) → is_end rest ≡ true → OptionalComment rest
-end_read [] h = tt
-end_read (c ∷ []) h = cc
-end_read (c ∷ d ∷ cs) h = slashes c d h
+end_read rest h = grind (arith, slashes)
 
 pub end_again : (rest : List ℕ) → OptionalComment rest → is_end rest ≡ true
-end_again [] h = refl
-end_again (c ∷ []) h = absurd h
-end_again (c ∷ d ∷ cs) h = rw (h.0, h.1) refl
+end_again rest h = grind arith
 
 pub end_starts : (test : ℕ → Bool) → test 47 ≡ false → (rest : List ℕ) → OptionalComment rest → starts test rest ≡ false
-end_starts test e [] h = refl
-end_starts test e (c ∷ []) h = absurd h
-end_starts test e (c ∷ d ∷ cs) h = ap test h.0 ∙ e
+end_starts test e rest h = grind arith
 
 -- What stands behind a label
 

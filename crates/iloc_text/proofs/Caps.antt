@@ -1,5 +1,5 @@
 -- No number was capped where the numbers of an operation are within the limit.
-use Rattle.std.proofs.Common.{◌≡◌, ◌∙◌, ℕ, ◌≤◌, nat_lt, Bool, true, false, ◌&&◌, List, [], ◌∷◌, map, refl, sym, ap, ap₂, Some, arith}
+use Rattle.std.proofs.Common.{◌≡◌, ◌∙◌, ℕ, ◌≤◌, nat_lt, true, List, [], ◌∷◌, map, refl, sym, ap, ap₂, Some, arith}
 use Rattle.std.specs.List.{AllByRecursion, list_all}
 use Rattle.std.proofs.lemmas.Bool.Decides.{nat_tests}
 use Rattle.iloc_ops.specs.Limits.{MAX_NUMBER}
@@ -30,14 +30,7 @@ capped-within op h = ap (op_of (opcode op)) (all_within (numbers op) h) ∙ op_s
 pub all_small : (ns : List ℕ) → list_all (λ n. nat_lt n ABOVE_LIMIT) (map capped ns) ≡ true
     → AllByRecursion (λ n. n ≤ MAX_NUMBER) ns
 all_small [] h = tt
-all_small (n ∷ ns) h = by (nat_lt (capped n) ABOVE_LIMIT) refl (all_small ns) h
-  where
-    by : (b : Bool) → nat_lt (capped n) ABOVE_LIMIT ≡ b → (list_all (λ n. nat_lt n ABOVE_LIMIT) (map capped ns) ≡ true
-        → AllByRecursion (λ n. n ≤ MAX_NUMBER) ns)
-        → (b && list_all (λ n. nat_lt n ABOVE_LIMIT) (map capped ns)) ≡ true
-        → AllByRecursion (λ n. n ≤ MAX_NUMBER) (n ∷ ns)
-    by true e rest h = (grind (arith, nat_tests), rest h)
-    by false e rest h = cc
+all_small (n ∷ ns) h = grind (arith, nat_tests, all_small ns)
 
 pub small_all : (ns : List ℕ) → AllByRecursion (λ n. n ≤ MAX_NUMBER) ns
     → list_all (λ n. nat_lt n ABOVE_LIMIT) (map capped ns) ≡ true

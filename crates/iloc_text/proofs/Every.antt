@@ -1,12 +1,12 @@
 -- Every text has an answer, and the answer is what it denotes: line by line, each is read or faulty.
-use Rattle.std.proofs.Common.{◌≡◌, ℕ, ◌+◌, ◌<◌, ◌≤◌, nat_lt, Bool, true, false, cond, List, [], ◌∷◌, ◌++◌, length, refl, sym, subst, subst₂, Option, Some, None, Result, Ok, Err, ◌⊎◌, inl, inr, append_assoc, append-nil, length-append}
+use Rattle.std.proofs.Common.{◌≡◌, ℕ, ◌+◌, ◌≤◌, nat_lt, Bool, true, false, cond, List, [], ◌∷◌, ◌++◌, length, refl, sym, subst, subst₂, Option, Some, None, Result, Ok, Err, ◌⊎◌, inl, inr, append_assoc, append-nil, length-append, arith}
 use Rattle.std.specs.List.{AllByRecursion}
 use Rattle.std.proofs.lemmas.Bool.{ltb-true, ltb-false}
 use Rattle.iloc_ops.specs.Limits.{MAX_INPUT, MAX_BLOCKS, MAX_OPS}
 use Rattle.iloc_ops.specs.declared.op.Op.{Op}
 use Rattle.iloc_ops.specs.declared.file.Block.{Block}
 use Rattle.iloc_text.specs.declared.fault.ReadFault.{ReadFault}
-use Rattle.iloc_text.specs.declared.fault.ReadFault.TheVariants.{InputTooLong, NumberTooLarge, TooManyBlocks, TooManyOperations, NoMemory}
+use Rattle.iloc_text.specs.declared.fault.ReadFault.TheVariants.{InputTooLong, NumberTooLarge, TooManyBlocks, TooManyOperations}
 use Rattle.iloc_text.specs.Grammar.{Reads}
 use Rattle.iloc_text.specs.Files.{AreLines, Reading, ReadAs, fronts, file_of, IsWithin, NoneFaulty, Denotes, IsFaulty, HasFirstFault, IsRefused}
 use Rattle.iloc_text.specs.Laws.{TextsHaveAnAnswer}
@@ -39,26 +39,7 @@ by_limits : (rs : List Reading) (line : List ℕ) (n : ℕ) (r : Reading) → Re
     → nat_lt MAX_OPS (length (last_ops (file_of (rs ++ r ∷ [])))) ≡ operations
     → Judged rs line n (cond blocks (Err (TooManyBlocks n)) (cond operations (Err (TooManyOperations n))
     (Ok (file_of (rs ++ r ∷ [])))))
-by_limits rs line n r reads true operations b o =
-    (refl, record { reading = r; read = reads; blocks = subst (λ c. MAX_BLOCKS < c) (length-file _) (ltb-true _ _ b) })
-by_limits rs line n r reads false true b o = (
-  refl,
-  record {
-    reading = r;
-    read = reads;
-    blocks = subst (λ c. c ≤ MAX_BLOCKS) (length-file _) (ltb-false _ _ b);
-    operations = subst (λ ops. MAX_OPS < length ops) (last-file _) (ltb-true _ _ o);
-  },
-)
-by_limits rs line n r reads false false b o = record {
-  reading = r;
-  reads = reads;
-  within = record {
-    blocks = subst (λ c. c ≤ MAX_BLOCKS) (length-file _) (ltb-false _ _ b);
-    operations = subst (λ ops. length ops ≤ MAX_OPS) (last-file _) (ltb-false _ _ o);
-  };
-  file = refl;
-}
+by_limits rs line n r reads blocks operations b o = grind (arith, last-file, length-file, ltb-false, ltb-true)
 
 by_numbers : (rs : List Reading) (line : List ℕ) (n : ℕ) (r : Reading) → line_at line ≡ Some (r.label, r.op)
     → (within : Bool) → is_within r.op ≡ within
@@ -94,9 +75,7 @@ ReadAs-snoc (l ∷ ls) (x ∷ xs) line r h reads = (h.0, ReadAs-snoc ls xs line 
 ReadAs-snoc lines rs line r h reads = absurd h
 
 pub first_refused : (input : List ℕ) (fault : ReadFault) → HasFirstFault input fault → IsRefused input fault
-first_refused input InputTooLong h = absurd h.faulty
-first_refused input NoMemory h = absurd h.faulty
-first_refused input fault h = h
+first_refused input fault h = grind arith
 
 -- the text denotes these blocks, or this refusal
 abbrev pub Answers : List ℕ → Result (List Block) ReadFault → Type 0
@@ -107,15 +86,7 @@ Answers input (Err fault) = IsRefused input fault
 from_here : (input : List ℕ) → length input ≤ MAX_INPUT → (before lines : List (List ℕ)) (rs : List Reading)
     → AreLines input (before ++ lines) → ReadAs before rs → NoneFaulty rs
     → Answers input (answer_from (file_of rs) (length before + 1) lines)
-from_here input short before [] rs are read none_faulty = record {
-  short = short;
-  lines = before;
-  are_lines = subst (AreLines input) (append-nil before) are;
-  readings = rs;
-  read = read;
-  none_faulty = none_faulty;
-  file = refl;
-}
+from_here input short before [] rs are read none_faulty = grind (arith, append-nil)
 from_here input short before (line ∷ lines) rs are read none_faulty =
     (elim (verdict (file_of rs) line (length before + 1))
     as (λ v. Judged rs line (length before + 1) v → Answers input (on_verdict (length before + 1) lines v)) [

@@ -1,5 +1,5 @@
 -- What the steps of the reader do to the blocks.
-use Rattle.std.proofs.Common.{◌≡◌, ◌∙◌, ℕ, suc, ◌+◌, ◌-◌, ◌<◌, ◌≤◌, nat_lt, Bool, true, false, List, [], ◌∷◌, ◌++◌, length, refl, sym, ap, subst₂, is_some, Option, Some, None, Result, Ok, Err, length-append, inl, inr, arith}
+use Rattle.std.proofs.Common.{◌≡◌, ◌∙◌, ℕ, suc, ◌+◌, ◌<◌, ◌≤◌, nat_lt, true, List, [], ◌∷◌, ◌++◌, length, refl, sym, ap, subst₂, is_some, Option, Some, None, Result, Ok, Err, length-append, inl, inr, arith}
 use Rattle.std.proofs.lemmas.Bool.Decides.{nat_tests}
 use Rattle.std.proofs.lemmas.List.{nil_from_length}
 use Rattle.iloc_ops.specs.Limits.{MAX_BLOCKS, MAX_OPS}
@@ -17,10 +17,7 @@ use Rattle.iloc_text.proofs.BlockLists.{last-snoc, with_op-snoc}
 
 pub all_within : (blocks : List Block) (line : ℕ) → length blocks ≤ MAX_BLOCKS → length (last_ops blocks) ≤ MAX_OPS
     → limited blocks line ≡ Ok blocks
-all_within blocks line few short =
-    let count : nat_lt MAX_BLOCKS (length blocks) ≡ false = grind (arith, nat_tests) in
-    let last : nat_lt MAX_OPS (length (last_ops blocks)) ≡ false = grind (arith, nat_tests) in
-    rw (count, last) refl
+all_within blocks line few short = grind (arith, nat_tests)
 
 pub many_blocks : (blocks : List Block) (line : ℕ) → MAX_BLOCKS < length blocks
     → limited blocks line ≡ Err (TooManyBlocks line)
@@ -29,10 +26,7 @@ many_blocks blocks line many =
 
 pub many_operations : (blocks : List Block) (line : ℕ) → length blocks ≤ MAX_BLOCKS → MAX_OPS < length (last_ops blocks)
     → limited blocks line ≡ Err (TooManyOperations line)
-many_operations blocks line few many =
-    let count : nat_lt MAX_BLOCKS (length blocks) ≡ false = grind (arith, nat_tests) in
-    let last : nat_lt MAX_OPS (length (last_ops blocks)) ≡ true = grind (arith, nat_tests) in
-    rw (count, last) refl
+many_operations blocks line few many = grind (arith, nat_tests)
 
 -- The open block
 
@@ -43,15 +37,7 @@ length-with_op op bs = refl
 pub pushed_so_far : (op : Op) (done blocks : List Block) (o p : OpenBlock) → AreSoFar done o blocks → 0 < length blocks
     → p.count ≡ o.count
     → p.block ≡ record { name = o.block.name; ops = o.block.ops ++ op ∷ [] } → AreSoFar done p (with_op op blocks)
-pushed_so_far op done blocks o p h some count block =
-    let n = h.count in
-    let same : with_op op blocks ≡ done ++ p.block ∷ [] =
-    ap (with_op op) (h.last (omega arith)) ∙ with_op-snoc op done o.block ∙ ap (λ b. done ++ b ∷ []) (sym block) in
-    record {
-      before = h.before ∙ ap (λ n. n - 1) (sym count);
-      count = length-with_op op blocks ∙ h.count ∙ sym count;
-      last = λ _. same;
-    }
+pushed_so_far op done blocks o p h some count block = grind (arith, length-with_op, with_op-snoc)
 
 pub so_far_within : (done blocks : List Block) (o : OpenBlock) (line : ℕ) → AreSoFar done o blocks
     → limited blocks line ≡ Ok blocks
@@ -68,13 +54,7 @@ so_far_within done blocks o line h =
 pub pushed_above : (op : Op) (done blocks : List Block) (o : OpenBlock) (line : ℕ) → AreSoFar done o blocks
     → 0 < length blocks → length o.block.ops ≡ MAX_OPS
     → limited (with_op op blocks) line ≡ Err (TooManyOperations line)
-pushed_above op done blocks o line h some full =
-    let few = o.few in
-    let count = h.count in
-    let e = ap (λ bs. length (last_ops bs)) (ap (with_op op) (h.last (omega arith)) ∙ with_op-snoc op done o.block) in
-    let l = ap length (last-snoc done (record { name = o.block.name; ops = o.block.ops ++ op ∷ [] })) in
-    many_operations (with_op op blocks) line (omega (arith, length-with_op op blocks))
-    (omega (arith, length-append o.block.ops (op ∷ [])))
+pushed_above op done blocks o line h some full = grind (arith, last-snoc, length-append, length-with_op, many_operations, with_op-snoc)
 
 pub length-opened : (name : Option (List ℕ)) (blocks : List Block) → length (opened name blocks) ≡ length blocks + 1
 length-opened name blocks = length-append blocks (record { name = name; ops = [] } ∷ [])
@@ -112,18 +92,7 @@ length-with_optional op bs = omega arith
 first_fails : (name : Option (List ℕ)) (op : Option Op) (blocks : List Block) (line : ℕ) (fault : ReadFault)
     → limited (opened name blocks) line ≡ Err fault
     → limited (with_optional_op op (opened name blocks)) line ≡ Err fault
-first_fails name op blocks line fault e = by (nat_lt MAX_BLOCKS (length (opened name blocks))) refl
-  where
-    by : (many : Bool) → nat_lt MAX_BLOCKS (length (opened name blocks)) ≡ many
-        → limited (with_optional_op op (opened name blocks)) line ≡ Err fault
-    by true m =
-        let above : MAX_BLOCKS < length (opened name blocks) = grind (arith, nat_tests) in
-        many_blocks (with_optional_op op (opened name blocks)) line
-        (omega (arith, length-with_optional op (opened name blocks)))
-        ∙ sym (many_blocks (opened name blocks) line above) ∙ e
-    by false m =
-        let none = ap length (last-snoc blocks (record { name = name; ops = [] })) in
-        let within = all_within (opened name blocks) line (grind (arith, nat_tests)) (omega arith) in cc
+first_fails name op blocks line fault e = grind (arith, all_within, last-snoc, length-with_optional, many_blocks, nat_tests)
 
 -- an operation is added behind what was taken
 pub pushed_behind : {T : Type 0} (took : T → List Block → T → Type 0) (start taker : T) (o p : OpenBlock) (op : Op)

@@ -1,5 +1,5 @@
 -- What stands before the comment of a line has no line end.
-use Rattle.std.proofs.Common.{◌≡◌, ℕ, ◌<◌, Bool, true, false, not, ◌&&◌, ◌==◌, Option, Some, None, List, [], ◌∷◌, ◌++◌, codes, refl, sym, subst, arith}
+use Rattle.std.proofs.Common.{◌≡◌, ℕ, ◌<◌, true, not, ◌==◌, Option, Some, None, List, [], ◌∷◌, ◌++◌, codes, refl, sym, subst, arith}
 use Rattle.std.specs.List.{list_all}
 use Rattle.std.specs.Char.{digit_value}
 use Rattle.std.specs.Str.Parse.{AllDigits}
@@ -29,12 +29,7 @@ join_inside p q = λ bytes j. subst HasNoLineEnd (sym j.whole)
 
 test_inside : (bytes : List ℕ) → list_all (λ c. not (c == 10)) bytes ≡ true → HasNoLineEnd bytes
 test_inside [] h = tt
-test_inside (c ∷ cs) h = by (c == 10) refl (test_inside cs) h
-  where
-    by : (b : Bool) → (c == 10) ≡ b → (list_all (λ c. not (c == 10)) cs ≡ true → HasNoLineEnd cs)
-        → (not b && list_all (λ c. not (c == 10)) cs) ≡ true → HasNoLineEnd (c ∷ cs)
-    by true e rest h = cc
-    by false e rest h = ((λ is. grind (arith, nat_tests)), rest h)
+test_inside (c ∷ cs) h = grind (arith, nat_tests, test_inside cs)
 
 pub text_inside : (text : List ℕ) → list_all (λ c. not (c == 10)) text ≡ true → IsInside (Text text)
 text_inside text h = λ bytes e. subst HasNoLineEnd (sym e) (test_inside text h)

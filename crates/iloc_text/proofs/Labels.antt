@@ -15,12 +15,7 @@ pub colon_tells : (c : ℕ) → is_colon c ≡ true → c ≡ 58
 colon_tells c h = grind (arith, nat_tests)
 
 pub colon_read : (bytes : List ℕ) → IfSome (after_colon bytes) (λ rest. Before (Text (codes ":")) rest bytes)
-colon_read [] = tt
-colon_read (c ∷ cs) = by (is_colon c) refl
-  where
-    by : (b : Bool) → is_colon c ≡ b → IfSome (cond b (Some cs) None) (λ rest. Before (Text (codes ":")) rest (c ∷ cs))
-    by true e = record { front = c ∷ []; first = ap (λ d. d ∷ []) (colon_tells c e); whole = refl }
-    by false e = tt
+colon_read bytes = grind (arith, codes, colon_tells)
 
 pub colon_none : (bytes : List ℕ) → starts is_colon bytes ≡ false → after_colon bytes ≡ None
 colon_none [] h = refl
@@ -70,12 +65,7 @@ label_read (c ∷ cs) = by (is_ascii_alphabetic c) refl
 pub label_none : (bytes : List ℕ) → starts is_colon (after_blanks (after_word bytes)) ≡ false
     → optional_label_at bytes ≡ (None, bytes)
 unfolding optional_label_at
-label_none [] h = refl
-label_none (c ∷ cs) h = rw (colon_none (after_blanks (after_word (c ∷ cs))) h) (by (is_ascii_alphabetic c))
-  where
-    by : (b : Bool) → ◌≡◌ {A = Option (List ℕ) × List ℕ} (cond b (None, c ∷ cs) (None, c ∷ cs)) (None, c ∷ cs)
-    by true = refl
-    by false = refl
+label_none bytes h = grind (arith, colon_none)
 
 pub label_not_here : (bytes : List ℕ) → starts is_word_byte bytes ≡ false → optional_label_at bytes ≡ (None, bytes)
 unfolding optional_label_at
@@ -93,10 +83,7 @@ name_starts (c ∷ cs) rest h = letter_is_word_byte c h.0
 pub label_over : (name rest : List ℕ) → IsName name → optional_label_at (name ++ rest)
     ≡ label_or_none (name ++ rest) (after_colon (after_blanks (after_word (name ++ rest))))
 unfolding optional_label_at
-label_over [] rest h = absurd h
-label_over (c ∷ cs) rest h =
-    ap (λ b. cond b (label_or_none (c ∷ (cs ++ rest)) (after_colon (after_blanks (after_word (c ∷ (cs ++ rest))))))
-    (None, c ∷ (cs ++ rest))) h.0
+label_over name rest h = grind arith
 
 pub label_again : (name rest bytes : List ℕ) → Before (OptionalLabel (Some name)) rest bytes
     → (optional_label_at bytes ≡ (Some name, rest)) × (starts is_word_byte bytes ≡ true)

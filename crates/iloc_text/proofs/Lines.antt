@@ -1,5 +1,5 @@
 -- The scanner reads the lines of the grammar, and each of them.
-use Rattle.std.proofs.Common.{◌≡◌, ◌∙◌, ℕ, nat_lt, true, false, List, ◌++◌, refl, sym, ap, subst, Option, Some, None, IfSome, option_map}
+use Rattle.std.proofs.Common.{◌≡◌, ◌∙◌, ℕ, nat_lt, true, false, List, ◌++◌, refl, sym, ap, subst, Option, Some, None, IfSome, option_map, arith}
 use Rattle.std.specs.List.{list_all}
 use Rattle.std.proofs.lemmas.Option.{same_Some}
 use Rattle.iloc_text.specs.declared.line.scan.TheConstants.{ABOVE_LIMIT}
@@ -86,10 +86,7 @@ line_again bytes None op r =
 pub reads_found : (bytes : List ℕ) (label : Option (List ℕ)) (op found : Option Op) → ReadsWidely bytes label op
     → found ≡ option_map capped_op op
     → is_within found ≡ true → Reads bytes label found
-reads_found bytes label None found r e h = rw e (r, tt)
-reads_found bytes label (Some op) found r e h =
-    let within = within_limit op (ap is_within (sym e) ∙ h) in
-    subst (Reads bytes label) (sym (e ∙ ap (λ o. Some o) (capped-within op within))) (r, within)
+reads_found bytes label op found r e h = grind (arith, capped-within, within_limit)
 
 -- a line that reads is found, within the limit
 pub found_reads : (bytes : List ℕ) (label : Option (List ℕ)) (op : Option Op) → Reads bytes label op

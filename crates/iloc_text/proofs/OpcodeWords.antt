@@ -1,5 +1,5 @@
 -- The opcode that bytes begin with, where a shift leaves its text of the number of the first eight. For `opcode_at`.
-use Rattle.std.proofs.Common.{◌≡◌, ◌∙◌, ◌≤◌, ◌<◌, ◌+◌, ◌-◌, ◌*◌, ◌%◌, ◌^◌, ℕ, List, [], ◌∷◌, ◌++◌, drop, get_or, replicate, length, sym, ap, arith}
+use Rattle.std.proofs.Common.{◌≡◌, ◌≤◌, ◌<◌, ◌+◌, ◌-◌, ◌*◌, ◌%◌, ◌^◌, ℕ, List, [], ◌∷◌, ◌++◌, drop, get_or, replicate, length, arith}
 use Rattle.std.specs.Int.{w64, from_le_bytes}
 use Rattle.std.proofs.lemmas.Nat.{mod-mul-add}
 use Rattle.iloc_ops.specs.declared.forms.Opcode.{Opcode}
@@ -17,72 +17,27 @@ digit a b s t a' s' is = (omega (arith, a', s', is), omega (arith, a', s', is))
 front_3 : (a b c d e f g h s t u : ℕ) (more : List ℕ) → a < 256 → b < 256 → c < 256 → s < 256 → t < 256 → u < 256
     → number_of a b c d e f g h * 1099511627776 % 18446744073709551616 ≡ number_of 0 0 0 0 0 s t u
     → a ∷ b ∷ c ∷ d ∷ e ∷ f ∷ g ∷ h ∷ more ≡ s ∷ t ∷ u ∷ d ∷ e ∷ f ∷ g ∷ h ∷ more
-front_3 a b c d e f g h s t u more a' b' c' s' t' u' is =
-    let moved : number_of a b c d e f g h * 1099511627776 ≡ (d + e * 256 + f * 65536 + g * 16777216 + h * 4294967296) * 18446744073709551616 + number_of 0 0 0 0 0 a b c = omega arith in
-    let left = mod-mul-add (d + e * 256 + f * 65536 + g * 16777216 + h * 4294967296) 18446744073709551616 (number_of 0 0 0 0 0 a b c) (omega (arith, a', b', c')) in
-    let same = sym left ∙ ap (λ m. m % 18446744073709551616) (sym moved) ∙ is in
-    let all : a + 256 * (b + 256 * c) ≡ s + 256 * (t + 256 * u) = omega (arith, same) in
-    let at_a = digit a _ s _ a' s' all in
-    let at_b = digit b _ t _ b' t' at_a.1 in
-    λ i. at_a.0 i ∷ at_b.0 i ∷ at_b.1 i ∷ d ∷ e ∷ f ∷ g ∷ h ∷ more
+front_3 a b c d e f g h s t u more a' b' c' s' t' u' is = grind (arith, digit, mod-mul-add)
 
 front_4 : (a b c d e f g h s t u v : ℕ) (more : List ℕ) → a < 256 → b < 256 → c < 256 → d < 256 → s < 256 → t < 256 → u < 256 → v < 256
     → number_of a b c d e f g h * 4294967296 % 18446744073709551616 ≡ number_of 0 0 0 0 s t u v
     → a ∷ b ∷ c ∷ d ∷ e ∷ f ∷ g ∷ h ∷ more ≡ s ∷ t ∷ u ∷ v ∷ e ∷ f ∷ g ∷ h ∷ more
-front_4 a b c d e f g h s t u v more a' b' c' d' s' t' u' v' is =
-    let moved : number_of a b c d e f g h * 4294967296 ≡ (e + f * 256 + g * 65536 + h * 16777216) * 18446744073709551616 + number_of 0 0 0 0 a b c d = omega arith in
-    let left = mod-mul-add (e + f * 256 + g * 65536 + h * 16777216) 18446744073709551616 (number_of 0 0 0 0 a b c d) (omega (arith, a', b', c', d')) in
-    let same = sym left ∙ ap (λ m. m % 18446744073709551616) (sym moved) ∙ is in
-    let all : a + 256 * (b + 256 * (c + 256 * d)) ≡ s + 256 * (t + 256 * (u + 256 * v)) = omega (arith, same) in
-    let at_a = digit a _ s _ a' s' all in
-    let at_b = digit b _ t _ b' t' at_a.1 in
-    let at_c = digit c _ u _ c' u' at_b.1 in
-    λ i. at_a.0 i ∷ at_b.0 i ∷ at_c.0 i ∷ at_c.1 i ∷ e ∷ f ∷ g ∷ h ∷ more
+front_4 a b c d e f g h s t u v more a' b' c' d' s' t' u' v' is = grind (arith, digit, mod-mul-add)
 
 front_5 : (a b c d e f g h s t u v w : ℕ) (more : List ℕ) → a < 256 → b < 256 → c < 256 → d < 256 → e < 256 → s < 256 → t < 256 → u < 256 → v < 256 → w < 256
     → number_of a b c d e f g h * 16777216 % 18446744073709551616 ≡ number_of 0 0 0 s t u v w
     → a ∷ b ∷ c ∷ d ∷ e ∷ f ∷ g ∷ h ∷ more ≡ s ∷ t ∷ u ∷ v ∷ w ∷ f ∷ g ∷ h ∷ more
-front_5 a b c d e f g h s t u v w more a' b' c' d' e' s' t' u' v' w' is =
-    let moved : number_of a b c d e f g h * 16777216 ≡ (f + g * 256 + h * 65536) * 18446744073709551616 + number_of 0 0 0 a b c d e = omega arith in
-    let left = mod-mul-add (f + g * 256 + h * 65536) 18446744073709551616 (number_of 0 0 0 a b c d e) (omega (arith, a', b', c', d', e')) in
-    let same = sym left ∙ ap (λ m. m % 18446744073709551616) (sym moved) ∙ is in
-    let all : a + 256 * (b + 256 * (c + 256 * (d + 256 * e))) ≡ s + 256 * (t + 256 * (u + 256 * (v + 256 * w))) = omega (arith, same) in
-    let at_a = digit a _ s _ a' s' all in
-    let at_b = digit b _ t _ b' t' at_a.1 in
-    let at_c = digit c _ u _ c' u' at_b.1 in
-    let at_d = digit d _ v _ d' v' at_c.1 in
-    λ i. at_a.0 i ∷ at_b.0 i ∷ at_c.0 i ∷ at_d.0 i ∷ at_d.1 i ∷ f ∷ g ∷ h ∷ more
+front_5 a b c d e f g h s t u v w more a' b' c' d' e' s' t' u' v' w' is = grind (arith, digit, mod-mul-add)
 
 front_6 : (a b c d e f g h s t u v w x : ℕ) (more : List ℕ) → a < 256 → b < 256 → c < 256 → d < 256 → e < 256 → f < 256 → s < 256 → t < 256 → u < 256 → v < 256 → w < 256 → x < 256
     → number_of a b c d e f g h * 65536 % 18446744073709551616 ≡ number_of 0 0 s t u v w x
     → a ∷ b ∷ c ∷ d ∷ e ∷ f ∷ g ∷ h ∷ more ≡ s ∷ t ∷ u ∷ v ∷ w ∷ x ∷ g ∷ h ∷ more
-front_6 a b c d e f g h s t u v w x more a' b' c' d' e' f' s' t' u' v' w' x' is =
-    let moved : number_of a b c d e f g h * 65536 ≡ (g + h * 256) * 18446744073709551616 + number_of 0 0 a b c d e f = omega arith in
-    let left = mod-mul-add (g + h * 256) 18446744073709551616 (number_of 0 0 a b c d e f) (omega (arith, a', b', c', d', e', f')) in
-    let same = sym left ∙ ap (λ m. m % 18446744073709551616) (sym moved) ∙ is in
-    let all : a + 256 * (b + 256 * (c + 256 * (d + 256 * (e + 256 * f)))) ≡ s + 256 * (t + 256 * (u + 256 * (v + 256 * (w + 256 * x)))) = omega (arith, same) in
-    let at_a = digit a _ s _ a' s' all in
-    let at_b = digit b _ t _ b' t' at_a.1 in
-    let at_c = digit c _ u _ c' u' at_b.1 in
-    let at_d = digit d _ v _ d' v' at_c.1 in
-    let at_e = digit e _ w _ e' w' at_d.1 in
-    λ i. at_a.0 i ∷ at_b.0 i ∷ at_c.0 i ∷ at_d.0 i ∷ at_e.0 i ∷ at_e.1 i ∷ g ∷ h ∷ more
+front_6 a b c d e f g h s t u v w x more a' b' c' d' e' f' s' t' u' v' w' x' is = grind (arith, digit, mod-mul-add)
 
 front_7 : (a b c d e f g h s t u v w x y : ℕ) (more : List ℕ) → a < 256 → b < 256 → c < 256 → d < 256 → e < 256 → f < 256 → g < 256 → s < 256 → t < 256 → u < 256 → v < 256 → w < 256 → x < 256 → y < 256
     → number_of a b c d e f g h * 256 % 18446744073709551616 ≡ number_of 0 s t u v w x y
     → a ∷ b ∷ c ∷ d ∷ e ∷ f ∷ g ∷ h ∷ more ≡ s ∷ t ∷ u ∷ v ∷ w ∷ x ∷ y ∷ h ∷ more
-front_7 a b c d e f g h s t u v w x y more a' b' c' d' e' f' g' s' t' u' v' w' x' y' is =
-    let moved : number_of a b c d e f g h * 256 ≡ (h) * 18446744073709551616 + number_of 0 a b c d e f g = omega arith in
-    let left = mod-mul-add (h) 18446744073709551616 (number_of 0 a b c d e f g) (omega (arith, a', b', c', d', e', f', g')) in
-    let same = sym left ∙ ap (λ m. m % 18446744073709551616) (sym moved) ∙ is in
-    let all : a + 256 * (b + 256 * (c + 256 * (d + 256 * (e + 256 * (f + 256 * g))))) ≡ s + 256 * (t + 256 * (u + 256 * (v + 256 * (w + 256 * (x + 256 * y))))) = omega (arith, same) in
-    let at_a = digit a _ s _ a' s' all in
-    let at_b = digit b _ t _ b' t' at_a.1 in
-    let at_c = digit c _ u _ c' u' at_b.1 in
-    let at_d = digit d _ v _ d' v' at_c.1 in
-    let at_e = digit e _ w _ e' w' at_d.1 in
-    let at_f = digit f _ x _ f' x' at_e.1 in
-    λ i. at_a.0 i ∷ at_b.0 i ∷ at_c.0 i ∷ at_d.0 i ∷ at_e.0 i ∷ at_f.0 i ∷ at_f.1 i ∷ h ∷ more
+front_7 a b c d e f g h s t u v w x y more a' b' c' d' e' f' g' s' t' u' v' w' x' y' is = grind (arith, digit, mod-mul-add)
 
 -- the text of an opcode as the last of eight bytes
 abbrev pub word_of : Opcode → List ℕ

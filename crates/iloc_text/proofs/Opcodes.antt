@@ -1,5 +1,5 @@
 -- The scanner finds each opcode, and an opcode only where its word stands.
-use Rattle.std.proofs.Common.{◌≡◌, ℕ, Bool, true, false, cond, ◌&&◌, List, [], ◌∷◌, ◌++◌, refl, sym, Option, Some, None, IfSome, find, bytes_eq}
+use Rattle.std.proofs.Common.{◌≡◌, ℕ, Bool, true, List, [], ◌∷◌, ◌++◌, refl, sym, Option, Some, None, IfSome, find, bytes_eq, arith}
 use Rattle.std.specs.List.{list_all}
 use Rattle.std.proofs.lemmas.Slice.Eq.{bytes_eq-Decides}
 use Rattle.iloc_ops.specs.declared.forms.Opcode.{Opcode}
@@ -19,12 +19,7 @@ bind_each Q (Some x) f h step = step x h
 
 pub found_passes : {A : Type 0} (p : A → Bool) (xs : List A) → IfSome (find p xs) (λ x. p x ≡ true)
 found_passes p [] = tt
-found_passes {A} p (x ∷ xs) = by (p x) refl (found_passes p xs)
-  where
-    by : (b : Bool) → p x ≡ b → IfSome (find p xs) (λ y. p y ≡ true)
-        → IfSome (cond b (Some x) (find p xs)) (λ y. p y ≡ true)
-    by true e r = e
-    by false e r = r
+found_passes {A} p (x ∷ xs) = grind (arith, find, found_passes p xs)
 
 pub opcode_read : (word : List ℕ) → IfSome (opcode_of word) (λ o. word ≡ opcode_text o)
 opcode_read word = some_map (λ o e. sym ((bytes_eq-Decides (opcode_text o) word).0 e)) (opcode_of word)
@@ -32,12 +27,7 @@ opcode_read word = some_map (λ o e. sym ((bytes_eq-Decides (opcode_text o) word
 
 pub word_by_test : (bytes : List ℕ) → list_all is_word_byte bytes ≡ true → IsWord bytes
 word_by_test [] h = tt
-word_by_test (c ∷ cs) h = by (is_word_byte c) refl (word_by_test cs) h
-  where
-    by : (b : Bool) → is_word_byte c ≡ b → (list_all is_word_byte cs ≡ true → IsWord cs)
-        → (b && list_all is_word_byte cs) ≡ true → IsWord (c ∷ cs)
-    by true e rest h = (e, rest h)
-    by false e rest h = cc
+word_by_test (c ∷ cs) h = grind (arith, word_by_test cs)
 
 opcode_passes : (o : Opcode) → list_all is_word_byte (opcode_text o) ≡ true
 opcode_passes Nop = refl

@@ -1,5 +1,5 @@
 -- The scanner finds operands, and finds them again.
-use Rattle.std.proofs.Common.{◌≡◌, ◌∙◌, ℕ, false, List, [], ◌∷◌, ◌++◌, map, drop, get_or, refl, ap, ap₂, Some, IfSome}
+use Rattle.std.proofs.Common.{◌≡◌, ◌∙◌, ℕ, false, List, [], ◌∷◌, ◌++◌, map, drop, get_or, refl, ap, ap₂, Some, IfSome, arith}
 use Rattle.std.specs.Char.{is_ascii_digit}
 use Rattle.iloc_ops.specs.Forms.{Lead, Value, Operand, ◌▹◌, number_in, number_of}
 use Rattle.iloc_ops.specs.Forms.Lead.{space, comma, arrow}
@@ -12,9 +12,7 @@ use Rattle.iloc_text.proofs.Opcodes.{bind_each}
 use Rattle.iloc_text.proofs.Starts.{blank_is_no_digit, digit_is_no_blank, value_fails, operands_fail}
 
 lead_read : (lead : Lead) (bytes : List ℕ) → IfSome (lead_at lead bytes) (λ rest. Before (LeadText lead) rest bytes)
-lead_read space bytes = some_blanks_read bytes
-lead_read comma bytes = comma_read bytes
-lead_read arrow bytes = arrow_read bytes
+lead_read lead bytes = grind (arith, arrow_read, comma_read, some_blanks_read)
 
 lead_again : (lead : Lead) (rest bytes : List ℕ) → Before (LeadText lead) rest bytes → starts is_blank rest ≡ false
     → lead_at lead bytes ≡ Some rest

@@ -1,5 +1,5 @@
 -- Parts of a text that are read apart.
-use Rattle.std.proofs.Common.{◌≡◌, ◌≢◌, ◌∙◌, ℕ, List, [], ◌∷◌, ◌++◌, Result, Err, IfErr, sym, ap, subst, append_assoc, append-nil}
+use Rattle.std.proofs.Common.{◌≡◌, ◌≢◌, ◌∙◌, ℕ, List, [], ◌∷◌, ◌++◌, Result, Err, IfErr, sym, ap, subst, append_assoc, append-nil, arith}
 use Rattle.std.specs.List.{flat_map}
 use Rattle.iloc_text.specs.declared.fault.ReadFault.{ReadFault}
 use Rattle.iloc_text.specs.declared.fault.ReadFault.TheVariants.{NoMemory}
@@ -96,13 +96,9 @@ one_taken texts old new part given text same none none' reads begun = record {
 pub cut_off : {P : Type 0} (texts : P → List (List ℕ)) (old : PartedText P) (text part back : List ℕ)
     (come : HasCome texts old text) → old.rest.items ≡ part ++ 10 ∷ back
     → text ≡ come.front ++ part ++ 10 ∷ [] ++ back
-cut_off texts old text part back come falls = come.whole ∙ ap (λ rest. come.front ++ rest) falls
-    ∙ sym (append_assoc come.front part (10 ∷ back))
-    ∙ sym (append_assoc (come.front ++ part) (10 ∷ []) back)
+cut_off texts old text part back come falls = grind (arith, append_assoc)
 
 -- a refusal that is handed on is that of the same text
 pub err_as : {A : Type 0} (text read : List ℕ) (fault : ReadFault) (r : Result A ReadFault) → text ≡ read
     → (fault ≢ NoMemory → IsRefused read fault) → r ≡ Err fault → IfErr r (λ f. f ≢ NoMemory → IsRefused text f)
-err_as text read fault r same refused is =
-    subst (λ x. IfErr x (λ f. f ≢ NoMemory → IsRefused text f)) (sym is)
-    (λ memory. subst (λ t. IsRefused t fault) (sym same) (refused memory))
+err_as text read fault r same refused is = grind arith

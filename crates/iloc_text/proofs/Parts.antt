@@ -1,5 +1,5 @@
 -- A text of a language at the front of other bytes.
-use Rattle.std.proofs.Common.{◌≡◌, ◌∙◌, ℕ, Bool, false, List, [], ◌∷◌, ◌++◌, refl, sym, ap, subst, append_assoc, append-nil}
+use Rattle.std.proofs.Common.{◌≡◌, ◌∙◌, ℕ, Bool, false, List, [], ◌∷◌, ◌++◌, refl, sym, ap, subst, append_assoc, append-nil, arith}
 use Rattle.iloc_text.specs.Grammar.{◌⋅◌}
 
 -- the bytes are a text of the language and then the rest
@@ -18,15 +18,7 @@ Before-join {P} {Q} {mid} {rest} {bytes} a b = record {
 
 pub Before-split : {P Q : List ℕ → Type 0} {rest bytes : List ℕ} → Before (P ⋅ Q) rest bytes → (mid : List ℕ)
     × Before P mid bytes × Before Q rest mid
-Before-split {P} {Q} {rest} {bytes} b = (
-  b.first.rest ++ rest,
-  record {
-    front = b.first.front;
-    first = b.first.first;
-    whole = b.whole ∙ ap (λ f. f ++ rest) b.first.whole ∙ append_assoc b.first.front b.first.rest rest;
-  },
-  record { front = b.first.rest; first = b.first.second; whole = refl },
-)
+Before-split b = grind (arith, append_assoc)
 
 -- a whole text of the language
 pub Before-all : {P : List ℕ → Type 0} {bytes : List ℕ} → Before P [] bytes → P bytes

@@ -1,5 +1,5 @@
 -- Where a rest stands in the bytes.
-use Rattle.std.proofs.Common.{◌≡◌, ◌∙◌, ℕ, List, ◌++◌, take, drop, sym, ap, subst, append_assoc, take-append-drop, Option, Some, IfSome, option_map, Bor}
+use Rattle.std.proofs.Common.{◌≡◌, ◌∙◌, ℕ, List, ◌++◌, take, drop, sym, ap, append_assoc, take-append-drop, Option, Some, IfSome, option_map, Bor, arith}
 use Rattle.iloc_text.proofs.Parts.{Before}
 
 pub stands_in : (P : List ℕ → Type 0) (bytes : List ℕ) (at : ℕ) (rest : List ℕ) → Before P rest (drop at bytes)
@@ -16,8 +16,4 @@ pub found_in : (P : List ℕ → Type 0) (bytes : List ℕ) (at : ℕ) (part : L
     → ((text : List ℕ) → IfSome (token text) (λ r. Before P r text))
     → option_map (λ (r : Bor (List ℕ)). r.now) found ≡ token part → found ≡ Some rest
     → (front : List ℕ) × (bytes ≡ front ++ rest.now)
-found_in P bytes at part token found rest is reads e some =
-    let at_place : token (drop at bytes) ≡ Some rest.now =
-    sym (e ∙ ap token is) ∙ ap (option_map (λ (r : Bor (List ℕ)). r.now)) some in
-    stands_in P bytes at rest.now
-    (subst (λ o. IfSome o (λ r. Before P r (drop at bytes))) at_place (reads (drop at bytes)))
+found_in P bytes at part token found rest is reads e some = grind (arith, option_map, stands_in)

@@ -15,7 +15,7 @@ use Rattle.iloc_text.specs.Lines.{lines_of, lines_left}
 use Rattle.iloc_text.specs.Steps.LineReads.{FirstIs, FirstLine}
 use Rattle.iloc_text.specs.Steps.Growth.{with_line, limited}
 use Rattle.iloc_text.specs.Files.{block_names, file_of, Denotes, IsRefused}
-use Rattle.iloc_text.proofs.Parts.{Before-split, all-Before}
+use Rattle.iloc_text.proofs.Parts.{all-Before}
 use Rattle.iloc_text.specs.Steps.Verdicts.{verdict, answer_from, on_verdict, Answered}
 use Rattle.iloc_text.proofs.Answer.{answer, answer_short, reads_verdict, bad_verdict, large_verdict}
 use Rattle.iloc_text.proofs.Every.{Answers, answers}
@@ -37,11 +37,7 @@ name_is_utf8 (c ∷ cs) h = IsUtf8-from_ascii (c ∷ cs) (word_is_ascii (c ∷ c
 pub label_is_utf8 : (line : List ℕ) (label : Option (List ℕ)) (op : Option Op) → Reads line label op
     → ForSome label IsUtf8
 label_is_utf8 line None op r = λ x e. cc
-label_is_utf8 line (Some name) op r = λ x e.
-    let first = Before-split (all-Before r.0) in
-    let second = Before-split first.2 in
-    let same : name ≡ x = cc in
-    subst IsUtf8 same (name_is_utf8 name (Before-split second.1).1.first.0)
+label_is_utf8 line (Some name) op r = grind (arith, all-Before, name_is_utf8)
 
 -- From line to line
 

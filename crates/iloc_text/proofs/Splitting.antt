@@ -1,5 +1,5 @@
 -- How a text falls into its lines.
-use Rattle.std.proofs.Common.{◌≡◌, ℕ, ◌+◌, ◌≤◌, nat_lt, Option, Bool, true, false, cond, not, List, [], ◌∷◌, length, take, drop, refl, sym, Some, None, arith}
+use Rattle.std.proofs.Common.{◌≡◌, ℕ, ◌+◌, ◌≤◌, nat_lt, Option, false, cond, List, [], ◌∷◌, length, take, drop, refl, sym, Some, None, arith}
 use Rattle.std.specs.List.{onto_first, position_or_len, slice_index, AllByRecursion}
 use Rattle.std.proofs.lemmas.List.Sums.{position_or_len_is, count_by-le-length}
 use Rattle.memchr.specs.Find.{IsFirstByte, is_byte}
@@ -23,40 +23,18 @@ first_line_end text None h =
     (λ k below. false_from_ne_true (is_line_end (slice_index text k)) (h k (omega arith) below))
     (λ inside. absurd (omega arith)) in
     at_place text (length text) None end (rw (past_text (length text)) refl)
-first_line_end text (Some i) h =
-    let inside = h.0.high in
-    let here = position_or_len_is is_line_end text i 0 (omega arith)
-    (λ k below. false_from_ne_true (is_line_end (slice_index text k)) (h.0.before k (omega arith) below)) (λ inside. h.1) in
-    at_place text i (Some i) here (rw (lt-ltb i (length text) inside) refl)
+first_line_end text (Some i) h = grind (arith, at_place, false_from_ne_true, lt-ltb, position_or_len_is)
 
 whole_line : (text : List ℕ) → length text ≤ position_or_len is_line_end text → lines_of text ≡ text ∷ []
 whole_line [] h = refl
-whole_line (c ∷ cs) h = by (is_line_end c) (whole_line cs) h
-  where
-    by : (b : Bool) → (length cs ≤ position_or_len is_line_end cs → lines_of cs ≡ cs ∷ [])
-        → length (c ∷ cs) ≤ cond (not b) (1 + position_or_len is_line_end cs) 0
-        → cond b ([] ∷ lines_of cs) (onto_first c (lines_of cs)) ≡ (c ∷ cs) ∷ []
-    by true rest h = absurd (omega arith)
-    by false rest h = rw (rest (omega arith)) refl
+whole_line (c ∷ cs) h = grind (arith, whole_line cs)
 
 pub line_none : (text : List ℕ) → line_end text ≡ None → lines_of text ≡ text ∷ []
-line_none text e = by (nat_lt (position_or_len is_line_end text) (length text)) refl e
-  where
-    by : (b : Bool) → nat_lt (position_or_len is_line_end text) (length text) ≡ b
-        → cond b (Some (position_or_len is_line_end text)) None ≡ None → lines_of text ≡ text ∷ []
-    by true t e = cc
-    by false t e = whole_line text (grind (arith, nat_tests))
+line_none text e = grind (arith, nat_tests, whole_line)
 
 pub line_some : (text : List ℕ) (end : ℕ) → line_end text ≡ Some end
     → lines_of text ≡ take end text ∷ lines_of (drop (end + 1) text)
-line_some text end e = by (nat_lt (position_or_len is_line_end text) (length text)) refl e
-  where
-    by : (b : Bool) → nat_lt (position_or_len is_line_end text) (length text) ≡ b
-        → cond b (Some (position_or_len is_line_end text)) None ≡ Some end
-        → lines_of text ≡ take end text ∷ lines_of (drop (end + 1) text)
-    by true t e = let same : position_or_len is_line_end text ≡ end = cc in
-        rw (← same) (slice_split_first is_line_end text 0 (grind (arith, nat_tests)))
-    by false t e = cc
+line_some text end e = grind (arith, nat_tests, slice_split_first)
 
 pub no_line_end : (c : ℕ) → (c ≡ 10 → ⊥) → is_line_end c ≡ false
 no_line_end c h = grind (arith, nat_tests)
@@ -71,12 +49,7 @@ front_line c (line ∷ lines) h each = ((is_line_end_tells c h, each.0), each.1)
 
 no_line_ends : (text : List ℕ) → AllByRecursion HasNoLineEnd (lines_of text)
 no_line_ends [] = (tt, tt)
-no_line_ends (c ∷ cs) = by (is_line_end c) refl (no_line_ends cs)
-  where
-    by : (b : Bool) → is_line_end c ≡ b → AllByRecursion HasNoLineEnd (lines_of cs)
-        → AllByRecursion HasNoLineEnd (cond b ([] ∷ lines_of cs) (onto_first c (lines_of cs)))
-    by true e rest = (tt, rest)
-    by false e rest = front_line c (lines_of cs) e rest
+no_line_ends (c ∷ cs) = grind (arith, front_line, no_line_ends cs)
 
 pub lines_are : (text : List ℕ) → AreLines text (lines_of text)
 lines_are text = record {

@@ -32,12 +32,7 @@ blanks_none (c ∷ cs) h = rw h refl
 
 pub blanks_starts : (bytes : List ℕ) → starts is_blank (after_blanks bytes) ≡ false
 blanks_starts [] = refl
-blanks_starts (c ∷ cs) = by (is_blank c) refl (blanks_starts cs)
-  where
-    by : (b : Bool) → is_blank c ≡ b → starts is_blank (after_blanks cs) ≡ false
-        → starts is_blank (cond b (after_blanks cs) (c ∷ cs)) ≡ false
-    by true e r = r
-    by false e r = e
+blanks_starts (c ∷ cs) = grind (arith, blanks_starts cs)
 
 pub blanks_over : (rest bytes : List ℕ) → Before Blanks rest bytes → after_blanks bytes ≡ after_blanks rest
 blanks_over rest bytes b = ap after_blanks b.whole ∙ blanks_skipped b.front rest b.first
@@ -140,17 +135,12 @@ digits_taken : (n : ℕ) (front rest : List ℕ) → AllDigits 10 front → star
     → digits_after (capped n) (front ++ rest) ≡ (capped (digits_value_after 10 n front), rest)
 digits_taken n [] [] h s = refl
 digits_taken n [] (c ∷ cs) h s = rw s refl
-digits_taken n (c ∷ cs) rest h s =
-    let e : is_ascii_digit c ≡ true = digit_from_value c h.0 in
-    rw (e, capped_digit n c e) (digits_taken (n * 10 + digit_value c) cs rest h.1 s)
+digits_taken n (c ∷ cs) rest h s = grind (arith, capped_digit, digit_from_value, digits_taken (n * 10 + digit_value c) cs rest h.1 s)
 
 number_taken : (n : ℕ) (front rest : List ℕ) → Number n front → starts is_ascii_digit rest ≡ false
     → number_at (front ++ rest) ≡ Some (capped n, rest)
 number_taken n [] rest h s = absurd (omega (arith, h.0.0))
-number_taken n (c ∷ cs) rest h s =
-    let test : ◌≡◌ {A = Option (ℕ × List ℕ)} (number_at (c ∷ (cs ++ rest))) (Some (digits_after 0 (c ∷ (cs ++ rest)))) =
-    ap (λ b. cond b (Some (digits_after 0 (c ∷ (cs ++ rest)))) None) (digit_from_value c h.0.1.0) in
-    test ∙ ap (λ found. Some found) (digits_taken 0 (c ∷ cs) rest h.0.1 s) ∙ ap (λ m. Some (capped m, rest)) (sym h.1)
+number_taken n (c ∷ cs) rest h s = grind (arith, digit_from_value, digits_taken)
 
 pub number_again : (n : ℕ) (rest bytes : List ℕ) → Before (Number n) rest bytes → starts is_ascii_digit rest ≡ false
     → number_at bytes ≡ Some (capped n, rest)

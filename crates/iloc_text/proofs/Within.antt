@@ -4,7 +4,7 @@ use Rattle.std.specs.List.{AllByRecursion}
 use Rattle.iloc_ops.specs.Limits.{MAX_BLOCKS, MAX_OPS}
 use Rattle.iloc_ops.specs.declared.op.Op.{Op}
 use Rattle.iloc_ops.specs.declared.file.Block.{Block}
-use Rattle.iloc_text.specs.Files.{Reading, block_count, block_names, fronts, file_of, IsWithin, NoneFaulty}
+use Rattle.iloc_text.specs.Files.{Reading, block_count, block_names, file_of, NoneFaulty}
 use Rattle.iloc_text.specs.Steps.Growth.{with_op, with_optional_label, with_optional_op, with_line, last_ops}
 use Rattle.iloc_text.specs.Laws.{FilesAreWithinLimits}
 use Rattle.iloc_text.proofs.Counts.{fronts-snoc}
@@ -28,9 +28,7 @@ fit-with_label (Some name) bs h = all-snoc (λ b. length b.ops ≤ MAX_OPS) bs (
 
 fit-with_optional : (op : Option Op) (bs : List Block) → AllFit bs → length (last_ops (with_optional_op op bs)) ≤ MAX_OPS
     → AllFit (with_optional_op op bs)
-fit-with_optional None bs h l = h
-fit-with_optional (Some op) [] h l = (l, tt)
-fit-with_optional (Some op) (b ∷ bs) h l = fit-with_op op (b ∷ bs) h l
+fit-with_optional op bs h l = grind (arith, fit-with_op)
 
 fit-with_line : (label : Option (List ℕ)) (op : Option Op) (bs : List Block) → AllFit bs
     → length (last_ops (with_line label op bs)) ≤ MAX_OPS → AllFit (with_line label op bs)
@@ -46,14 +44,7 @@ abbrev Fits : List Reading → Type 0
 Fits rs = NoneFaulty rs → AllFit (file_of rs) × (block_count rs ≤ MAX_BLOCKS)
 
 fits-step : (rs : List Reading) (r : Reading) → Fits rs → Fits (rs ++ r ∷ [])
-fits-step rs r f h =
-    let parts = all-front IsWithin (fronts rs) (rs ++ r ∷ []) (subst (AllByRecursion IsWithin) (fronts-snoc rs r) h) in
-    let before = (f parts.0).0 in
-    let within = parts.1 in
-    let most = within.operations in
-    let last : length (last_ops (with_line r.label r.op (file_of rs))) ≤ MAX_OPS =
-    omega (arith, ap (λ bs. length (last_ops bs)) (file-snoc rs r), ap length (last-file (rs ++ r ∷ []))) in
-    (subst AllFit (sym (file-snoc rs r)) (fit-with_line r.label r.op (file_of rs) before last), within.blocks)
+fits-step rs r f = grind (arith, all-front, file-snoc, fit-with_line, fronts-snoc, last-file)
 
 fits-none : Fits []
 unfolding file_of block_names block_count

@@ -1,5 +1,5 @@
 -- Each text of the grammar of schedule lines is found by the scanner.
-use Rattle.std.proofs.Common.{◌≡◌, ◌≢◌, ◌∙◌, ℕ, Bool, true, false, cond, ◌==◌, List, [], ◌∷◌, ◌++◌, codes, refl, sym, ap, ap₂, subst, Option, Some, None, unwrap_or, inl, inr, arith}
+use Rattle.std.proofs.Common.{◌≡◌, ◌≢◌, ◌∙◌, ℕ, Bool, true, false, ◌==◌, List, [], ◌∷◌, ◌++◌, codes, refl, sym, ap, ap₂, subst, Option, Some, None, unwrap_or, inl, inr, arith}
 use Rattle.std.specs.Char.{is_ascii_digit, is_ascii_alphabetic}
 use Rattle.std.proofs.lemmas.Bool.Decides.{nat_tests}
 use Rattle.iloc_ops.specs.declared.op.Op.{Op}
@@ -50,9 +50,7 @@ slot_again op rest bytes b s t =
 
 behind_again : (byte : ℕ) (rest bytes : List ℕ) → (byte == byte) ≡ true → Before (Text (byte ∷ [])) rest bytes
     → behind_byte byte bytes ≡ Some rest
-behind_again byte rest bytes e b =
-    let there : behind_byte byte (byte ∷ rest) ≡ Some rest = rw e refl in
-    ap (behind_byte byte) (b.whole ∙ ap (λ f. f ++ rest) b.first) ∙ there
+behind_again byte rest bytes e b = grind arith
 
 row_again : (zero one : Op) (rest bytes : List ℕ) → Before (RowBody zero one) rest bytes
     → row_at bytes ≡ Some (row (capped_op zero) (capped_op one), rest)
@@ -120,19 +118,11 @@ name_over (c ∷ cs) rest h s =
 
 block_name_again : (name : Option (List ℕ)) (rest bytes : List ℕ) → Before (BlockName name) rest bytes
     → starts is_word_byte rest ≡ false → block_name_at bytes ≡ Some (name, rest)
-block_name_again None rest bytes b s = ap block_name_at (b.whole ∙ ap (λ f. f ++ rest) b.first)
-block_name_again (Some name) rest bytes b s =
-    ap block_name_at (b.whole ∙ ap (λ f. f ++ rest) b.first.1) ∙ name_over name rest b.first.0 s
+block_name_again name rest bytes b s = grind (arith, name_over)
 
 block_name_starts : (name : Option (List ℕ)) (rest bytes : List ℕ) → Before (BlockName name) rest bytes
     → starts is_blank bytes ≡ false
-block_name_starts None rest bytes b = text_starts is_blank b
-block_name_starts (Some name) rest bytes b = ap (starts is_blank) (b.whole ∙ ap (λ f. f ++ rest) b.first.1)
-    ∙ by name b.first.0
-  where
-    by : (name : List ℕ) → IsName name → starts is_blank (name ++ rest) ≡ false
-    by [] h = absurd h
-    by (c ∷ cs) h = letter_is_no_blank c h.0
+block_name_starts name rest bytes b = grind (arith, letter_is_no_blank, text_starts)
 
 word_here : (t rest bytes : List ℕ) → IsWord t → Before (Text t) rest bytes → starts is_word_byte rest ≡ false
     → (word_of bytes ≡ t) × (after_word bytes ≡ rest)
@@ -146,10 +136,7 @@ word_is_no_bracket c h = grind (arith, nat_tests)
 said_worded : (bytes : List ℕ) → starts is_word_byte bytes ≡ true
     → said_at bytes ≡ worded_at (word_of bytes) (after_word bytes)
 unfolding said_at
-said_worded [] h = cc
-said_worded (c ∷ cs) h =
-    ap₂ (λ a b. cond a (row_at cs) (cond b (worded_at (word_of (c ∷ cs)) (after_word (c ∷ cs)))
-    (Some (nothing, c ∷ cs)))) (word_is_no_bracket c h) h
+said_worded bytes h = grind (arith, word_is_no_bracket)
 
 abbrev is_bracket : ℕ → Bool
 is_bracket c = c == 91
@@ -157,17 +144,12 @@ is_bracket c = c == 91
 said_nothing : (bytes : List ℕ) → starts is_bracket bytes ≡ false → starts is_word_byte bytes ≡ false
     → said_at bytes ≡ Some (nothing, bytes)
 unfolding said_at
-said_nothing [] h s = refl
-said_nothing (c ∷ cs) h s =
-    ap₂ (λ a b. cond a (row_at cs) (cond b (worded_at (word_of (c ∷ cs)) (after_word (c ∷ cs)))
-    (Some (nothing, c ∷ cs)))) h s
+said_nothing bytes h s = grind arith
 
 -- what stands behind a word that is followed by blanks
 worded_again : (t rest bytes : List ℕ) → IsWord t → Before (Text t) rest bytes → starts is_word_byte (t ++ rest) ≡ true
     → starts is_word_byte rest ≡ false → said_at bytes ≡ worded_at t rest
-worded_again t rest bytes w b first s =
-    let word = word_here t rest bytes w b s in
-    said_worded bytes (text_starts is_word_byte b ∙ first) ∙ ap₂ worded_at word.0 word.1
+worded_again t rest bytes w b first s = grind (arith, said_worded, text_starts, word_here)
 
 head_again : (k : ℕ) (name : Option (List ℕ)) (rest bytes : List ℕ)
     → Before (SomeBlanks ⋅ Number k ⋅ SomeBlanks ⋅ BlockName name) rest bytes → starts is_word_byte rest ≡ false

@@ -1,5 +1,5 @@
 -- What the scanner finds in a schedule line is a text of the grammar.
-use Rattle.std.proofs.Common.{◌≡◌, ◌∙◌, ℕ, Bool, true, false, cond, ◌==◌, List, [], ◌∷◌, codes, refl, ap, ap₂, Option, Some, None, IfSome, option_map, unwrap_or, inl, inr, bytes_eq}
+use Rattle.std.proofs.Common.{◌≡◌, ◌∙◌, ℕ, Bool, true, false, cond, ◌==◌, List, [], ◌∷◌, codes, refl, ap, ap₂, Option, Some, None, IfSome, option_map, unwrap_or, inl, inr, bytes_eq, arith}
 use Rattle.std.specs.Char.{is_ascii_alphabetic}
 use Rattle.std.proofs.lemmas.Slice.Eq.{bytes_eq-Decides}
 use Rattle.std.proofs.lemmas.Bool.{eqb-true}
@@ -51,12 +51,7 @@ slot_read bytes = bind_each (FindsSlot bytes) (optional_operation_at (after_blan
     ))
 
 behind_read : (byte : ℕ) (bytes : List ℕ) → IfSome (behind_byte byte bytes) (λ rest. Before (Text (byte ∷ [])) rest bytes)
-behind_read byte [] = tt
-behind_read byte (c ∷ cs) = by (c == byte) refl
-  where
-    by : (b : Bool) → (c == byte) ≡ b → IfSome (cond b (Some cs) None) (λ rest. Before (Text (byte ∷ [])) rest (c ∷ cs))
-    by true e = record { front = c ∷ []; first = ap (λ d. d ∷ []) (eqb-true c byte e); whole = refl }
-    by false e = tt
+behind_read byte bytes = grind (arith, eqb-true)
 
 pub alone_capped : (op : Op) → alone (capped_op op) ≡ (capped_op (alone op).0, capped_op (alone op).1)
 unfolding capped_op
@@ -159,32 +154,7 @@ total_read bytes rest w = bind_each (FindsSaid bytes) (number_behind rest) _ (nu
     (λ found f. (total f.0, Before-join w (Before-join f.2 f.3), ap total f.4))
 
 worded_read : (bytes : List ℕ) → IfSome (worded_at (word_of bytes) (after_word bytes)) (FindsSaid bytes)
-worded_read bytes = block (bytes_eq (word_of bytes) (codes "block")) refl
-  where
-    word : (t : List ℕ) → bytes_eq (word_of bytes) t ≡ true → Before (Text t) (after_word bytes) bytes
-    word t e = record {
-      front = word_of bytes;
-      first = (bytes_eq-Decides (word_of bytes) t).0 e;
-      whole = (word_read bytes).1;
-    }
-
-    last : (b : Bool) → bytes_eq (word_of bytes) (codes "total") ≡ b
-        → IfSome (cond b (total_at (after_word bytes)) None) (FindsSaid bytes)
-    last true e = total_read bytes (after_word bytes) (word (codes "total") e)
-    last false e = tt
-
-    middle : (b : Bool) → bytes_eq (word_of bytes) (codes "cycles") ≡ b
-        → IfSome (cond b (cycles_at (after_word bytes)) (cond (bytes_eq (word_of bytes) (codes "total"))
-        (total_at (after_word bytes)) None)) (FindsSaid bytes)
-    middle true e = cycles_read bytes (after_word bytes) (word (codes "cycles") e)
-    middle false e = last (bytes_eq (word_of bytes) (codes "total")) refl
-
-    block : (b : Bool) → bytes_eq (word_of bytes) (codes "block") ≡ b
-        → IfSome (cond b (head_at (after_word bytes)) (cond (bytes_eq (word_of bytes) (codes "cycles"))
-        (cycles_at (after_word bytes)) (cond (bytes_eq (word_of bytes) (codes "total"))
-        (total_at (after_word bytes)) None))) (FindsSaid bytes)
-    block true e = head_read bytes (after_word bytes) (word (codes "block") e)
-    block false e = middle (bytes_eq (word_of bytes) (codes "cycles")) refl
+worded_read bytes = grind (arith, bytes_eq, bytes_eq-Decides, codes, cycles_read, head_read, total_read, word_read)
 
 nothing_said : (bytes : List ℕ) → FindsSaid bytes (nothing, bytes)
 nothing_said bytes = (nothing, record { front = []; first = refl; whole = refl }, refl)

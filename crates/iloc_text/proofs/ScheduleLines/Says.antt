@@ -1,16 +1,15 @@
 -- What the scanner's answer of a schedule line says, with the limit on its numbers.
-use Rattle.std.proofs.Common.{◌≡◌, ◌∙◌, ℕ, ◌≤◌, nat_lt, Bool, true, false, ◌&&◌, List, [], ◌∷◌, ◌++◌, refl, sym, ap, ap₂, subst, Some, None, IfSome, arith}
-use Rattle.std.specs.List.{AllByRecursion, list_all}
+use Rattle.std.proofs.Common.{◌≡◌, ◌∙◌, ℕ, ◌≤◌, nat_lt, true, false, List, [], ◌∷◌, ◌++◌, refl, sym, ap, subst, Some, None, IfSome, arith}
+use Rattle.std.specs.List.{AllByRecursion}
 use Rattle.std.proofs.lemmas.Bool.Decides.{nat_tests}
 use Rattle.std.proofs.lemmas.Option.{same_Some}
 use Rattle.std.proofs.lemmas.Bool.{and_parts}
 use Rattle.iloc_ops.specs.Limits.{MAX_NUMBER}
 use Rattle.iloc_text.specs.declared.line.scan.TheConstants.{ABOVE_LIMIT}
 use Rattle.iloc_ops.specs.declared.op.Op.{Op}
-use Rattle.iloc_ops.specs.Forms.{numbers, operands}
 use Rattle.iloc_text.specs.Grammar.{IsWithinLimit}
 use Rattle.iloc_text.specs.ScheduleLines.{Said, SaysWidely, said_numbers, Says, SaysSomething, SaysSomethingWidely}
-use Rattle.iloc_text.specs.ScheduleLines.Said.{nothing, row, head, cycles, total}
+use Rattle.iloc_text.specs.ScheduleLines.Said.{nothing}
 use Rattle.iloc_text.specs.Steps.Scan.{capped, is_within}
 use Rattle.iloc_text.specs.Steps.ScheduleScan.{schedule_line_at, is_said_within}
 use Rattle.iloc_text.proofs.Names.{capped_op, numbers-capped}
@@ -32,11 +31,7 @@ all-split [] ys h = (tt, h)
 all-split (x ∷ xs) ys h = let rest = all-split xs ys h.1 in ((h.0, rest.0), rest.1)
 
 op_small : (op : Op) → IsWithinLimit op → is_within (Some (capped_op op)) ≡ true
-op_small op h =
-    all_numbers (operands (capped_op op)) ∙ (ap (λ ns. is_all_small ns) (numbers-capped op) ∙ small_all (numbers op) h)
-  where
-    is_all_small : List ℕ → Bool
-    is_all_small ns = list_all (λ n. nat_lt n ABOVE_LIMIT) ns
+op_small op h = grind (arith, all_numbers, capped_op, numbers-capped, small_all)
 
 number_small : (n : ℕ) → n ≤ MAX_NUMBER → nat_lt (capped n) ABOVE_LIMIT ≡ true
 number_small n h = grind (arith, nat_tests)
@@ -48,25 +43,11 @@ abbrev AreSmall : Said → Type 0
 AreSmall said = AreAllSmall (said_numbers said)
 
 said_within : (said : Said) → is_said_within (capped_said said) ≡ true → AreSmall said
-said_within nothing h = tt
-said_within (row zero one) h =
-    let both = and_parts (is_within (Some (capped_op zero))) (is_within (Some (capped_op one))) h in
-    all-append (numbers zero) (numbers one) (within_limit zero both.0) (within_limit one both.1)
-said_within (head k name) h = (number_within k h, tt)
-said_within (cycles c) h = (number_within c h, tt)
-said_within (total t) h = (number_within t h, tt)
+said_within said h = grind (arith, all-append, and_parts, capped_op, number_within, within_limit)
 
 -- where each number is within the limit none is capped
 within_said : (said : Said) → AreSmall said → (capped_said said ≡ said) × (is_said_within (capped_said said) ≡ true)
-within_said nothing h = (refl, refl)
-within_said (row zero one) h =
-    let both = all-split (numbers zero) (numbers one) h in (
-      ap₂ row (capped-within zero both.0) (capped-within one both.1),
-      ap₂ (λ a b. a && b) (op_small zero both.0) (op_small one both.1),
-    )
-within_said (head k name) h = (ap (λ n. head n name) (capped_within k h.0), number_small k h.0)
-within_said (cycles c) h = (ap cycles (capped_within c h.0), number_small c h.0)
-within_said (total t) h = (ap total (capped_within t h.0), number_small t h.0)
+within_said said h = grind (arith, all-split, capped-within, capped_within, number_small, op_small)
 
 -- What the scanner's answer says
 

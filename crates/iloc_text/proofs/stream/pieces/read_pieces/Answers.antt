@@ -1,4 +1,4 @@
-use Rattle.std.proofs.Common.{◌++◌, ◌≤◌, [], refl, sym, subst, take, drop, length, length-append, length-take, arith, ◌∙◌, ℕ, List, ap, append_assoc, Option, Some, None}
+use Rattle.std.proofs.Common.{◌++◌, ◌≤◌, [], refl, sym, subst, take, drop, length, length-append, length-take, arith, ℕ, List, append_assoc, Option, Some, None}
 use Rattle.std.specs.Io.KnownBytes.{Consumes}
 use Rattle.std.proofs.lemmas.List.{take-append-le}
 use Rattle.iloc_text.proofs.stream.pieces.read_pieces.Goals as goal
@@ -10,11 +10,7 @@ consumes_none (Some xs) = refl
 
 consumes_further : (a b c : Option (List ℕ)) (front back : List ℕ) → Consumes a b front → Consumes b c back
     → Consumes a c (front ++ back)
-consumes_further None b c front back h k = tt
-consumes_further (Some xs) None c front back h k = absurd h
-consumes_further (Some xs) (Some ys) None front back h k = absurd k
-consumes_further (Some xs) (Some ys) (Some zs) front back h k =
-    h ∙ ap (λ rest. front ++ rest) k ∙ sym (append_assoc front back zs)
+consumes_further a b c front back h k = grind (arith, append_assoc)
 
 pub loop-left-init : goal.loop-left-init
 loop-left-init g c = record {
