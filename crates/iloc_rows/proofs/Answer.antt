@@ -4,7 +4,7 @@ use Rattle.std.specs.List.{join_with_byte}
 use Rattle.iloc_ops.specs.Limits.{MAX_INPUT}
 use Rattle.iloc_ops.specs.declared.file.Block.{Block}
 use Rattle.iloc_text.specs.declared.fault.ReadFault.{ReadFault}
-use Rattle.iloc_text.specs.declared.fault.ReadFault.TheVariants.{InputTooLong, BadLine, NumberTooLarge, TooManyBlocks, TooManyOperations, NoMemory}
+use Rattle.iloc_text.specs.declared.fault.ReadFault.TheVariants.{InputTooLong, BadLine, TooManyOperations}
 use Rattle.iloc_text.specs.Files as files
 use Rattle.iloc_text.specs.Files.{AreLines}
 use Rattle.iloc_text.proofs.Answer.{lines_are_of, one_answer}
@@ -12,9 +12,9 @@ use Rattle.iloc_text.proofs.ScheduleLines.Says.{one_said}
 use Rattle.iloc_rows.specs.declared.fault.RowsFault.{RowsFault}
 use Rattle.iloc_rows.specs.declared.fault.RowsFault.TheVariants.{Read, NoBlocks, NoSuchBlock}
 use Rattle.iloc_rows.specs.declared.proposal.Proposed.{Proposed}
-use Rattle.iloc_rows.specs.Told.{Told, Tells, is_unread}
+use Rattle.iloc_rows.specs.Told.{Told, Tells}
 use Rattle.iloc_rows.specs.Told.Told.{read, unread}
-use Rattle.iloc_rows.specs.Proposing.{is_of_block, op_count, proposals_of, Fits, AllFit}
+use Rattle.iloc_rows.specs.Proposing.{is_of_block, proposals_of, Fits, AllFit}
 use Rattle.iloc_rows.specs.Submissions.{TellAll, BlocksEnd, StartWithSchedule, Denotes, IsOfNoBlock, HoldsTooManyOperations, IsFaulty, HaveFirstFault, HasNoBlocks, BlocksAreRefused, RowsAreRefused, IsRefused}
 use Rattle.iloc_rows.specs.Laws as laws
 
@@ -70,21 +70,12 @@ not_many {blocks} {ss} {line} {n} {b} h k =
 -- and it can be read or not
 not_both : {blocks : List Block} {ss : List Told} {line : List ℕ} {n : ℕ}
     → IsOfNoBlock blocks ss line n true → IsOfNoBlock blocks ss line n false → ⊥
-not_both {blocks} {ss} {line} {n} h k =
-    let same = ap is_unread (one_told n line h.told k.told h.tells k.tells) in
-    let unread = h.is in
-    let read = k.is in cc
+not_both h k = grind (arith, one_told)
 
 -- a line that fits has no fault
 no_fault : (blocks : List Block) (ss : List Told) (line : List ℕ) (n : ℕ) (fault : RowsFault) (s : Told) → Tells n line s
     → Fits blocks ss s → IsFaulty blocks ss line n fault → ⊥
-no_fault blocks ss line n (Read (BadLine m)) s h f k = let there = f.of_block in let none = of_none s h k.1 in cc
-no_fault blocks ss line n (Read (TooManyOperations m)) s h f k =
-    let same = ap (op_count ss) (one_told n line s k.1.told h k.1.tells) in
-    let few = f.few in
-    let many = k.1.many in omega arith
-no_fault blocks ss line n (NoSuchBlock m) s h f k = let there = f.of_block in let none = of_none s h k.1 in cc
-no_fault blocks ss line n fault s h f k = k
+no_fault blocks ss line n fault s h f k = grind (arith, of_none, one_told)
 
 -- one line has one fault at most
 same_fault : (blocks : List Block) (ss : List Told) (line : List ℕ) (n : ℕ) (fault fault' : RowsFault)
@@ -112,46 +103,17 @@ record Faulty (blocks : List Block) (front : List Told) (n : ℕ) (before : List
 -- the same, where the first line before it is looked at
 at_none : (blocks : List Block) (front : List Told) (n : ℕ) (line : List ℕ) (fault : RowsFault)
     → Faulty blocks front n [] line fault → IsFaulty blocks front line (n + 1) fault
-at_none blocks front n line fault f = by f.told f.tell f.faulty
-  where
-    by : (ss : List Told) → TellAll n [] ss → IsFaulty blocks (front ++ ss) line (n + 0 + 1) fault
-        → IsFaulty blocks front line (n + 1) fault
-    by [] h k =
-        let none : front ++ [] ≡ front = append-nil front in
-        let number : n + 0 + 1 ≡ n + 1 = omega arith in
-        subst₂ (λ ss m. IsFaulty blocks ss line m fault) none number k
-    by (s ∷ ss) h k = absurd h
+at_none blocks front n line fault f = grind (arith, append-nil, subst₂)
 
 at_some : (blocks : List Block) (front : List Told) (n : ℕ) (x : List ℕ) (xs : List (List ℕ)) (line : List ℕ)
     (fault : RowsFault) → Faulty blocks front n (x ∷ xs) line fault
     → (s : Told) × Tells (n + 1) x s × Fits blocks front s × Faulty blocks (front ++ s ∷ []) (n + 1) xs line fault
-at_some blocks front n x xs line fault f = by f.told f.tell f.fit f.faulty
-  where
-    by : (ss : List Told) → TellAll n (x ∷ xs) ss → AllFit blocks front ss
-        → IsFaulty blocks (front ++ ss) line (n + length (x ∷ xs) + 1) fault
-        → (s : Told) × Tells (n + 1) x s × Fits blocks front s × Faulty blocks (front ++ s ∷ []) (n + 1) xs line fault
-    by [] h a k = absurd h
-    by (s ∷ ss) h a k =
-        let number : n + length (x ∷ xs) + 1 ≡ n + 1 + length xs + 1 = omega arith in (
-          s,
-          h.0,
-          a.0,
-          record {
-            told = ss;
-            tell = h.1;
-            fit = a.1;
-            faulty = subst₂ (λ ts m. IsFaulty blocks ts line m fault) (sym (append_assoc front (s ∷ []) ss)) number k;
-          },
-        )
+at_some blocks front n x xs line fault f = grind (arith, append_assoc, subst₂)
 
 same_first : (blocks : List Block) (front : List Told) (n : ℕ) (b : List (List ℕ)) (l : List ℕ) (a : List (List ℕ))
     (c : List (List ℕ)) (m : List ℕ) (d : List (List ℕ)) (fault fault' : RowsFault)
     → b ++ l ∷ a ≡ c ++ m ∷ d → Faulty blocks front n b l fault → Faulty blocks front n c m fault' → fault ≡ fault'
-same_first blocks front n [] l a [] m d fault fault' e f g =
-    let same : l ≡ m = cc in
-    same_fault blocks front m (n + 1) fault fault'
-    (subst (λ t. IsFaulty blocks front t (n + 1) fault) same (at_none blocks front n l fault f))
-    (at_none blocks front n m fault' g)
+same_first blocks front n [] l a [] m d fault fault' e f g = grind (arith, at_none, same_fault)
 same_first blocks front n [] l a (y ∷ ys) m d fault fault' e f g =
     let same : l ≡ y = cc in
     let there = at_some blocks front n y ys m fault' g in
@@ -202,15 +164,7 @@ Refusal input fault = ((fault ≡ Read InputTooLong) × (MAX_INPUT < length inpu
     ⊎ (((fault ≡ NoBlocks) × HasNoBlocks input) ⊎ RowsAreRefused input fault))
 
 refusal_is : (input : List ℕ) (fault : RowsFault) → IsRefused input fault → Refusal input fault
-refusal_is input (Read InputTooLong) h = inl (refl, h)
-refusal_is input (Read (BadLine n)) (inl b) = inr (inl (BadLine n, refl, b))
-refusal_is input (Read (NumberTooLarge n)) h = inr (inl (NumberTooLarge n, refl, h))
-refusal_is input (Read (TooManyBlocks n)) h = inr (inl (TooManyBlocks n, refl, h))
-refusal_is input (Read (TooManyOperations n)) (inl b) = inr (inl (TooManyOperations n, refl, b))
-refusal_is input (Read NoMemory) h = absurd h
-refusal_is input NoBlocks h = inr (inr (inl (refl, h)))
-refusal_is input (NoSuchBlock n) h = inr (inr (inr h))
-refusal_is input fault (inr r) = inr (inr (inr r))
+refusal_is input fault h = grind arith
 
 long_and_short : (n : ℕ) → MAX_INPUT < n → n ≤ MAX_INPUT → ⊥
 long_and_short n h k = omega arith

@@ -1,15 +1,14 @@
 -- Exchanging the operations of rows keeps the limits.
-use Rattle.std.proofs.Common.{◌≡◌, ◌∙◌, ℕ, zero, suc, ◌≤◌, ◌<◌, nat_lt, Option, Some, None, ◌==◌, ◌&&◌, not, Bool, true, false, cond, List, [], ◌∷◌, length, map, count_by, option_to_list, refl, sym, arith}
-use Rattle.std.specs.List.{AllByRecursion, list_all}
+use Rattle.std.proofs.Common.{◌≡◌, ◌∙◌, ℕ, zero, suc, Option, ◌==◌, ◌&&◌, Bool, true, List, [], ◌∷◌, length, map, count_by, option_to_list, refl, arith}
+use Rattle.std.specs.List.{AllByRecursion}
 use Rattle.std.specs.Prelude.{MatchOption}
 use Rattle.std.proofs.lemmas.List.{length-map}
 use Rattle.std.proofs.lemmas.List.Folds.{list_all-append}
 use Rattle.std.proofs.lemmas.List.Sums.{sum_by-cons}
 use Rattle.std.proofs.lemmas.Bool.{and_from, and_right}
-use Rattle.iloc_ops.specs.Limits.{MAX_OPS}
 use Rattle.iloc_ops.specs.declared.op.Op.{Op}
 use Rattle.iloc_timed.specs.declared.row.Row.{Row}
-use Rattle.iloc_timed.specs.Rows.{slots, times_issued, keeps_units, IsTable, row_at}
+use Rattle.iloc_timed.specs.Rows.{slots, times_issued, IsTable}
 use Rattle.iloc_timed.specs.Schedule.{AreOnce, AreInRange, IsFirstBadRow, in_range}
 use Rattle.iloc_timed.proofs.Standing.{table_from}
 use Rattle.iloc_rows.specs.declared.proposal.Proposed.{Proposed}
@@ -27,11 +26,7 @@ exchanged_times : (i : ℕ) (row : Row) → times_in_row i (exchanged row) ≡ t
 exchanged_times i row = omega (arith, two_slots i row.one row.zero, two_slots i row.zero row.one)
 
 either_times : (i : ℕ) (ops : List Op) (row : Row) → times_in_row i (in_either_slot ops row) ≡ times_in_row i row
-either_times i ops row = by (not (keeps_units ops row) && keeps_units ops (exchanged row))
-  where
-    by : (b : Bool) → times_in_row i (cond b (exchanged row) row) ≡ times_in_row i row
-    by true = exchanged_times i row
-    by false = refl
+either_times i ops row = grind (arith, exchanged_times)
 
 and_swap : (a b : Bool) → (a && b) ≡ (b && a)
 and_swap true true = refl
@@ -39,18 +34,10 @@ and_swap _ true = refl
 and_swap _ _ = refl
 
 exchanged_in_range : (count : ℕ) (row : Row) → in_range count (exchanged row) ≡ in_range count row
-exchanged_in_range count row =
-    let test : ℕ → Bool = λ i. nat_lt i count in
-    list_all-append test (option_to_list row.zero) (option_to_list row.one)
-    ∙ and_swap (list_all test (option_to_list row.zero)) (list_all test (option_to_list row.one))
-    ∙ sym (list_all-append test (option_to_list row.one) (option_to_list row.zero))
+exchanged_in_range count row = grind (arith, and_swap, list_all-append, option_to_list)
 
 either_in_range : (count : ℕ) (ops : List Op) (row : Row) → in_range count (in_either_slot ops row) ≡ in_range count row
-either_in_range count ops row = by (not (keeps_units ops row) && keeps_units ops (exchanged row))
-  where
-    by : (b : Bool) → in_range count (cond b (exchanged row) row) ≡ in_range count row
-    by true = exchanged_in_range count row
-    by false = refl
+either_in_range count ops row = grind (arith, exchanged_in_range)
 
 -- All rows
 
@@ -84,17 +71,7 @@ all-map P Q [] step h = tt
 all-map P Q (p ∷ ps) step h = (step p h.0, all-map P Q ps step h.1)
 
 pub placed_within : PlacedRowsAreWithinLimits
-placed_within false blocks proposals w = w
-placed_within true blocks proposals w = record {
-  few_blocks = w.few_blocks;
-  short_blocks = w.short_blocks;
-  as_many = length-map proposals with_either_slot ∙ w.as_many;
-  short_proposals = all-map (λ p. length p.ops ≤ MAX_OPS) (λ p. length p.ops ≤ MAX_OPS) proposals (λ p short. short)
-      w.short_proposals;
-  once = all-map (λ p. AreOnce (length p.ops) p.rows) (λ p. AreOnce (length p.ops) p.rows) proposals either_once w.once;
-  in_range = all-map (λ p. AreInRange (length p.ops) p.rows) (λ p. AreInRange (length p.ops) p.rows) proposals
-      (λ p h. rows_in_range (length p.ops) p.ops p.rows h) w.in_range;
-}
+placed_within = grind (arith, all-map, either_once, length-map, rows_in_range)
 
 -- The first row that breaks the rules of the units
 
@@ -102,15 +79,4 @@ placed_within true blocks proposals w = record {
 pub bad_row_of : (p : Proposed) (found : Option ℕ) → IsNumbered p
     → MatchOption found (AllKeepUnits p.ops p.rows) (IsFirstThatBreaks p.ops p.rows)
     → MatchOption found (IsTable p.ops p.rows) (IsFirstBadRow p.ops p.rows)
-bad_row_of p None numbered keep =
-    table_from p.ops p.rows
-    (λ c within. and_from (in_range (length p.ops) (row_at p.rows c)) (keeps_units p.ops (row_at p.rows c)) (numbered.0 c within) (keep c within))
-    numbered.1
-bad_row_of p (Some c) numbered first = record {
-  within = first.within;
-  bad = and_right (in_range (length p.ops) (row_at p.rows c)) (keeps_units p.ops (row_at p.rows c)) first.bad;
-  others = λ b below.
-      let inside : b < length p.rows = omega (arith, first.within) in
-      and_from (in_range (length p.ops) (row_at p.rows b)) (keeps_units p.ops (row_at p.rows b)) (numbered.0 b inside)
-      (first.others b below);
-}
+bad_row_of p found numbered keep = grind (arith, and_from, and_right, table_from)

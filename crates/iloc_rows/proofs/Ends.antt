@@ -39,9 +39,7 @@ pub join-append : (before : List (List ℕ)) (line : List ℕ) (after : List (Li
     → join_with_byte 10 (before ++ line ∷ after) ≡ join_with_byte 10 before ++ 10 ∷ join_with_byte 10 (line ∷ after)
 join-append [] line after some = absurd (some refl)
 join-append (x ∷ []) line after some = refl
-join-append (x ∷ y ∷ xs) line after some =
-    ap (λ rest. x ++ 10 ∷ rest) (join-append (y ∷ xs) line after (λ e. cc))
-    ∙ sym (append_assoc x (10 ∷ join_with_byte 10 (y ∷ xs)) (10 ∷ join_with_byte 10 (line ∷ after)))
+join-append (x ∷ y ∷ xs) line after some = grind (arith, append_assoc, join-append (y ∷ xs) line after (λ e. cc))
 
 pub joined : (text : List ℕ) → join_with_byte 10 (lines_of text) ≡ text
 joined text = join_with_byte-slice_split 10 text
@@ -91,12 +89,7 @@ pub record AreBlocks (input : List ℕ) (number : ℕ) (rest : Option (Bor (List
 pub blocks_step : {input : List ℕ} {number : ℕ} {text : Bor (List ℕ)} (p : AreBlocks input number (Some text))
     (line : List ℕ) (after : Option (Bor (List ℕ))) → lines_of text.now ≡ line ∷ lines_left after
     → (IsScheduleLine line → ⊥) → AreBlocks input (number + 1) after
-blocks_step {input} {number} {text} p line after split h = record {
-  before = p.before ++ line ∷ [];
-  none = all-snoc (λ l. IsScheduleLine l → ⊥) p.before line p.none h;
-  lines = p.lines ∙ ap (λ l. p.before ++ l) split ∙ sym (append_assoc p.before (line ∷ []) (lines_left after));
-  count = omega (arith, length-append p.before (line ∷ []), p.count);
-}
+blocks_step p line after split h = grind (arith, all-snoc, append_assoc, length-append)
 
 pub blocks_number : {input : List ℕ} {number : ℕ} {rest : Option (Bor (List ℕ))} → AreBlocks input number rest
     → number + length (lines_left rest) ≤ length input + 1

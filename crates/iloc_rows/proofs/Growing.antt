@@ -1,5 +1,5 @@
 -- What the steps of the reader do to what is proposed.
-use Rattle.std.proofs.Common.{◌≡◌, ◌≢◌, ◌∙◌, ℕ, ◌+◌, ◌-◌, ◌<◌, ◌≤◌, nat_lt, max, Bool, true, false, cond, ◌&&◌, ◌||◌, ◌==◌, List, [], ◌∷◌, ◌++◌, length, refl, sym, ap, ap₂, subst, Option, Some, None, Result, Ok, Err, set, inl, inr, ◌⊎◌, arith}
+use Rattle.std.proofs.Common.{◌≡◌, ◌≢◌, ◌∙◌, ℕ, ◌+◌, ◌<◌, ◌≤◌, nat_lt, max, true, false, ◌||◌, ◌==◌, List, [], ◌∷◌, ◌++◌, length, refl, sym, ap, ap₂, subst, Option, Some, None, Result, Ok, Err, set, inl, inr, ◌⊎◌, arith}
 use Rattle.std.proofs.lemmas.List.{get_or_past}
 use Rattle.std.proofs.lemmas.List.FromFn.{length-map-range_with_len, get_or-map-range_with_len}
 use Rattle.std.proofs.lemmas.Bool.Decides.{nat_tests}
@@ -10,12 +10,12 @@ use Rattle.iloc_text.specs.declared.fault.ReadFault.TheVariants.{BadLine, TooMan
 use Rattle.iloc_text.specs.ScheduleLines.Said.{nothing, row, head, cycles, total}
 use Rattle.iloc_timed.specs.Limits.{MAX_ROWS}
 use Rattle.iloc_rows.specs.declared.fault.RowsFault.{RowsFault}
-use Rattle.iloc_rows.specs.declared.fault.RowsFault.TheVariants.{Read, NoBlocks, NoSuchBlock}
+use Rattle.iloc_rows.specs.declared.fault.RowsFault.TheVariants.{Read, NoSuchBlock}
 use Rattle.iloc_rows.specs.declared.proposal.Proposed.{Proposed}
 use Rattle.iloc_rows.specs.declared.proposing.Proposing.{Proposing}
 use Rattle.iloc_rows.specs.Told.{Told}
 use Rattle.iloc_rows.specs.Told.Told.{read, unread}
-use Rattle.iloc_rows.specs.Proposing.{last_block, block_of, head_number, proposes, row_in, unread_in, cycles_in, rows_of, proposal_of, proposals_of, is_named, is_of_block, op_count}
+use Rattle.iloc_rows.specs.Proposing.{last_block, block_of, head_number, proposes, row_in, unread_in, cycles_in, proposal_of, proposals_of, is_of_block, op_count}
 use Rattle.iloc_rows.specs.Steps.Growth.{none_proposed, with_row, with_unread, with_cycles, place, at_place, HasProposed, Adds, RowAdds, Becomes, Turns}
 use Rattle.iloc_rows.proofs.Picking.{last_block-none, last_block-more, last_block-head}
 use Rattle.iloc_rows.proofs.Numbering.{ops_in-snoc, proposal-same, proposal-else, proposal-row, proposal-unread, proposal-cycles, proposal-short, map-same, map-set}
@@ -32,29 +32,11 @@ at-proposals count ss i lt = get_or-map-range_with_len (proposal_of ss) 1 count 
 -- the place where there is one
 place_found : (last count i : ℕ) → place last count ≡ Some i
     → (max 1 last ≡ 1 + i) × ((nat_lt 0 last || (count == 1)) ≡ true) × (last ≤ count → i < count)
-place_found last count i = by (nat_lt 0 last) refl (count == 1) refl
-  where
-    by : (a : Bool) → nat_lt 0 last ≡ a → (b : Bool) → (count == 1) ≡ b
-        → cond a (Some (last - 1)) (cond b (Some 0) None) ≡ Some i
-        → (max 1 last ≡ 1 + i) × ((a || b) ≡ true) × (last ≤ count → i < count)
-    by true e b f h =
-        let some : 0 < last = grind (arith, nat_tests) in
-        let same : last - 1 ≡ i = cc in
-        (omega arith, refl, λ le. omega arith)
-    by false e true f h =
-        let none : last ≡ 0 = grind (arith, nat_tests) in
-        let one : count ≡ 1 = grind (arith, nat_tests) in
-        let same : 0 ≡ i = cc in
-        (omega arith, refl, λ le. omega arith)
-    by false e false f h = cc
+place_found last count i h1 = grind (arith, nat_tests)
 
 -- and where there is none
 place_none : (last count : ℕ) → place last count ≡ None → (nat_lt 0 last || (count == 1)) ≡ false
-place_none last count = by (nat_lt 0 last) (count == 1)
-  where
-    by : (a b : Bool) → ◌≡◌ {A = Option ℕ} (cond a (Some (last - 1)) (cond b (Some 0) None)) None → (a || b) ≡ false
-    by false false h = refl
-    by a b h = cc
+place_none last count h1 = grind arith
 
 -- a line is of the place in the state
 record IsAt (blocks : List Block) (ss : List Told) (i : ℕ) : Type 0 where
@@ -77,17 +59,11 @@ is_at {blocks} {ss} {old} i h e =
 nowhere : {blocks : List Block} {ss : List Told} {old : Proposing} → HasProposed blocks ss old
     → place old.last (length old.proposals.items) ≡ None
     → (nat_lt 0 (last_block ss) || (length blocks == 1)) ≡ false
-nowhere {blocks} {ss} {old} h e =
-    let count : length old.proposals.items ≡ length blocks =
-    ap length h.proposals ∙ length-proposals (length blocks) ss in
-    place_none (last_block ss) (length blocks) (sym (ap₂ place h.last count) ∙ e)
+nowhere h e = grind (arith, length-proposals, place_none)
 
 pub still_of : (ss : List Told) (s : Told) → head_number s ≡ None → proposes s ≡ true
     → block_of (ss ++ s ∷ []) ≡ block_of ss
-still_of ss s h p = ap (max 1) (last_block-more ss s h p) ∙ again (last_block ss)
-  where
-    again : (n : ℕ) → max 1 (max 1 n) ≡ max 1 n
-    again n = omega arith
+still_of ss s h p = grind (arith, last_block-more)
 
 -- Rows
 
@@ -104,10 +80,7 @@ rows_grow blocks ss one two i a =
 
 row_count : (blocks : List Block) (ss : List Told) (one two : Op) (i : ℕ) → IsAt blocks ss i
     → length (with_row (at_place (proposals_of (length blocks) ss) i) one two).ops ≡ op_count ss (read (row one two))
-row_count blocks ss one two i a =
-    ap (λ p. length (with_row p one two).ops) (at-proposals (length blocks) ss i a.within)
-    ∙ ap (λ k. length (with_row (proposal_of ss k) one two).ops) (sym a.block)
-    ∙ ap length (sym (ops_in-snoc (rows_of (block_of ss) ss) (one, two)))
+row_count blocks ss one two i a = grind (arith, at-proposals, ops_in-snoc)
 
 pub row_adds : {blocks : List Block} {ss : List Told} {old : Proposing} (one two : Op) (n : ℕ) (new : Proposing)
     (result : Result (Unit {0}) RowsFault)
@@ -123,12 +96,7 @@ row_adds {blocks} {ss} {old} one two n new (Ok done) h r =
       record { proposals = grown; last = r.3 ∙ ap (max 1) h.last ∙ sym (last_block-more ss (read (row one two)) refl refl) },
     )
 row_adds one two n new (Err (Read (BadLine k))) h r = absurd r
-row_adds {blocks} {ss} {old} one two n new (Err (Read (TooManyOperations k))) h r =
-    let a = is_at r.1 h r.2 in
-    let count = ap (λ ps. length (with_row (at_place ps r.1) one two).ops) h.proposals
-    ∙ row_count blocks ss one two r.1 a in
-    let many = r.3 in
-    (r.0, a.there, omega arith)
+row_adds {blocks} {ss} {old} one two n new (Err (Read (TooManyOperations k))) h r = grind (arith, is_at, row_count)
 row_adds one two n new (Err (Read NoMemory)) h r = tt
 row_adds one two n new (Err (NoSuchBlock k)) h r = (r.0, refl, nowhere h r.1)
 row_adds one two n new a h r = r
@@ -184,28 +152,13 @@ pub cycles_add : {blocks : List Block} {ss : List Told} {old : Proposing} (c n :
     (result : Result (Unit {0}) RowsFault)
     → HasProposed blocks ss old → Becomes old (λ p. with_cycles p c) (NoSuchBlock n) new result
     → Adds blocks ss (read (cycles c)) n new result
-cycles_add c n new result h r = change_adds (read (cycles c)) (λ p. with_cycles p c) (NoSuchBlock n) n new result record {
-  turns = refl;
-  proposes = refl;
-  here = λ ss k at. proposal-cycles ss c k at;
-  count = λ ss. refl;
-  fits = λ blocks ss. refl;
-  refused = λ blocks ss new none. (refl, refl, none);
-} h r
+cycles_add c n new result h r = grind (arith, change_adds, proposal-cycles)
 
 pub unread_adds : {blocks : List Block} {ss : List Told} {old : Proposing} (text : List ℕ) (n : ℕ) (new : Proposing)
     (result : Result (Unit {0}) RowsFault)
     → HasProposed blocks ss old → Becomes old (λ p. with_unread p n text) (Read (BadLine n)) new result
     → Adds blocks ss (unread n text) n new result
-unread_adds text n new result h r =
-    change_adds (unread n text) (λ p. with_unread p n text) (Read (BadLine n)) n new result record {
-      turns = refl;
-      proposes = refl;
-      here = λ ss k at. proposal-unread ss n text k at;
-      count = λ ss. refl;
-      fits = λ blocks ss. refl;
-      refused = λ blocks ss new none. (refl, refl, none);
-    } h r
+unread_adds text n new result h r = grind (arith, change_adds, proposal-unread)
 
 -- Heads, and lines that propose nothing
 
@@ -218,40 +171,15 @@ same_proposals count ss s r u c =
 pub head_turns : {blocks : List Block} {ss : List Told} {old : Proposing} (k : ℕ) (name : Option (List ℕ)) (n : ℕ)
     (new : Proposing) (result : Result (Unit {0}) RowsFault)
     → HasProposed blocks ss old → Turns blocks old k name n new result → Adds blocks ss (read (head k name)) n new result
-head_turns {blocks} {ss} {old} k name n new (Ok done) h r = (
-  record {
-    of_block = ap₂ (λ a b. a && b) (lt-ltb (last_block ss) k (let last = h.last in let lt = r.0 in omega arith)) r.1;
-    few = omega arith;
-  },
-  record {
-    proposals = r.2 ∙ h.proposals ∙ same_proposals (length blocks) ss (read (head k name)) refl refl refl;
-    last = r.3 ∙ sym (last_block-head ss k name (let last = h.last in let lt = r.0 in omega arith));
-  },
-)
-head_turns k name n new (Err (Read fault)) h r = absurd r
-head_turns k name n new (Err NoBlocks) h r = r
-head_turns {blocks} {ss} {old} k name n new (Err (NoSuchBlock m)) h r =
-    (r.0, refl, ap (λ last. nat_lt last k && is_named blocks k name) (sym h.last) ∙ r.1)
+head_turns k name n new result h r = grind (arith, last_block-head, lt-ltb, same_proposals)
 
 pub nothing_adds : {blocks : List Block} {ss : List Told} {old : Proposing} (n : ℕ) → HasProposed blocks ss old
     → Adds blocks ss (read nothing) n old (Ok tt)
-nothing_adds {blocks} {ss} {old} n h = (
-  record { of_block = refl; few = omega arith },
-  record {
-    proposals = h.proposals ∙ same_proposals (length blocks) ss (read nothing) refl refl refl;
-    last = h.last ∙ sym (last_block-none ss (read nothing) refl refl);
-  },
-)
+nothing_adds n h = grind (arith, last_block-none, same_proposals)
 
 pub total_adds : {blocks : List Block} {ss : List Told} {old : Proposing} (t n : ℕ) → HasProposed blocks ss old
     → Adds blocks ss (read (total t)) n old (Ok tt)
-total_adds {blocks} {ss} {old} t n h = (
-  record { of_block = refl; few = omega arith },
-  record {
-    proposals = h.proposals ∙ same_proposals (length blocks) ss (read (total t)) refl refl refl;
-    last = h.last ∙ sym (last_block-none ss (read (total t)) refl refl);
-  },
-)
+total_adds t n h = grind (arith, last_block-none, same_proposals)
 
 -- Room
 

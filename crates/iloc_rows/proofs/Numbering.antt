@@ -1,11 +1,10 @@
 -- What one more row or claim does to a proposal.
 use Rattle.std.proofs.Common.{◌≡◌, ◌≢◌, ◌∙◌, ℕ, suc, zero, ◌+◌, ◌<◌, ◌≤◌, List, [], ◌∷◌, ◌++◌, length, map, refl, sym, ap, ap₂, Option, Some, None, append_assoc, append-nil, length-append, set, arith}
 use Rattle.std.specs.List.{range_with_len}
-use Rattle.std.specs.Option.{is_some}
 use Rattle.std.proofs.lemmas.List.FromFn.{map-range_with_len_more}
 use Rattle.iloc_ops.specs.declared.op.Op.{Op}
 use Rattle.iloc_ops.specs.declared.op.Op.TheVariants.{Nop}
-use Rattle.iloc_text.specs.ScheduleLines.Said.{nothing, row, head, cycles, total}
+use Rattle.iloc_text.specs.ScheduleLines.Said.{row, cycles}
 use Rattle.iloc_timed.specs.declared.row.Row.{Row}
 use Rattle.iloc_rows.specs.declared.proposal.Proposed.{Proposed}
 use Rattle.iloc_rows.specs.Told.{Told}
@@ -29,9 +28,7 @@ row_after n r = record { zero = slot n r.0; one = slot (n + length (filled r.0))
 numbered-snoc : (n m : ℕ) (rs : List (Op × Op)) (r : Op × Op) → n + length (ops_in rs) ≡ m
     → numbered n (rs ++ r ∷ []) ≡ numbered n rs ++ row_after m r ∷ []
 numbered-snoc n m [] r e = let same : n ≡ m = omega arith in ap (λ k. row_after k r ∷ []) same
-numbered-snoc n m (x ∷ xs) r e =
-    ap (λ rows. row_after n x ∷ rows)
-    (numbered-snoc (n + length (ops_of_row x)) m xs r (omega (arith, length-append (ops_of_row x) (ops_in xs))))
+numbered-snoc n m (x ∷ xs) r e = grind (arith, length-append, numbered-snoc (n + length (ops_of_row x)) m xs r (omega (arith, length-append (ops_of_row x) (ops_in xs))))
 
 pub length-numbered : (n : ℕ) (rs : List (Op × Op)) → length (numbered n rs) ≡ length rs
 length-numbered n [] = refl
@@ -52,15 +49,7 @@ read-snoc n us = refl
 
 -- it is told of each row whether it can be read
 as_many : (k : ℕ) (ts : List Told) → length (unread_of k ts) ≡ length (rows_of k ts)
-as_many k ts = picked-alike unread_in row_in k ts each
-  where
-    each : (t : Told) → is_some (unread_in t) ≡ is_some (row_in t)
-    each (read nothing) = refl
-    each (read (row one two)) = refl
-    each (read (head n name)) = refl
-    each (read (cycles c)) = refl
-    each (read (total n)) = refl
-    each (unread n text) = refl
+as_many k ts = grind (arith, picked-alike)
 
 -- a proposal by its rows, which of them can't be read, and its claims
 abbrev made : List (Op × Op) → List (Option (ℕ × List ℕ)) → List ℕ → Proposed
@@ -153,10 +142,7 @@ map-same f g a (suc n) h = ap₂ (λ x xs. x ∷ xs) (h a (omega arith)) (map-sa
 pub map-set : {A : Type 0} (f g : ℕ → A) (a n i : ℕ) (v : A) → i < n → g (a + i) ≡ v
     → ((k : ℕ) → k ≢ a + i → g k ≡ f k) → map g (range_with_len a n) ≡ set (map f (range_with_len a n)) i v
 map-set f g a zero i v lt here else = absurd (omega arith)
-map-set f g a (suc n) zero v lt here else =
-    let same : a + 0 ≡ a = omega arith in
-    ap₂ (λ x xs. x ∷ xs) (ap g (sym same) ∙ here)
-    (map-same f g (a + 1) n (λ k le. else k (λ e. omega arith)))
+map-set f g a (suc n) zero v lt here else = grind (arith, map-same)
 map-set f g a (suc n) (suc i) v lt here else =
     let same : (a + 1) + i ≡ a + suc i = omega arith in
     ap₂ (λ x xs. x ∷ xs) (else a (λ e. omega arith))

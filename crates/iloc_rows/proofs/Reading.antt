@@ -1,17 +1,17 @@
 -- What the reader has read of schedule lines, from line to line.
-use Rattle.std.proofs.Common.{◌≡◌, ◌≢◌, ◌∙◌, ℕ, suc, ◌+◌, ◌<◌, ◌≤◌, List, [], ◌∷◌, ◌++◌, length, refl, sym, ap, subst, subst₂, Option, Some, None, Result, Err, IfErr, append_assoc, append-nil, length-append, Bor, inl, inr, arith}
+use Rattle.std.proofs.Common.{◌≡◌, ◌≢◌, ◌∙◌, ℕ, suc, ◌+◌, ◌<◌, ◌≤◌, List, [], ◌∷◌, ◌++◌, length, refl, sym, ap, subst, subst₂, Option, Some, None, Result, Err, IfErr, append_assoc, append-nil, length-append, Bor, arith}
 use Rattle.std.specs.List.{join_with_byte}
 use Rattle.iloc_ops.specs.Limits.{MAX_INPUT}
 use Rattle.iloc_ops.specs.declared.file.Block.{Block}
 use Rattle.iloc_text.specs.declared.fault.ReadFault.{ReadFault}
-use Rattle.iloc_text.specs.declared.fault.ReadFault.TheVariants.{InputTooLong, BadLine, NumberTooLarge, TooManyBlocks, TooManyOperations, NoMemory}
+use Rattle.iloc_text.specs.declared.fault.ReadFault.TheVariants.{NoMemory}
 use Rattle.iloc_text.specs.Files as files
 use Rattle.iloc_text.specs.Files.{AreLines}
 use Rattle.iloc_text.specs.Lines.{lines_of, lines_left}
 use Rattle.iloc_text.proofs.Splitting.{lines_are, lines_few}
 use Rattle.iloc_timed.specs.Limits.{MAX_ROWS}
 use Rattle.iloc_rows.specs.declared.fault.RowsFault.{RowsFault}
-use Rattle.iloc_rows.specs.declared.fault.RowsFault.TheVariants.{Read, NoSuchBlock}
+use Rattle.iloc_rows.specs.declared.fault.RowsFault.TheVariants.{Read}
 use Rattle.iloc_rows.specs.declared.blocks_end.CutText.{CutText}
 use Rattle.iloc_rows.specs.declared.proposal.Proposed.{Proposed}
 use Rattle.iloc_rows.specs.declared.proposing.Proposing.{Proposing}
@@ -100,12 +100,7 @@ progress_room {blocks} {lines} {all} {state} {number} {rest} p few =
 
 pub progress_ends : {blocks : List Block} {lines : ℕ} {all : List (List ℕ)} {state : Proposing} {number : ℕ}
     → Progress blocks lines all state number None → Propose blocks lines all state.proposals.items
-progress_ends {blocks} {lines} {all} {state} {number} p = record {
-  told = p.told;
-  tell = subst (λ ls. TellAll lines ls p.told) (sym (p.whole ∙ append-nil p.before)) p.tell;
-  fit = p.fit;
-  are = p.proposed.proposals;
-}
+progress_ends p = grind (arith, append-nil)
 
 -- Faults
 
@@ -115,29 +110,12 @@ pub fault_here : {blocks : List Block} {lines : ℕ} {all : List (List ℕ)} {st
     (after : Option (Bor (List ℕ))) (fault : RowsFault)
     → lines_of text.now ≡ line ∷ lines_left after → IsFaulty blocks p.told line (number + 1) fault
     → HaveFirstFault blocks lines all fault
-fault_here {blocks} {lines} {all} {state} {number} {text} p line after fault split faulty = record {
-  before = p.before;
-  line = line;
-  after = lines_left after;
-  whole = p.whole ∙ ap (λ l. p.before ++ l) split;
-  told = p.told;
-  tell = p.tell;
-  fit = p.fit;
-  faulty = subst (λ n. IsFaulty blocks p.told line n fault) (ap (λ n. n + 1) p.number_is) faulty;
-}
+fault_here p line after fault split faulty = grind arith
 
 pub added_faulty : (blocks : List Block) (ss : List Told) (line : List ℕ) (s : Told) (n : ℕ) (state : Proposing)
     (fault : RowsFault) → Tells n line s → Adds blocks ss s n state (Err fault) → fault ≢ Read NoMemory
     → IsFaulty blocks ss line n fault
-added_faulty blocks ss line s n state (Read (BadLine k)) says a memory =
-    (a.0, record { told = s; tells = says; is = a.1; of_none = a.2 })
-added_faulty blocks ss line s n state (Read (NumberTooLarge k)) says a memory = absurd a
-added_faulty blocks ss line s n state (Read (TooManyOperations k)) says a memory =
-    (a.0, record { told = s; tells = says; of_block = a.1; many = a.2 })
-added_faulty blocks ss line s n state (Read NoMemory) says a memory = absurd (memory refl)
-added_faulty blocks ss line s n state (NoSuchBlock k) says a memory =
-    (a.0, record { told = s; tells = says; is = a.1; of_none = a.2 })
-added_faulty blocks ss line s n state fault says a memory = a
+added_faulty blocks ss line s n state fault says a memory = grind arith
 
 -- the fault that a call hands on
 pub err_is : {T : Type 0} (P : RowsFault → Type 0) (r : Result T RowsFault) (fault : RowsFault) → r ≡ Err fault
@@ -169,30 +147,15 @@ front_short : (before after : List (List ℕ)) → length (join_with_byte 10 bef
     ≤ length (join_with_byte 10 (before ++ after))
 front_short before [] = omega (arith, ap (λ ls. length (join_with_byte 10 ls)) (append-nil before))
 front_short [] (l ∷ ls) = omega arith
-front_short (x ∷ xs) (l ∷ ls) = omega (
-  arith,
-  ap length (join-append (x ∷ xs) l ls (λ e. cc)),
-  length-append (join_with_byte 10 (x ∷ xs)) (10 ∷ join_with_byte 10 (l ∷ ls)),
-)
+front_short (x ∷ xs) (l ∷ ls) = grind (arith, join-append, length-append)
 
 -- a refusal of the blocks refuses the text
 pub blocks_refuse : (input : List ℕ) (fault : ReadFault) → BlocksAreRefused input fault → IsRefused input (Read fault)
-blocks_refuse input InputTooLong b =
-    let long = b.refused in
-    let front = front_short b.before b.after in
-    let whole = ap length (b.are_lines.whole) in
-    omega arith
-blocks_refuse input (NumberTooLarge n) b = b
-blocks_refuse input (TooManyBlocks n) b = b
-blocks_refuse input NoMemory b = b.refused
-blocks_refuse input fault b = inl b
+blocks_refuse input fault b = grind (arith, front_short)
 
 -- and so does one of the schedule lines
 pub rows_refuse : (input : List ℕ) (fault : RowsFault) → RowsAreRefused input fault → IsRefused input fault
-rows_refuse input (Read (BadLine n)) r = inr r
-rows_refuse input (Read (TooManyOperations n)) r = inr r
-rows_refuse input (NoSuchBlock n) r = r
-rows_refuse input fault r = absurd r.first.faulty
+rows_refuse input fault r = grind arith
 
 pub blocks_refused : {input : List ℕ} {cut : CutText} (a : IsCutOf input cut) (fault : ReadFault)
     → length input ≤ MAX_INPUT → files.IsRefused cut.blocks.now fault → IsRefused input (Read fault)
@@ -244,11 +207,7 @@ proposed_apart blocks input proposals short propose =
 
 refused_for : (blocks : List Block) (input : List ℕ) (fault : RowsFault) → HaveFault blocks input fault
     → AreRefusedFor blocks input fault
-refused_for blocks input (Read InputTooLong) h = absurd h.first.faulty
-refused_for blocks input (Read (BadLine n)) h = h
-refused_for blocks input (Read (TooManyOperations n)) h = h
-refused_for blocks input (NoSuchBlock n) h = h
-refused_for blocks input fault h = h.first.faulty
+refused_for blocks input fault h = grind arith
 
 pub refused_apart : (blocks : List Block) (input : List ℕ) (fault : RowsFault) → length input ≤ MAX_INPUT
     → HaveFirstFault blocks 0 (lines_of input) fault → AreRefusedFor blocks input fault

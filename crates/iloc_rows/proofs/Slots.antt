@@ -1,12 +1,12 @@
 -- Each operation of rows with numbers is in exactly one slot.
-use Rattle.std.proofs.Common.{◌≡◌, ◌≢◌, ◌∙◌, ℕ, zero, suc, ◌+◌, ◌<◌, ◌≤◌, nat_lt, ◌==◌, inl, inr, Bool, true, false, cond, List, [], ◌∷◌, ◌++◌, length, length-append, count_by, Option, Some, None, option_to_list, refl, arith, eq-eqb, ne_eqb}
+use Rattle.std.proofs.Common.{◌≡◌, ◌≢◌, ◌∙◌, ℕ, zero, suc, ◌+◌, ◌<◌, ◌≤◌, ◌==◌, inl, inr, true, cond, List, [], ◌∷◌, ◌++◌, length, length-append, count_by, Option, Some, None, option_to_list, refl, arith, eq-eqb, ne_eqb}
 use Rattle.std.proofs.lemmas.Bool.{cases_lt, lt-ltb}
 use Rattle.std.proofs.lemmas.List.Sums.{sum_by-cons}
 use Rattle.iloc_ops.specs.declared.op.Op.{Op}
 use Rattle.iloc_timed.specs.declared.row.Row.{Row}
 use Rattle.iloc_timed.specs.Rows.{slots, times_issued}
 use Rattle.iloc_timed.specs.Schedule.{AreOnce, AreInRange, in_range}
-use Rattle.iloc_rows.specs.Proposing.{is_empty, filled, slot, ops_in, numbered}
+use Rattle.iloc_rows.specs.Proposing.{filled, slot, ops_in, numbered}
 use Rattle.iloc_rows.proofs.Numbering.{ops_of_row, row_after}
 
 -- One slot
@@ -18,51 +18,22 @@ times_in i (Some j) = cond (i == j) 1 0
 
 -- the next number is there alone, and only where the slot is filled
 slot_here : (n : ℕ) (op : Op) → times_in n (slot n op) ≡ length (filled op)
-slot_here n op = by (is_empty op) refl
-  where
-    same : (n == n) ≡ true
-    same = eq-eqb n n refl
-
-    by : (b : Bool) → is_empty op ≡ b → times_in n (slot n op) ≡ length (filled op)
-    by true e = rw e refl
-    by false e = rw (e, same) refl
+slot_here n op = grind (arith, eq-eqb)
 
 slot_elsewhere : (i n : ℕ) (op : Op) → (i ≡ n → ⊥) → times_in i (slot n op) ≡ 0
-slot_elsewhere i n op apart = by (is_empty op) refl
-  where
-    other : (i == n) ≡ false
-    other = ne_eqb i n apart
-
-    by : (b : Bool) → is_empty op ≡ b → times_in i (slot n op) ≡ 0
-    by true e = rw e refl
-    by false e = rw (e, other) refl
+slot_elsewhere i n op apart = grind (arith, ne_eqb)
 
 in_slot : (i n : ℕ) (op : Op) → (i ≡ n → times_in i (slot n op) ≡ length (filled op)) × (i ≢ n → times_in i (slot n op) ≡ 0)
 in_slot i n op = (λ here. rw here (slot_here n op), slot_elsewhere i n op)
 
 one_at_most : (op : Op) → length (filled op) ≤ 1
-one_at_most op = by (is_empty op) refl
-  where
-    by : (b : Bool) → is_empty op ≡ b → length (filled op) ≤ 1
-    by true e = rw e (omega arith)
-    by false e = rw e (omega arith)
+one_at_most op = grind arith
 
 -- One row
 
 pub two_slots : (i : ℕ) (one two : Option ℕ)
     → count_by (λ j. i == j) (option_to_list two ++ option_to_list one) ≡ times_in i one + times_in i two
-two_slots i None None = refl
-two_slots i (Some a) None =
-    let last : count_by (λ j. i == j) (a ∷ []) ≡ cond (i == a) 1 0 + 0 = sum_by-cons (λ j. cond (i == j) 1 0) a [] in
-    omega (arith, last)
-two_slots i None (Some b) =
-    let last : count_by (λ j. i == j) (b ∷ []) ≡ cond (i == b) 1 0 + 0 = sum_by-cons (λ j. cond (i == j) 1 0) b [] in
-    omega (arith, last)
-two_slots i (Some a) (Some b) =
-    let first : count_by (λ j. i == j) (b ∷ a ∷ []) ≡ cond (i == b) 1 0 + count_by (λ j. i == j) (a ∷ []) =
-    sum_by-cons (λ j. cond (i == j) 1 0) b (a ∷ []) in
-    let last : count_by (λ j. i == j) (a ∷ []) ≡ cond (i == a) 1 0 + 0 = sum_by-cons (λ j. cond (i == j) 1 0) a [] in
-    omega (arith, first, last)
+two_slots i one two = grind (arith, count_by, sum_by-cons)
 
 abbrev times_in_row : ℕ → ℕ → Op × Op → ℕ
 times_in_row i n r = count_by (λ j. i == j) (slots (row_after n r))
@@ -131,34 +102,13 @@ numbered_once rs i below = once_from 0 rs i (omega arith) (omega arith)
 
 row_in_range : (count n : ℕ) (r : Op × Op) → n + length (ops_of_row r) ≤ count
     → in_range count (row_after n r) ≡ true
-row_in_range count n r h = by (is_empty r.0) refl (is_empty r.1) refl
-  where
-    size : length (ops_of_row r) ≡ length (filled r.0) + length (filled r.1)
-    size = length-append (filled r.0) (filled r.1)
-
-    by : (a : Bool) → is_empty r.0 ≡ a → (b : Bool) → is_empty r.1 ≡ b → in_range count (row_after n r) ≡ true
-    by true e true f = rw (e, f) refl
-    by true e false f =
-        let long : length (ops_of_row r) ≡ 1 = rw (e, f) refl in
-        let low : nat_lt (n + 0) count ≡ true = lt-ltb (n + 0) count (omega arith) in
-        rw (e, f, low) refl
-    by false e true f =
-        let long : length (ops_of_row r) ≡ 1 = rw (e, f) refl in
-        let low : nat_lt n count ≡ true = lt-ltb n count (omega arith) in
-        rw (e, f, low) refl
-    by false e false f =
-        let long : length (ops_of_row r) ≡ 2 = rw (e, f) refl in
-        let low : nat_lt n count ≡ true = lt-ltb n count (omega arith) in
-        let high : nat_lt (n + 1) count ≡ true = lt-ltb (n + 1) count (omega arith) in
-        rw (e, f, low, high) refl
+row_in_range count n r h = grind (arith, length-append, lt-ltb)
 
 in_range_from : (count n : ℕ) (rs : List (Op × Op)) → n + length (ops_in rs) ≤ count → AreInRange count (numbered n rs)
 in_range_from count n [] h c below = absurd (omega arith)
 in_range_from count n (r ∷ rs) h zero below =
     row_in_range count n r (omega (arith, length-append (ops_of_row r) (ops_in rs)))
-in_range_from count n (r ∷ rs) h (suc c) below =
-    in_range_from count (n + length (ops_of_row r)) rs (omega (arith, length-append (ops_of_row r) (ops_in rs))) c
-    (omega arith)
+in_range_from count n (r ∷ rs) h (suc c) below = grind (arith, length-append, in_range_from count (n + length (ops_of_row r)) rs (omega (arith, length-append (ops_of_row r) (ops_in rs))) c (omega arith))
 
 -- each number is an operation's
 pub numbered_in_range : (rs : List (Op × Op)) → AreInRange (length (ops_in rs)) (numbered 0 rs)

@@ -31,13 +31,7 @@ few_rows rows rows' e h = omega (arith, ap (λ rs. length (ops_in rs)) e)
 
 few-row : (blocks : List Block) (ss : List Told) (one two : Op) → Fits blocks ss (read (row one two)) → AreFew ss
     → AreFew (ss ++ read (row one two) ∷ [])
-few-row blocks ss one two f h k =
-    let still : block_of (ss ++ read (row one two) ∷ []) ≡ block_of ss = still_of ss (read (row one two)) refl refl in
-    elim (cases_eq (block_of (ss ++ read (row one two) ∷ [])) k) [
-      | inl here ↦ few_rows _ _ (picked-here row_in k ss (read (row one two)) (one, two) refl here)
-          (few_rows _ _ (ap (λ n. rows_of n ss ++ (one, two) ∷ []) (sym here ∙ still)) f.few)
-      | inr apart ↦ few_rows _ _ (picked-else row_in k ss (read (row one two)) apart) (h k)
-    ]
+few-row blocks ss one two f h = grind (arith, cases_eq, few_rows, picked-else, picked-here, still_of)
 
 few-line : (blocks : List Block) (ss : List Told) (s : Told) → Fits blocks ss s → AreFew ss → AreFew (ss ++ s ∷ [])
 few-line blocks ss (read nothing) f h k = few_rows _ _ (picked-nothing row_in k ss (read nothing) refl) (h k)
@@ -81,10 +75,7 @@ all_proposed P count ss proposals e h =
 -- each number in the rows that lines propose is an operation's, and each operation is in one slot
 pub proposed_numbered : (blocks : List Block) (n : ℕ) (lines : List (List ℕ)) (proposals : List Proposed)
     → Propose blocks n lines proposals → AllByRecursion IsNumbered proposals
-proposed_numbered blocks n lines proposals propose =
-    let told = propose.told in
-    all_proposed IsNumbered (length blocks) told proposals propose.are
-    (λ k. (numbered_in_range (rows_of k told), numbered_once (rows_of k told)))
+proposed_numbered blocks n lines proposals propose = grind (arith, all_proposed, numbered_in_range, numbered_once)
 
 -- what lines propose for the blocks of a file is within the limits
 proposals_within : (text : List ℕ) (blocks : List Block) (n : ℕ) (lines : List (List ℕ)) (proposals : List Proposed)
