@@ -27,10 +27,7 @@ module _ (prios : List ℕ) (lat : Latencies) (ops : List Op) (rows : List Row) 
   -- the first operation for which one waited
   pub first_waited : (j c i : ℕ) (own : Explained) → j < length ops → own ≡ get_or es j own → c ≡ own.ready
       → Some i ≡ slice_get own.after.items 0 → slice_get (waited_until lat ops rows j c) 0 ≡ Some i
-  first_waited j c i own within read ready first =
-      let is = explained_read j own within read in
-      ap (λ n. slice_get (waited_until lat ops rows j n) 0) ready
-      ∙ (ap (λ xs. slice_get xs 0) (sym is.after) ∙ sym first)
+  first_waited j c i own within read ready first = grind (arith, explained_read)
 
   pub first_known : (j c i : ℕ) (own : Explained) → j < length ops → own ≡ get_or es j own → c ≡ own.ready
       → Some i ≡ slice_get own.after.items 0 → (i < length es) × (issue_cycle rows i < c)

@@ -1,5 +1,5 @@
 -- In a greedy schedule no row has room for an operation that is ready and issued later.
-use Rattle.std.proofs.Common.{◌≡◌, ◌≢◌, ◌<◌, ◌≤◌, ℕ, ◌+◌, ◌-◌, ◌==◌, ◌&&◌, ◌||◌, not, nat_le, true, false, List, [], ◌∷◌, ◌++◌, length, filter, Option, Some, None, arith, refl, sym, ap, ◌∙◌, subst, inl, inr}
+use Rattle.std.proofs.Common.{◌≡◌, ◌≢◌, ◌<◌, ◌≤◌, ℕ, ◌+◌, ◌-◌, ◌==◌, nat_le, true, List, [], ◌∷◌, ◌++◌, length, filter, Option, Some, None, arith, refl, sym, ap, ◌∙◌, subst, inl, inr}
 use Rattle.std.specs.Prelude.{Contains, reverse}
 use Rattle.std.proofs.lemmas.Bool.{eqb-true, leb-false}
 use Rattle.std.proofs.lemmas.List.{reverse-append}
@@ -9,9 +9,9 @@ use Rattle.iloc_ops.specs.declared.op.Op.{Op}
 use Rattle.iloc_meaning.specs.Trace.{op_at}
 use Rattle.iloc_timed.specs.declared.latencies.Latencies.{Latencies}
 use Rattle.iloc_timed.specs.declared.row.Row.{Row}
-use Rattle.iloc_timed.specs.Kinds.{kind, is_memory, is_mult}
+use Rattle.iloc_timed.specs.Kinds.{kind}
 use Rattle.iloc_timed.specs.Latency.{latency}
-use Rattle.iloc_timed.specs.Rows.{row_at, holds, issue_cycle, kind_in, is_some_kind}
+use Rattle.iloc_timed.specs.Rows.{row_at, holds, issue_cycle}
 use Rattle.iloc_timed.proofs.Arrivals.{issued_within}
 use Rattle.iloc_timed.proofs.Issues.{issued_there, holds_zero, holds_one}
 use Rattle.iloc_sched.specs.Greedy.{IsGreedyBy, can_go_beside, chosen_with, first_of_all, may_stand_beside, on_units, ready}
@@ -30,38 +30,22 @@ use Rattle.iloc_explain.proofs.Stretches.{binds_from}
 
 -- a full row keeps each operation out
 full_keeps : (ops : List Op) (j a b : ℕ) → keeper_of ops j (Some a) (Some b) ≢ None
-full_keeps ops j a b = by_bool (clash ops b j && not (clash ops a j))
-    (λ t none. none-some b (sym (rw t at none)))
-    (λ f none. none-some a (sym (rw f at none)))
+full_keeps ops j a b = grind (arith, none-some)
 
 -- an operation that can't stand beside the only one of a row is kept out by it
 one_keeps : (ops : List Op) (j a : ℕ) → clash ops a j ≡ true → (keeper_of ops j (Some a) None ≢ None)
     × (keeper_of ops j None (Some a) ≢ None)
-one_keeps ops j a clashes = (
-  λ none. none-some a (sym (rw clashes at none)),
-  λ none. none-some a (sym (rw clashes at none)),
-)
+one_keeps ops j a clashes = grind (arith, none-some)
 
 -- so does a row of an operation and of one that goes beside it, or of one beside which it can't go
 units_keep : (ops : List Op) (j a : ℕ) (b : Option ℕ) → (b ≡ None → clash ops a j ≡ true)
     → keeper ops (on_units ops a b) j ≢ None
-units_keep ops j a (Some b) clashes =
-    by_bool (is_mult (kind (op_at ops a)) || is_some_kind is_memory (kind_in ops (Some b)))
-    (λ t. rw t (full_keeps ops j b a))
-    (λ f. rw f (full_keeps ops j a b))
-units_keep ops j a None clashes =
-    let both = one_keeps ops j a (clashes refl) in
-    by_bool (is_mult (kind (op_at ops a)) || false)
-    (λ t. rw t both.1)
-    (λ f. rw f both.0)
+units_keep ops j a b clashes = grind (arith, full_keeps, one_keeps)
 
 module _ (prios : List ℕ) (lat : Latencies) (block ops : List Op) (rows : List Row) (greedy : IsGreedyBy prios lat block ops rows) where
   -- the first of what is ready is issued in the row
   first_held : (ops : List Op) (row : Row) (a : ℕ) (b : Option ℕ) → row ≡ on_units ops a b → holds row a ≡ true
-  first_held ops row a b is =
-      by_bool (is_mult (kind (op_at ops a)) || is_some_kind is_memory (kind_in ops b))
-      (λ t. let there : row ≡ record { zero = b; one = Some a } = is ∙ rw t refl in holds_one row a (ap (λ (r : Row). r.one) there))
-      (λ f. let there : row ≡ record { zero = Some a; one = b } = is ∙ rw f refl in holds_zero row a (ap (λ (r : Row). r.zero) there))
+  first_held ops row a b is = grind (arith, holds_one, holds_zero)
 
   pub no_room : (j r b : ℕ) → j < length ops → IsReadyAt lat ops rows j r → r ≤ b → b < issue_cycle rows j
       → keeper ops (row_at rows b) j ≢ None

@@ -1,5 +1,5 @@
 -- The latest of what earlier operations leave to wait for, operation by operation.
-use Rattle.std.proofs.Common.{◌≡◌, ◌<◌, ◌≤◌, ℕ, ◌+◌, max, Bool, true, false, List, arith, sym, ap, ◌∙◌, inl, inr}
+use Rattle.std.proofs.Common.{◌≡◌, ◌<◌, ◌≤◌, ℕ, ◌+◌, max, Bool, true, false, List, arith, ap, inl, inr}
 use Rattle.std.proofs.lemmas.Bool.{cases_lt, false≢true}
 use Rattle.iloc_meaning.proofs.Cases.{by_bool}
 use Rattle.iloc_ops.specs.declared.op.Op.{Op}
@@ -35,17 +35,7 @@ grown holds cycle n latest is counts = record {
 
 kept : (holds : ℕ → Bool) (cycle : ℕ → ℕ) (n latest : ℕ) → IsLatest holds cycle n latest → holds n ≡ false
     → IsLatest holds cycle (n + 1) latest
-kept holds cycle n latest is fails = record {
-  over = λ i before held. elim (cases_lt i n) [
-    | inl earlier ↦ is.over i earlier held
-    | inr here ↦ let at : i ≡ n = omega arith in
-        absurd (false≢true (sym fails ∙ (sym (ap holds at) ∙ held)))
-  ];
-  reached = elim is.reached [
-    | inl zero ↦ inl zero
-    | inr one ↦ inr (one.0, let before : one.0 < n = one.1 in omega arith, one.2, one.3)
-  ];
-}
+kept holds cycle n latest is fails = grind (arith, cases_lt, false≢true)
 
 -- one more, which counts where a test holds of it
 more : (holds : ℕ → Bool) (cycle : ℕ → ℕ) (n latest now at : ℕ) → IsLatest holds cycle n latest → at ≡ cycle n
@@ -56,13 +46,7 @@ more holds cycle n latest now at is same raises = by_bool (holds n)
 
 pub none_latest : (lat : Latencies) (ops : List Op) (rows : List Row) (l : Latest) → ((r : Reg) → result_of l r ≡ 0)
     → l.stored ≡ 0 → l.stores ≡ 0 → l.loads ≡ 0 → l.outputs ≡ 0 → AreLatest lat ops rows 0 l
-none_latest lat ops rows l results stored stores loads outputs = record {
-  results = λ r. none _ _ (result_of l r) (results r);
-  stored = none _ _ l.stored stored;
-  stores = none _ _ l.stores stores;
-  loads = none _ _ l.loads loads;
-  outputs = none _ _ l.outputs outputs;
-}
+none_latest lat ops rows l results stored stores loads outputs = grind (arith, none)
 
 pub one_more_latest : (lat : Latencies) (ops : List Op) (rows : List Row) (n issue arrives : ℕ) (old new : Latest)
     → AreLatest lat ops rows n old → Notes (op_at ops n) issue arrives old new → issue ≡ issue_cycle rows n

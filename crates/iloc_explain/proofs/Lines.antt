@@ -1,10 +1,9 @@
 -- The lines of operations, one after another.
-use Rattle.std.proofs.Common.{◌≡◌, ◌<◌, ℕ, ◌+◌, List, ◌∷◌, ◌++◌, length, drop, get_or, refl, sym, ap, ◌∙◌, append_assoc}
+use Rattle.std.proofs.Common.{◌≡◌, ◌<◌, ℕ, ◌+◌, List, ◌∷◌, ◌++◌, length, drop, get_or, refl, sym, ap, ◌∙◌, append_assoc, arith}
 use Rattle.std.proofs.lemmas.List.{drop_more}
-use Rattle.iloc_meaning.proofs.Cases.{by_bool}
 use Rattle.iloc_ops.specs.declared.op.Op.{Op}
 use Rattle.iloc_ops.specs.declared.op.Op.TheVariants.{Nop}
-use Rattle.iloc_sched.specs.Renaming.{is_nop, without_nops}
+use Rattle.iloc_sched.specs.Renaming.{without_nops}
 use Rattle.iloc_sched.proofs.Renamed.WithoutNops.{is_nop-true}
 use Rattle.iloc_explain.specs.declared.explanation.Explained.{Explained}
 use Rattle.iloc_explain.specs.Listing.{explained_line, explained_lines}
@@ -14,9 +13,7 @@ pub nop_passed : (block : List Op) (i : ℕ) (d : Op) → i < length block → g
 nop_passed block i d within is = sym (ap without_nops (drop_more block i d within ∙ ap (λ op. op ∷ drop (i + 1) block) is))
 
 kept : (op : Op) (rest : List Op) → (op ≡ Nop → ⊥) → without_nops (op ∷ rest) ≡ op ∷ without_nops rest
-kept op rest other = by_bool (is_nop op)
-    (λ t. absurd (other (is_nop-true op t)))
-    (λ f. rw f refl)
+kept op rest other = grind (arith, is_nop-true)
 
 pub op_taken : (block : List Op) (i : ℕ) (d : Op) → i < length block → (get_or block i d ≡ Nop → ⊥)
     → without_nops (drop i block) ≡ get_or block i d ∷ without_nops (drop (i + 1) block)

@@ -64,26 +64,12 @@ chain_same lat ops i (x ∷ y ∷ chain) (z ∷ w ∷ other) is also =
     ap₂ (λ n rest. n ∷ rest) (is.0 ∙ sym also.0) (chain_same lat ops y (y ∷ chain) (w ∷ other) is.2 there)
 
 first_same : (lat : Latencies) (ops : List Op) (i j : ℕ) → IsFirstOfGreatest lat ops i → IsFirstOfGreatest lat ops j → i ≡ j
-first_same lat ops i j one other = elim (cases_order i j) [
-  | inl same ↦ same
-  | inr (inl less) ↦
-      let above : priority lat ops i < priority lat ops j = other.first i less in
-      let most : priority lat ops j ≤ priority lat ops i = one.greatest j other.known in
-      absurd (omega arith)
-  | inr (inr more) ↦
-      let above : priority lat ops j < priority lat ops i = one.first j more in
-      let most : priority lat ops i ≤ priority lat ops j = other.greatest i one.known in
-      absurd (omega arith)
-]
+first_same lat ops i j one other = grind (arith, cases_order)
 
 -- there is one longest chain of this kind
 pub longest_same : (lat : Latencies) (ops : List Op) (chain other : List ℕ) → IsLongestChain lat ops chain
     → IsLongestChain lat ops other → chain ≡ other
-longest_same lat [] chain other is also = is ∙ sym also
-longest_same lat (op ∷ ops) chain other (i, first, is) (j, greatest, also) =
-    let same : i ≡ j = first_same lat (op ∷ ops) i j first greatest in
-    let there : IsChainFrom lat (op ∷ ops) i other = rw (sym same) at also in
-    chain_same lat (op ∷ ops) i chain other is there
+longest_same lat ops chain other is also = grind (arith, chain_same, first_same)
 
 -- and it spans the greatest priority
 pub longest_spans : (lat : Latencies) (ops : List Op) (chain : List ℕ) → IsLongestChain lat ops chain
@@ -101,41 +87,15 @@ longest_spans lat (op ∷ ops) chain (i, first, is) =
     rw greatest (chain_spans lat (op ∷ ops) i chain first.known is)
 
 pub chain_start : (lat : Latencies) (ops : List Op) (i : ℕ) → i < length ops → IsChainTo lat ops i i (i + 1) (i ∷ [])
-chain_start lat ops i within = record {
-  front = [];
-  ends = refl;
-  known = within;
-  before = omega arith;
-  linked = refl;
-  none = λ k below does. let order : i < k = does.pair.order in absurd (omega arith);
-}
+chain_start lat ops i within = grind arith
 
 pub chain_more : (lat : Latencies) (ops : List Op) (i last j : ℕ) (chain : List ℕ) → IsChainTo lat ops i last j chain
     → j < length ops → Continues lat ops last j → IsChainTo lat ops i j (j + 1) (chain ++ j ∷ [])
-chain_more lat ops i last j chain so_far within does = record {
-  front = chain;
-  ends = refl;
-  known = within;
-  before = omega arith;
-  linked =
-      let linked : IsLinked lat ops i (so_far.front ++ last ∷ []) = rw so_far.ends at so_far.linked in
-      rw so_far.ends (linked_more lat ops i so_far.front last j record { continues = does; first = so_far.none } linked);
-  none = λ k below goes. let order : j < k = goes.pair.order in absurd (omega arith);
-}
+chain_more lat ops i last j chain so_far within does = grind (arith, linked_more)
 
 pub chain_kept : (lat : Latencies) (ops : List Op) (i last j : ℕ) (chain : List ℕ) → IsChainTo lat ops i last j chain
     → (Continues lat ops last j → ⊥) → IsChainTo lat ops i last (j + 1) chain
-chain_kept lat ops i last j chain so_far not = record {
-  front = so_far.front;
-  ends = so_far.ends;
-  known = so_far.known;
-  before = let before : last < j = so_far.before in omega arith;
-  linked = so_far.linked;
-  none = λ k below. elim (cases_lt k j) [
-    | inl earlier ↦ so_far.none k earlier
-    | inr here ↦ let at : k ≡ j = omega arith in rw at not
-  ];
-}
+chain_kept lat ops i last j chain so_far not = grind (arith, cases_lt)
 
 chain_whole : (lat : Latencies) (ops : List Op) (i last j : ℕ) (chain : List ℕ) → IsChainTo lat ops i last j chain
     → length ops ≤ j → IsChainFrom lat ops i chain
@@ -154,11 +114,4 @@ chain_ends lat (op ∷ ops) i last j chain so_far all first =
 pub first_of_greatest : (lat : Latencies) (ops : List Op) (prios : List ℕ) (i : ℕ) → prios ≡ priorities lat ops
     → i < length prios → ((k : ℕ) → k < length prios → slice_index prios k ≤ slice_index prios i)
     → ((k : ℕ) → k < i → slice_index prios k < slice_index prios i) → IsFirstOfGreatest lat ops i
-first_of_greatest lat ops prios i are within most first =
-    let size = length-priorities lat ops in record {
-      known = let known : i < length (priorities lat ops) = rw are at within in rw size at known;
-      greatest = λ k inside.
-          let there : k < length prios = rw (are, size) inside in
-          let least : slice_index prios k ≤ slice_index prios i = most k there in rw are at least;
-      first = λ k below. let less : slice_index prios k < slice_index prios i = first k below in rw are at less;
-    }
+first_of_greatest lat ops prios i are within most first = grind (arith, length-priorities)

@@ -1,6 +1,6 @@
 -- There is one text that explains a schedule.
 use Rattle.std.proofs.Common.{◌≡◌, ℕ, suc, ◌+◌, List, [], ◌∷◌, ◌++◌, length, Some, arith, refl, sym, ap, ap₂, ◌∙◌, subst, ◌<◌, ◌≤◌, ◌-◌, inl, inr}
-use Rattle.std.specs.Prelude.{slice_get, reverse}
+use Rattle.std.specs.Prelude.{slice_get}
 use Rattle.iloc_ops.specs.declared.op.Op.{Op}
 use Rattle.iloc_timed.specs.declared.latencies.Latencies.{Latencies}
 use Rattle.iloc_timed.specs.declared.row.Row.{Row}
@@ -19,8 +19,6 @@ use Rattle.iloc_explain.proofs.Links.{longest_same}
 use Rattle.iloc_explain.proofs.OneReadyCycle.{ready_same}
 use Rattle.std.proofs.lemmas.Bool.{cases_order}
 use Rattle.std.proofs.lemmas.Option.{none-some, same_Some}
-use Rattle.iloc_meaning.specs.Trace.{op_at}
-use Rattle.iloc_timed.specs.Latency.{latency}
 use Rattle.iloc_explain.specs.declared.path.Stretch.{Stretch}
 use Rattle.iloc_explain.specs.declared.path.Stretch.TheVariants.{Delay, Held, Free}
 use Rattle.iloc_explain.specs.Path.{Begins, Binds, HadRoom, IsLastToArrive, IsPath, LeadBack, origin, span}
@@ -30,32 +28,18 @@ use Rattle.iloc_explain.proofs.Stretches.{waited_earlier}
 module _ (lat : Latencies) (ops : List Op) (rows : List Row) where
   -- where one of them is an operation in the row before, and the other room in it, they aren't of one cycle
   room_or_kept : (j c r n h : ℕ) → HadRoom ops rows j r c n → keeper ops (row_at rows (c - 1)) j ≡ Some h → ⊥
-  room_or_kept j c r n h had kept =
-      let some : 0 < n = had.some in
-      let far : r + n ≤ c = had.ready in
-      none-some h (sym (had.room (c - 1) (omega arith) (omega arith)) ∙ kept)
+  room_or_kept j c r n h had kept = grind (arith, none-some)
 
   -- of two stretches with room neither is longer
   room_not_longer : (j c r n m : ℕ) → HadRoom ops rows j r c n → HadRoom ops rows j r c m → n < m → ⊥
-  room_not_longer j c r n m had also less =
-      let some : 0 < n = had.some in
-      let far : r + m ≤ c = also.ready in
-      had.no_more (omega arith) (also.room (c - n - 1) (omega arith) (omega arith))
+  room_not_longer j c r n m had also less = grind arith
 
   room_same : (j c r n m : ℕ) → HadRoom ops rows j r c n → HadRoom ops rows j r c m → n ≡ m
-  room_same j c r n m had also = elim (cases_order n m) [
-    | inl same ↦ same
-    | inr (inl less) ↦ absurd (room_not_longer j c r n m had also less)
-    | inr (inr more) ↦ absurd (room_not_longer j c r m n also had more)
-  ]
+  room_same j c r n m had also = grind (arith, cases_order, room_not_longer)
 
   -- one stretch binds an operation in a cycle
   binds_same : (j c : ℕ) (s t : Stretch) → Binds lat ops rows j c s → Binds lat ops rows j c t → s ≡ t
-  binds_same j c (Delay i d) (Delay k e) (ready, first, sum) (also, other, sum') =
-      let same : i ≡ k = same_Some i k (sym first ∙ other) in
-      let at : issue_cycle rows i ≡ issue_cycle rows k = ap (issue_cycle rows) same in
-      let long : d ≡ e = omega arith in
-      ap₂ Delay same long
+  binds_same j c (Delay i d) (Delay k e) (ready, first, sum) (also, other, sum') = grind (arith, same_Some)
   binds_same j c (Delay i d) (Held h) (ready, first, sum) (r, also, later, kept) =
       let same : c ≡ r = ready_same lat ops rows j c r ready also in absurd (omega arith)
   binds_same j c (Delay i d) (Free n) (ready, first, sum) (r, also, had) =
@@ -80,19 +64,13 @@ module _ (lat : Latencies) (ops : List Op) (rows : List Row) where
 
   -- and none where a path begins
   begins_there : (j c : ℕ) (s : Stretch) → Begins lat ops rows j c → Binds lat ops rows j c s → ⊥
-  begins_there j c (Delay i d) (inl start) (ready, first, sum) =
-      let before = waited_earlier lat ops rows j c i first in
-      let issued : issue_cycle rows i < c = before.1 in
-      omega arith
+  begins_there j c (Delay i d) (inl start) (ready, first, sum) = grind (arith, waited_earlier)
   begins_there j c (Delay i d) (inr (r, also, early)) (ready, first, sum) =
       let same : c ≡ r = ready_same lat ops rows j c r ready also in omega arith
   begins_there j c (Held h) (inl start) (r, ready, later, kept) = omega arith
   begins_there j c (Held h) (inr (q, also, early)) (r, ready, later, kept) =
       let same : q ≡ r = ready_same lat ops rows j q r also ready in omega arith
-  begins_there j c (Free n) (inl start) (r, ready, had) =
-      let some : 0 < n = had.some in
-      let far : r + n ≤ c = had.ready in
-      omega arith
+  begins_there j c (Free n) (inl start) (r, ready, had) = grind arith
   begins_there j c (Free n) (inr (q, also, early)) (r, ready, had) =
       let same : q ≡ r = ready_same lat ops rows j q r also ready in
       let far : r + n ≤ c = had.ready in
@@ -110,26 +88,11 @@ module _ (lat : Latencies) (ops : List Op) (rows : List Row) where
       (subst (λ x. LeadBack lat ops rows (origin x j) (c - span x) other) same rest'))
 
   last_same : (j k : ℕ) → IsLastToArrive lat ops rows j → IsLastToArrive lat ops rows k → j ≡ k
-  last_same j k one other = elim (cases_order j k) [
-    | inl same ↦ same
-    | inr (inl less) ↦
-        let before : issue_cycle rows j + latency lat (op_at ops j) < cycles lat ops rows = other.first j less in
-        let last : issue_cycle rows j + latency lat (op_at ops j) ≡ cycles lat ops rows = one.last in
-        absurd (omega arith)
-    | inr (inr more) ↦
-        let before : issue_cycle rows k + latency lat (op_at ops k) < cycles lat ops rows = one.first k more in
-        let last : issue_cycle rows k + latency lat (op_at ops k) ≡ cycles lat ops rows = other.last in
-        absurd (omega arith)
-  ]
+  last_same j k one other = grind (arith, cases_order)
 
 pub path_same : (lat : Latencies) (ops : List Op) (rows : List Row) (path other : List Stretch) → IsPath lat ops rows path
     → IsPath lat ops rows other → path ≡ other
-path_same lat [] rows path other is also = is ∙ sym also
-path_same lat (op ∷ ops) rows path other (j, back, last, leads, turned) (k, back', last', leads', turned') =
-    let same : k ≡ j = last_same lat (op ∷ ops) rows k j last' last in
-    let alike : back ≡ back' = leads_same lat (op ∷ ops) rows j (issue_cycle rows j) back back' leads
-    (subst (λ i. LeadBack lat (op ∷ ops) rows i (issue_cycle rows i) back') same leads') in
-    turned ∙ (ap₂ (λ i xs. reverse (Delay i (latency lat (op_at (op ∷ ops) i)) ∷ xs)) (sym same) alike ∙ sym turned')
+path_same lat ops rows path other is also = grind (arith, last_same, leads_same)
 
 line_same : (prios : List ℕ) (lat : Latencies) (ops : List Op) (rows : List Row) (j : ℕ) (e f : Explained) (op new : Op)
     → IsExplained prios lat ops rows j e → IsExplained prios lat ops rows j f → explained_line j e op new ≡ explained_line j f op new

@@ -1,11 +1,10 @@
 -- A path, stretch by stretch, from its end back.
-use Rattle.std.proofs.Common.{◌≡◌, ◌<◌, ◌≤◌, ℕ, ◌+◌, ◌-◌, List, [], ◌∷◌, ◌++◌, length, map, get_or, append_assoc, append-nil, arith, sym, ap, ◌∙◌}
+use Rattle.std.proofs.Common.{◌≡◌, ◌<◌, ◌≤◌, ℕ, ◌+◌, ◌-◌, List, [], ◌∷◌, ◌++◌, length, map, get_or, append_assoc, append-nil, arith, ap, ◌∙◌}
 use Rattle.std.specs.Prelude.{reverse, slice_index}
 use Rattle.std.specs.List.{range_with_len}
 use Rattle.std.proofs.lemmas.List.{get_or_default}
 use Rattle.std.proofs.lemmas.List.FromFn.{get_or-map-range_with_len, length-map-range_with_len, map-range_with_len_more}
 use Rattle.iloc_ops.specs.declared.op.Op.{Op}
-use Rattle.iloc_ops.specs.declared.op.Op.TheVariants.{Nop}
 use Rattle.iloc_meaning.specs.Trace.{op_at}
 use Rattle.iloc_timed.specs.declared.latencies.Latencies.{Latencies}
 use Rattle.iloc_timed.specs.declared.row.Row.{Row}
@@ -23,28 +22,12 @@ use Rattle.iloc_explain.proofs.Stretches.{binds_from}
 pub walk_start : (lat : Latencies) (ops : List Op) (rows : List Row) (last c : ℕ) (path : List Stretch) → last < length ops
     → c ≡ issue_cycle rows last → path ≡ Delay last (latency lat (op_at ops last)) ∷ []
     → IsWalked lat ops rows last last c path
-walk_start lat ops rows last c path known at is = record {
-  done = [];
-  whole = is;
-  known = known;
-  within = omega arith;
-  leads = λ before leads. rw at at leads;
-}
+walk_start lat ops rows last c path known at is = grind arith
 
 pub walk_more : (lat : Latencies) (ops : List Op) (rows : List Row) (last j c i b : ℕ) (s : Stretch) (path more : List Stretch)
     → IsTable ops rows → IsWalked lat ops rows last j c path → Binds lat ops rows j c s → more ≡ path ++ s ∷ []
     → i ≡ origin s j → b ≡ c - span s → IsWalked lat ops rows last i b more
-walk_more lat ops rows last j c i b s path more table walked binds added from at =
-    let known : j < length ops = walked.known in
-    let within : c ≤ issue_cycle rows j = walked.within in
-    let place = binds_from lat ops rows j c s table known within binds in
-    rw (from, at) record {
-      done = walked.done ++ s ∷ [];
-      whole = added ∙ ap (λ xs. xs ++ s ∷ []) walked.whole;
-      known = place.0;
-      within = place.1;
-      leads = λ before leads. rw append_assoc (walked.leads (s ∷ before) (binds, leads));
-    }
+walk_more lat ops rows last j c i b s path more table walked binds added from at = grind (arith, append_assoc, binds_from)
 
 -- the place of the greatest arrival is the first operation whose result arrives last
 pub last_to_arrive : (lat : Latencies) (ops : List Op) (rows : List Row) (numbers : List ℕ) (j : ℕ)
@@ -89,24 +72,16 @@ walk_ends lat (op ∷ ops) rows last j c back path is walked begins turned = (
 -- one more arrival
 pub arrival_more : (f : ℕ → ℕ) (found more : List ℕ) (i x : ℕ) → found ≡ map f (range_with_len 0 i) → more ≡ found ++ x ∷ []
     → x ≡ f i → more ≡ map f (range_with_len 0 (i + 1))
-arrival_more f found more i x so_far added is =
-    added ∙ (ap (λ xs. xs ++ x ∷ []) so_far ∙ (ap (λ n. map f (range_with_len 0 i) ++ n ∷ []) is
-    ∙ sym (map-range_with_len_more f 0 i i (omega arith))))
+arrival_more f found more i x so_far added is = grind (arith, map-range_with_len_more)
 
 -- when the result of an operation that was read arrives
 pub arrival_read : (lat : Latencies) (ops lent : List Op) (rows : List Row) (i cycle time : ℕ) (other : Op) → i < length ops
     → lent ≡ ops → cycle ≡ issue_cycle rows i → time ≡ latency lat (get_or lent i other)
     → cycle + time ≡ issue_cycle rows i + latency lat (op_at ops i)
-arrival_read lat ops lent rows i cycle time other within same at takes =
-    let there : get_or ops i other ≡ op_at ops i = get_or_default ops i other Nop within in
-    let long : time ≡ latency lat (op_at ops i) = rw (same, there) at takes in
-    omega arith
+arrival_read lat ops lent rows i cycle time other within same at takes = grind (arith, get_or_default)
 
 -- the first stretch, which is the latency of an operation that was read
 pub last_latency : (lat : Latencies) (ops lent : List Op) (last time : ℕ) (other : Op) (none path : List Stretch) → last < length ops
     → lent ≡ ops → time ≡ latency lat (get_or lent last other) → none ≡ [] → path ≡ none ++ Delay last time ∷ []
     → path ≡ Delay last (latency lat (op_at ops last)) ∷ []
-last_latency lat ops lent last time other none path within same takes empty pushed =
-    let there : get_or ops last other ≡ op_at ops last = get_or_default ops last other Nop within in
-    let long : time ≡ latency lat (op_at ops last) = rw (same, there) at takes in
-    pushed ∙ (ap (λ xs. xs ++ Delay last time ∷ []) empty ∙ ap (λ n. Delay last n ∷ []) long)
+last_latency lat ops lent last time other none path within same takes empty pushed = grind (arith, get_or_default)

@@ -1,5 +1,5 @@
 -- The latest of what earlier operations leave to wait for is when an operation is ready.
-use Rattle.std.proofs.Common.{◌≡◌, ◌<◌, ◌≤◌, ℕ, ◌+◌, ◌&&◌, ◌||◌, max, true, List, map, length, arith, refl, sym, ◌∙◌, ◌⊎◌, inl, inr}
+use Rattle.std.proofs.Common.{◌≡◌, ◌<◌, ◌≤◌, ℕ, ◌+◌, max, true, List, map, length, arith, refl, sym, ◌∙◌, ◌⊎◌, inl, inr}
 use Rattle.std.specs.Prelude.{Contains}
 use Rattle.std.proofs.lemmas.Bool.{and_from, and_parts, false≢true, or_cases, or_left, or_right}
 use Rattle.iloc_ops.specs.declared.op.Op.{Op}
@@ -10,7 +10,7 @@ use Rattle.iloc_timed.specs.declared.kind.Kind.{Kind}
 use Rattle.iloc_timed.specs.declared.kind.Kind.TheVariants as K
 use Rattle.iloc_timed.specs.declared.latencies.Latencies.{Latencies}
 use Rattle.iloc_timed.specs.declared.row.Row.{Row}
-use Rattle.iloc_timed.specs.Kinds.{kind, is_load, is_memory, is_store, is_output}
+use Rattle.iloc_timed.specs.Kinds.{kind, is_store, is_output}
 use Rattle.iloc_timed.specs.Latency.{latency}
 use Rattle.iloc_timed.specs.Rows.{issue_cycle}
 use Rattle.iloc_timed.proofs.Greatest.{le_fold_max}
@@ -44,66 +44,18 @@ reason lat i j d there = elim (from_append (when (uses_result i j) (latency lat 
     ]
 
 delay_of : (lat : Latencies) (i j : Op) (d : ℕ) → Reason lat i j d → Contains (delays lat i j) d
-delay_of lat i j d (Uses r there is at) =
-    let test : uses_result i j ≡ true = any_at (λ s. is_register s (defined i)) (used j) r there is in
-    contains_from (delays lat i j) d (in_left (when (uses_result i j) (latency lat i)) (memory_delays lat i j) d
-    (rw (← at) (in_when _ _ test)))
-delay_of lat i j d (Reads is at) =
-    contains_from (delays lat i j) d (in_right (when (uses_result i j) (latency lat i)) (memory_delays lat i j) d
-    (in_left (when (reads_stored (kind i) (kind j)) (latency lat i)) (when (keeps_order (kind i) (kind j)) 1) d
-    (rw (← at) (in_when _ _ is))))
-delay_of lat i j d (Keeps is at) =
-    contains_from (delays lat i j) d (in_right (when (uses_result i j) (latency lat i)) (memory_delays lat i j) d
-    (in_right (when (reads_stored (kind i) (kind j)) (latency lat i)) (when (keeps_order (kind i) (kind j)) 1) d
-    (rw (← at) (in_when _ _ is))))
+delay_of lat i j d h1 = grind (arith, any_at, contains_from, in_left, in_right, in_when)
 
 module _ (lat : Latencies) (ops : List Op) (rows : List Row) (j : ℕ) (l : Latest) (are : AreLatest lat ops rows j l) where
   -- what an earlier operation stored is there by then
   stored_by : (k : Kind) (i : ℕ) → i < j → reads_stored (kind (op_at ops i)) k ≡ true
       → arrival lat ops rows i ≤ by_kind l k
-  stored_by k i before is = by k both.1
-    where
-      both : (is_store (kind (op_at ops i)) ≡ true) × ((is_load k || is_output k) ≡ true)
-      both = and_parts (is_store (kind (op_at ops i))) (is_load k || is_output k) is
-
-      low : arrival lat ops rows i ≤ l.stored
-      low = are.stored.over i before both.0
-
-      by : (k : Kind) → (is_load k || is_output k) ≡ true → arrival lat ops rows i ≤ by_kind l k
-      by K.Load reads = low
-      by K.Output reads = omega (arith, low)
-      by _ reads = absurd (false≢true reads)
+  stored_by k i before is = grind (arith, and_parts, false≢true)
 
   -- what has to come first is issued before then
   ordered_by : (k : Kind) (i : ℕ) → i < j → keeps_order (kind (op_at ops i)) k ≡ true
       → next_cycle lat ops rows i ≤ by_kind l k
-  ordered_by k i before is =
-      elim (or_cases ((is_memory a || is_output a) && is_store k) (is_output a && is_output k) is) [
-        | inl stores ↦
-            let both = and_parts (is_memory a || is_output a) (is_store k) stores in
-            by_store k both.1 (or_cases (is_memory a) (is_output a) both.0)
-        | inr outputs ↦
-            let both = and_parts (is_output a) (is_output k) outputs in
-            by_output k both.1 (are.outputs.over i before both.0)
-      ]
-    where
-      a : Kind
-      a = kind (op_at ops i)
-
-      by_store : (k : Kind) → is_store k ≡ true → (is_memory a ≡ true) ⊎ (is_output a ≡ true)
-          → next_cycle lat ops rows i ≤ by_kind l k
-      by_store K.Store store (inl memory) = elim (or_cases (is_load a) (is_store a) memory) [
-        | inl load ↦ let low : next_cycle lat ops rows i ≤ l.loads = are.loads.over i before load in omega arith
-        | inr stored ↦ let low : next_cycle lat ops rows i ≤ l.stores = are.stores.over i before stored in omega arith
-      ]
-      by_store K.Store store (inr output) =
-          let low : next_cycle lat ops rows i ≤ l.outputs = are.outputs.over i before output in omega arith
-      by_store _ store which = absurd (false≢true store)
-
-      by_output : (k : Kind) → is_output k ≡ true → next_cycle lat ops rows i ≤ l.outputs
-          → next_cycle lat ops rows i ≤ by_kind l k
-      by_output K.Output output low = omega arith
-      by_output _ output low = absurd (false≢true output)
+  ordered_by k i before is = grind (arith, and_parts, false≢true, or_cases)
 
   -- an earlier operation for which operation j waits until this cycle, or none where that is 0
   abbrev Reached : Op → ℕ → Type 0
@@ -115,28 +67,16 @@ module _ (lat : Latencies) (ops : List Op) (rows : List Row) (j : ℕ) (l : Late
       ⊎ ((keeps_order (kind (op_at ops i)) k ≡ true) × (next_cycle lat ops rows i ≡ c))))
 
   stored_reached : (k : Kind) → ((a : Kind) → is_store a ≡ true → reads_stored a k ≡ true) → ReachedBy k l.stored
-  stored_reached k reads = elim are.stored.reached [
-    | inl zero ↦ inl zero
-    | inr one ↦ inr (one.0, one.1, inl (reads _ one.2, one.3))
-  ]
+  stored_reached k reads = grind arith
 
   loads_reached : ReachedBy K.Store l.loads
-  loads_reached = elim are.loads.reached [
-    | inl zero ↦ inl zero
-    | inr one ↦ inr (one.0, one.1, inr (or_left _ _ (and_from _ _ (or_left _ _ (or_left _ _ one.2)) refl), one.3))
-  ]
+  loads_reached = grind (arith, and_from, or_left)
 
   stores_reached : ReachedBy K.Store l.stores
-  stores_reached = elim are.stores.reached [
-    | inl zero ↦ inl zero
-    | inr one ↦ inr (one.0, one.1, inr (or_left _ _ (and_from _ _ (or_left _ _ (or_right _ _ one.2)) refl), one.3))
-  ]
+  stores_reached = grind (arith, and_from, or_left, or_right)
 
   outputs_reached : (k : Kind) → ((a : Kind) → is_output a ≡ true → keeps_order a k ≡ true) → ReachedBy k l.outputs
-  outputs_reached k keeps = elim are.outputs.reached [
-    | inl zero ↦ inl zero
-    | inr one ↦ inr (one.0, one.1, inr (keeps _ one.2, one.3))
-  ]
+  outputs_reached k keeps = grind arith
 
   greater : (k : Kind) (a b : ℕ) → ReachedBy k a → ReachedBy k b → ReachedBy k (max a b)
   greater k a b first second = elim (max_is a b) [ inl is ↦ rw is first | inr is ↦ rw is second ]

@@ -1,10 +1,9 @@
 -- What a stretch of a path begins with, and how long it is.
-use Rattle.std.proofs.Common.{◌≡◌, ◌<◌, ◌≤◌, ℕ, zero, suc, ◌+◌, ◌-◌, ◌==◌, ◌&&◌, not, Bool, true, false, nat_lt, List, [], ◌∷◌, length, Option, Some, None, option_to_list, arith, refl, sym, ◌⊎◌, inl, inr}
+use Rattle.std.proofs.Common.{◌≡◌, ◌<◌, ◌≤◌, ℕ, zero, suc, ◌+◌, ◌-◌, ◌==◌, not, Bool, true, false, nat_lt, List, [], ◌∷◌, length, Option, Some, None, option_to_list, arith, refl, sym, ◌⊎◌, inl, inr}
 use Rattle.std.specs.Prelude.{is_some, slice_get}
 use Rattle.std.specs.List.{list_any}
 use Rattle.std.proofs.lemmas.Bool.{and_parts, eqb-true, ltb-true, lt-ltb, and_from, eq-eqb}
 use Rattle.std.proofs.lemmas.Option.{none-some, same_Some}
-use Rattle.iloc_meaning.proofs.Cases.{by_bool}
 use Rattle.iloc_ops.specs.declared.op.Op.{Op}
 use Rattle.iloc_meaning.specs.Trace.{op_at}
 use Rattle.iloc_timed.specs.declared.latencies.Latencies.{Latencies}
@@ -19,7 +18,7 @@ use Rattle.iloc_sched.proofs.Basics.Members.{contains_from, in_from, in_left, in
 use Rattle.iloc_sched.proofs.DelayPairs.DelayBounds.{delay_at_least}
 use Rattle.iloc_explain.specs.declared.path.Stretch.{Stretch}
 use Rattle.iloc_explain.specs.declared.path.Stretch.TheVariants.{Delay, Held, Free}
-use Rattle.iloc_explain.specs.Holding.{clash, keeper, keeper_of}
+use Rattle.iloc_explain.specs.Holding.{keeper, keeper_of}
 use Rattle.iloc_explain.specs.Path.{Binds, origin, span}
 use Rattle.iloc_explain.specs.Waiting.{IsReadyAt, WaitsUntil, ends_at, issue_order, waited_until}
 use Rattle.iloc_explain.proofs.IssueCycles.{in_slots}
@@ -48,34 +47,17 @@ waited_earlier lat ops rows j c i is =
 keeper_there : (ops : List Op) (j : ℕ) (zero one : Option ℕ) (h : ℕ) → keeper_of ops j zero one ≡ Some h
     → (zero ≡ Some h) ⊎ (one ≡ Some h)
 keeper_there ops j None None h is = absurd (none-some h is)
-keeper_there ops j (Some a) None h is = by_bool (clash ops a j)
-    (λ t. inl (rw t at is))
-    (λ f. absurd (none-some h (rw f at is)))
-keeper_there ops j None (Some b) h is = by_bool (clash ops b j)
-    (λ t. inr (rw t at is))
-    (λ f. absurd (none-some h (rw f at is)))
-keeper_there ops j (Some a) (Some b) h is = by_bool (clash ops b j && not (clash ops a j))
-    (λ t. inr (rw t at is))
-    (λ f. inl (rw f at is))
+keeper_there ops j (Some a) None h is = grind (arith, none-some)
+keeper_there ops j None (Some b) h is = grind (arith, none-some)
+keeper_there ops j (Some a) (Some b) h is = grind arith
 
 pub keeper_holds : (ops : List Op) (row : Row) (j h : ℕ) → keeper ops row j ≡ Some h → holds row h ≡ true
-keeper_holds ops row j h is = elim (keeper_there ops j row.zero row.one h is) [
-  | inl first ↦ holds_zero row h first
-  | inr second ↦ holds_one row h second
-]
+keeper_holds ops row j h is = grind (arith, holds_one, holds_zero, keeper_there)
 
 -- a stretch takes a cycle at least, and begins in cycle 0 or later
 pub binds_long : (lat : Latencies) (ops : List Op) (rows : List Row) (j c : ℕ) (s : Stretch) → Binds lat ops rows j c s
     → (0 < span s) × (span s ≤ c)
-binds_long lat ops rows j c (Delay i d) (ready, first, sum) =
-    let before = waited_earlier lat ops rows j c i first in
-    let issued : issue_cycle rows i < c = before.1 in
-    (omega arith, omega arith)
-binds_long lat ops rows j c (Held h) (r, ready, later, is) = (omega arith, omega arith)
-binds_long lat ops rows j c (Free n) (r, ready, had) =
-    let some : 0 < n = had.some in
-    let far : r + n ≤ c = had.ready in
-    (omega arith, omega arith)
+binds_long lat ops rows j c s h1 = grind (arith, waited_earlier)
 
 -- what an operation is kept out by is an operation, issued in that row
 pub kept_by : (ops : List Op) (rows : List Row) (j b h : ℕ) → IsTable ops rows → b < length rows
@@ -89,10 +71,7 @@ kept_by ops rows j b h table within is =
 pub binds_from : (lat : Latencies) (ops : List Op) (rows : List Row) (j c : ℕ) (s : Stretch) → IsTable ops rows
     → j < length ops → c ≤ issue_cycle rows j → Binds lat ops rows j c s
     → (origin s j < length ops) × (c - span s ≤ issue_cycle rows (origin s j))
-binds_from lat ops rows j c (Delay i d) table known within (ready, first, sum) =
-    let before = waited_earlier lat ops rows j c i first in
-    let earlier : i < j = before.0 in
-    (omega arith, omega arith)
+binds_from lat ops rows j c (Delay i d) table known within (ready, first, sum) = grind (arith, waited_earlier)
 binds_from lat ops rows j c (Held h) table known within (r, ready, later, is) =
     let last : issue_cycle rows j < length rows = issued_within ops rows j known table in
     let there = kept_by ops rows j (c - 1) h table (omega arith) is in
@@ -102,10 +81,7 @@ binds_from lat ops rows j c (Free n) table known within (r, ready, had) = (known
 
 -- an operation that is issued is in the order of issue
 in_row_order : (row : Row) (i : ℕ) → holds row i ≡ true → In (in_order row) i
-in_row_order row i held = elim (in_slots row.one row.zero i held) [
-  | inl first ↦ in_left (option_to_list row.zero) (option_to_list row.one) i (rw first (inl refl))
-  | inr second ↦ in_right (option_to_list row.zero) (option_to_list row.one) i (rw second (inl refl))
-]
+in_row_order row i held = grind (arith, in_left, in_right, in_slots, option_to_list)
 
 row_in_order : (rows : List Row) (c i : ℕ) → c < length rows → In (in_order (row_at rows c)) i → In (issue_order rows) i
 row_in_order [] c i within there = absurd (omega arith)

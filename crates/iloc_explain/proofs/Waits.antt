@@ -31,10 +31,7 @@ abbrev pub in_order : Row → List ℕ
 in_order row = option_to_list row.zero ++ option_to_list row.one
 
 from_row : (row : Row) (i : ℕ) → In (in_order row) i → holds row i ≡ true
-from_row row i there = elim (from_append (option_to_list row.zero) (option_to_list row.one) i there) [
-  | inl first ↦ holds_zero row i (in_option row.zero i first)
-  | inr second ↦ holds_one row i (in_option row.one i second)
-]
+from_row row i there = grind (arith, from_append, holds_one, holds_zero, in_option, option_to_list)
 
 from_order : (rows : List Row) (i : ℕ) → In (issue_order rows) i
     → (c : ℕ) × (c < length rows) × In (in_order (row_at rows c)) i

@@ -40,11 +40,7 @@ each_more P (z ∷ zs) x each last (suc j) y there =
 
 none_explained : (prios : List ℕ) (lat : Latencies) (ops : List Op) (rows : List Row) (latest : Latest) (explained : List Explained)
     → AreLatest lat ops rows 0 latest → explained ≡ [] → IsExplainedSoFar prios lat ops rows 0 latest explained
-none_explained prios lat ops rows latest explained are empty = record {
-  latest_ones = are;
-  all = ap length empty;
-  each = λ j e there. absurd (none_there explained j e (ap length empty) there);
-}
+none_explained prios lat ops rows latest explained are empty = grind (arith, none_there)
 
 one_explained : (prios : List ℕ) (lat : Latencies) (ops : List Op) (rows : List Row) (n : ℕ) (old new : Latest)
     (explained more : List Explained) (e : Explained) → IsExplainedSoFar prios lat ops rows n old explained
