@@ -225,7 +225,13 @@ module _ {A : Type 0} where
 pub stands_all : (count : ℕ) (xs : List Step) (c : Core) (taken : List (ℕ × ℕ)) → Stands count c taken
     → Stands count (ends count c xs) (taken ++ takes (played count c xs))
 stands_all count [] c taken h = rw (append-nil taken) h
-stands_all count (x ∷ xs) c taken h = grind (arith, append_assoc, stands, stands_all count xs (after count c x) (taken ++ taken_by (worker_of x) (reply_to count c x)) (stands count c taken h x))
+stands_all count (x ∷ xs) c taken h =
+    grind (
+      arith,
+      append_assoc,
+      stands,
+      stands_all count xs (after count c x) (taken ++ taken_by (worker_of x) (reply_to count c x)) (stands count c taken h x),
+    )
 
 pub exact_step : (count : ℕ) (c : Core) (taken : List (ℕ × ℕ)) → Stands count c taken → (x : Step)
     → IsExactReply count c (worker_of x) (reply_to count c x)

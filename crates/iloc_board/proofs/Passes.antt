@@ -131,7 +131,8 @@ module _ {J A : Type 0} (number : ℕ) (fits : ℕ → A → Type 0) (price : A 
         journal = new.0.journal;
         answers = answers;
       }
-  handed_inside me new worker about p id k cost w a answers h j n holding more fit cheap = grind (arith, all_fit-append, handed_from-snoc, map-append, state_from-snoc)
+  handed_inside me new worker about p id k cost w a answers h j n holding more fit cheap =
+      grind (arith, all_fit-append, handed_from-snoc, map-append, state_from-snoc)
 
   -- a root that gathered a pass
   pub gathered_inside : (me new him : Sat) (worker : ℕ) (about : State) (r : RootView J A) (p : PassView J A)

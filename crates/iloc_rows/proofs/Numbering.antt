@@ -28,7 +28,12 @@ row_after n r = record { zero = slot n r.0; one = slot (n + length (filled r.0))
 numbered-snoc : (n m : ℕ) (rs : List (Op × Op)) (r : Op × Op) → n + length (ops_in rs) ≡ m
     → numbered n (rs ++ r ∷ []) ≡ numbered n rs ++ row_after m r ∷ []
 numbered-snoc n m [] r e = let same : n ≡ m = omega arith in ap (λ k. row_after k r ∷ []) same
-numbered-snoc n m (x ∷ xs) r e = grind (arith, length-append, numbered-snoc (n + length (ops_of_row x)) m xs r (omega (arith, length-append (ops_of_row x) (ops_in xs))))
+numbered-snoc n m (x ∷ xs) r e =
+    grind (
+      arith,
+      length-append,
+      numbered-snoc (n + length (ops_of_row x)) m xs r (omega (arith, length-append (ops_of_row x) (ops_in xs))),
+    )
 
 pub length-numbered : (n : ℕ) (rs : List (Op × Op)) → length (numbered n rs) ≡ length rs
 length-numbered n [] = refl

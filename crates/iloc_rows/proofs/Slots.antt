@@ -108,7 +108,12 @@ in_range_from : (count n : ℕ) (rs : List (Op × Op)) → n + length (ops_in rs
 in_range_from count n [] h c below = absurd (omega arith)
 in_range_from count n (r ∷ rs) h zero below =
     row_in_range count n r (omega (arith, length-append (ops_of_row r) (ops_in rs)))
-in_range_from count n (r ∷ rs) h (suc c) below = grind (arith, length-append, in_range_from count (n + length (ops_of_row r)) rs (omega (arith, length-append (ops_of_row r) (ops_in rs))) c (omega arith))
+in_range_from count n (r ∷ rs) h (suc c) below =
+    grind (
+      arith,
+      length-append,
+      in_range_from count (n + length (ops_of_row r)) rs (omega (arith, length-append (ops_of_row r) (ops_in rs))) c (omega arith),
+    )
 
 -- each number is an operation's
 pub numbered_in_range : (rs : List (Op × Op)) → AreInRange (length (ops_in rs)) (numbered 0 rs)

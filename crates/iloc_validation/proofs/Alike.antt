@@ -1,12 +1,10 @@
 -- Logs whose entries arrive at the same cycles with the same effects, one by one.
-use Rattle.std.proofs.Common.{◌≡◌, ℕ, ℤ, Bool, true, false, ◌||◌, ◌∙◌, List, [], ◌∷◌, ◌++◌, map, Option, Some, None, inl, inr, refl, ap, ap₂, if◌then◌else◌}
-use Rattle.std.specs.Prelude.{filter, option_map, nat_le, nat_lt}
+use Rattle.std.proofs.Common.{◌≡◌, ℕ, ℤ, Bool, ◌||◌, List, [], ◌∷◌, ◌++◌, map, Option, Some, None, inl, inr, refl, ap, ap₂, arith}
+use Rattle.std.specs.Prelude.{filter, option_map, nat_le}
 use Rattle.std.proofs.Math.Path.{fun_ext}
-use Rattle.iloc_meaning.specs.declared.outcome.Outcome.TheVariants.{Finished, Fault}
-use Rattle.iloc_meaning.specs.Memory.{word_at, with_words}
-use Rattle.iloc_meaning.specs.Trace.{is_write_to, writes_to, written_by, written_or}
+use Rattle.iloc_meaning.specs.Memory.{word_at}
+use Rattle.iloc_meaning.specs.Trace.{is_write_to, writes_to, written_or}
 use Rattle.iloc_meaning.specs.Outcome.{is_fault, emitted_by, has_fault, emitted}
-use Rattle.iloc_meaning.proofs.Cases.{by_bool}
 use Rattle.iloc_timed.specs.Timed.{Issued, arrived, later, last_due, word_in, executed_in, timed_outcome_of}
 use Rattle.iloc_sched.specs.Steps.Members.{In}
 
@@ -31,21 +29,11 @@ alike_map f g (k ∷ ks) each = (each k (inl refl), alike_map f g ks (λ j there
 filter_alike : (p : Issued → Bool) → ((x y : Issued) → Alike x y → p x ≡ p y) → (xs ys : List Issued) → AlikeAll xs ys
     → AlikeAll (filter p xs) (filter p ys)
 filter_alike p same [] [] all = tt
-filter_alike p same (x ∷ xs) (y ∷ ys) all =
-    let rest = filter_alike p same xs ys all.1 in
-    by_bool (p y)
-    (λ t. rw (same x y all.0, t) (all.0, rest))
-    (λ t. rw (same x y all.0, t) rest)
+filter_alike p same (x ∷ xs) (y ∷ ys) all = grind (arith, filter_alike p same xs ys all.1)
 filter_alike p same xs ys all = absurd all
 
 later_alike : (x y : Issued) (o o' : Option Issued) → Alike x y → AlikeOption o o' → Alike (later x o) (later y o')
-later_alike x y None None one others = one
-later_alike x y (Some f) (Some f') one others =
-    let same : nat_lt x.due f.due ≡ nat_lt y.due f'.due = ap₂ (λ a b. nat_lt a b) one.due others.due in
-    by_bool (nat_lt y.due f'.due)
-    (λ t. let first : nat_lt x.due f.due ≡ true = same ∙ t in rw (first, t) others)
-    (λ t. let first : nat_lt x.due f.due ≡ false = same ∙ t in rw (first, t) one)
-later_alike x y o o' one others = absurd others
+later_alike x y o o' one others = grind arith
 
 last_alike : (xs ys : List Issued) → AlikeAll xs ys → AlikeOption (last_due xs) (last_due ys)
 last_alike [] [] all = tt
@@ -54,9 +42,7 @@ last_alike xs ys all = absurd all
 
 written_alike : (word : ℤ) (o o' : Option Issued) → AlikeOption o o'
     → written_or word (option_map (λ (e : Issued). e.executed) o) ≡ written_or word (option_map (λ (e : Issued). e.executed) o')
-written_alike word None None same = refl
-written_alike word (Some f) (Some f') same = ap written_by same.effect
-written_alike word o o' same = absurd same
+written_alike word o o' same = grind arith
 
 pub words_alike : (memory : List ℤ) (xs ys : List Issued) (a : ℕ) → AlikeAll xs ys
     → word_in memory xs a ≡ word_in memory ys a
@@ -82,7 +68,4 @@ emitted_alike xs ys all = absurd all
 
 pub outcome_alike : (memory : List ℤ) (xs ys : List Issued) → AlikeAll xs ys
     → timed_outcome_of memory xs ≡ timed_outcome_of memory ys
-outcome_alike memory xs ys all =
-    rw (faults_alike xs ys all, emitted_alike xs ys all)
-    (ap (λ (words : ℕ → ℤ). if has_fault (executed_in ys) then Fault
-    else Finished (emitted (executed_in ys)) (with_words memory words)) (fun_ext (λ a. words_alike memory xs ys a all)))
+outcome_alike memory xs ys all = grind (arith, emitted_alike, faults_alike, fun_ext, words_alike)

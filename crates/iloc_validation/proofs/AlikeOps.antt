@@ -1,5 +1,5 @@
 -- Operations that differ in registers alone: the same label, the same counts, the same key.
-use Rattle.std.proofs.Common.{◌≡◌, ◌↔◌, ℕ, true, cond, List, Option, refl, sym, ap, ◌∙◌}
+use Rattle.std.proofs.Common.{◌≡◌, ◌↔◌, ℕ, true, cond, List, Option, refl, sym, ap, ◌∙◌, arith}
 use Rattle.std.specs.Prelude.{IsTrue, count_by}
 use Rattle.std.specs.Bool.{Decides, one_answer}
 use Rattle.std.specs.BTreeMap.{get}
@@ -22,9 +22,7 @@ alike_test a b = op_same (label a) (label b)
 
 -- and so are the keys
 pub keys_test : (a b : Op) → Decides ((of_ops.ghosts).eq (label_key a) (label_key b)) (label a ≡ label b)
-keys_test a b =
-    let test = op_same (label_key a) (label_key b) in
-    (λ same. one_label a b (test.0 same), λ same. test.1 (same_key a b same))
+keys_test a b = grind (arith, one_label, op_same, same_key)
 
 pub alike_itself : (a : Op) → are_alike a a ≡ true
 alike_itself a = (alike_test a a).1 refl

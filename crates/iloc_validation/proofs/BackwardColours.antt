@@ -1,12 +1,11 @@
 -- A pass backwards keeps colours: what reads operations reads those that they are paired with too, at the same use.
-use Rattle.std.proofs.Common.{◌≡◌, ◌<◌, ◌≤◌, ℕ, zero, suc, ◌+◌, ◌-◌, ◌==◌, true, false, cond, List, length, Option, Some, None, option_map, refl, sym, ap, ap₂, ◌∙◌, subst, arith, eq-eqb, inl, inr}
+use Rattle.std.proofs.Common.{◌≡◌, ◌<◌, ◌≤◌, ℕ, zero, suc, ◌+◌, ◌-◌, List, length, Option, Some, None, option_map, refl, sym, ap, ap₂, ◌∙◌, subst, arith, eq-eqb, inl, inr}
 use Rattle.std.specs.Prelude.{slice_index, IfSome, ◌%◌, ◌^◌}
 use Rattle.std.specs.List.{range_with_len}
 use Rattle.std.proofs.lemmas.Bool.{cases_eq, ne_eqb}
 use Rattle.std.proofs.lemmas.List.Sums.{sum_by-cons}
 use Rattle.std.proofs.Math.Nat.{mod-add-mod, add_comm}
 use Rattle.iloc_validation.specs.declared.reading.sources.Sources.{Sources}
-use Rattle.iloc_validation.specs.declared.reading.sources.Sources.TheVariants.{Nothing, One, Two}
 use Rattle.iloc_validation.specs.Steps.Colours.{mixed, said, heard_of, heard, IsBelow, AreBelow, AreBackwards, ReadAlike, HaveColours}
 use Rattle.iloc_validation.specs.Steps.Sources.{by_numbers}
 use Rattle.iloc_validation.specs.Readings.{sources_at}
@@ -15,25 +14,15 @@ use Rattle.iloc_validation.proofs.ColourSums.{ranges_paired}
 -- nothing is heard of what isn't read
 
 said_none : (v s n : ℕ) (o : Option ℕ) → IfSome o (λ j. j < n) → n ≤ s → said v s o ≡ 0
-said_none v s n None below past = refl
-said_none v s n (Some j) below past =
-    let under : j < n = below in
-    ap (λ b. cond {A = ℕ} b v 0) (ne_eqb s j (λ same. omega arith))
+said_none v s n o below past = grind (arith, ne_eqb)
 
 heard_of_none : (c s n : ℕ) (src : Sources) → IsBelow n src → n ≤ s → heard_of c s src ≡ 0
-heard_of_none c s n Nothing below past = refl
-heard_of_none c s n (One only) below past = said_none (mixed c 1) s n only below past
-heard_of_none c s n (Two left right) below past =
-    let one : said (mixed c 1) s left ≡ 0 = said_none (mixed c 1) s n left below.0 past in
-    let two : said (mixed c 2) s right ≡ 0 = said_none (mixed c 2) s n right below.1 past in
-    omega (arith, one, two)
+heard_of_none c s n src below past = grind (arith, said_none)
 
 -- so only those behind it count
 behind : (colour : ℕ → ℕ) (sources : List Sources) → AreBelow sources → (s n u m : ℕ) → u ≤ s + 1 → s + 1 + n ≡ u + m
     → u + m ≤ length sources → heard colour sources s u m ≡ heard colour sources s (s + 1) n
-behind colour sources below s n u zero early all within =
-    let none : n ≡ 0 = omega arith in
-    ap (heard colour sources s (s + 1)) (sym none)
+behind colour sources below s n u zero early all within = grind arith
 behind colour sources below s n u (suc m) early all within = elim (cases_eq u (s + 1)) [
   | inl same ↦ let many : n ≡ suc m = omega arith in ap₂ (heard colour sources s) same (sym many)
   | inr apart ↦
@@ -51,17 +40,7 @@ module _ (to : ℕ → ℕ) (v w p : ℕ) where
   -- a use of one operation is one of that which it is paired with
   said_paired : (n : ℕ) (o : Option ℕ) → IfSome o (λ j. j < n) → ((j : ℕ) → j < n → to p ≡ to j → p ≡ j)
       → (o ≡ Some p → v ≡ w) → said v p o ≡ said w (to p) (option_map to o)
-  said_paired n None below apart same = refl
-  said_paired n (Some j) below apart same = elim (cases_eq p j) [
-    | inl here ↦
-        let test : (p == j) ≡ true = eq-eqb p j here in
-        let test_too : (to p == to j) ≡ true = eq-eqb (to p) (to j) (ap to here) in
-        rw (test, test_too) (same (ap Some (sym here)))
-    | inr other ↦
-        let test : (p == j) ≡ false = ne_eqb p j other in
-        let test_too : (to p == to j) ≡ false = ne_eqb (to p) (to j) (λ one. other (apart j below one)) in
-        rw (test, test_too) refl
-  ]
+  said_paired n o below apart same = grind (arith, cases_eq, eq-eqb, ne_eqb)
 
 -- what an operation hears of a reader, the one that it is paired with hears of that which the reader is paired with
 module _ (to : ℕ → ℕ) (c d p u q : ℕ) (apart : (j : ℕ) → j < u → to p ≡ to j → p ≡ j) (same : to p < q → c ≡ d) where
@@ -71,13 +50,7 @@ module _ (to : ℕ → ℕ) (c d p u q : ℕ) (apart : (j : ℕ) → j < u → t
 
   heard_of_paired : (src : Sources) → IsBelow u src → IsBelow q (by_numbers to src)
       → heard_of c p src ≡ heard_of d (to p) (by_numbers to src)
-  heard_of_paired Nothing below below_too = refl
-  heard_of_paired (One only) below below_too =
-      said_paired to (mixed c 1) (mixed d 1) p u only below apart (λ is. ap (λ x. mixed x 1) (same (read only below_too is)))
-  heard_of_paired (Two left right) below below_too =
-      ap₂ ◌+◌
-      (said_paired to (mixed c 1) (mixed d 1) p u left below.0 apart (λ is. ap (λ x. mixed x 1) (same (read left below_too.0 is))))
-      (said_paired to (mixed c 2) (mixed d 2) p u right below.1 apart (λ is. ap (λ x. mixed x 2) (same (read right below_too.1 is))))
+  heard_of_paired src below below_too = grind (arith, read, said_paired)
 
 module _ (here there : List Sources) (to from : ℕ → ℕ) (alike : ReadAlike here there to from) (below : AreBelow here)
     (below_too : AreBelow there) (old new old' new' : List ℕ) (made : AreBackwards here old new)

@@ -1,5 +1,5 @@
 -- How many operations are like one, and like it so far.
-use Rattle.std.proofs.Common.{◌≡◌, ◌<◌, ◌≤◌, ℕ, suc, ◌+◌, Bool, true, false, cond, List, [], ◌∷◌, length, take, get_or, refl, sym, ap, ◌∙◌, subst, arith}
+use Rattle.std.proofs.Common.{◌≡◌, ◌<◌, ◌≤◌, ℕ, suc, ◌+◌, Bool, true, false, cond, List, [], ◌∷◌, length, take, get_or, refl, sym, ap, ◌∙◌, arith}
 use Rattle.std.specs.Prelude.{count_by}
 use Rattle.std.proofs.lemmas.List.Sums.{count_by_more_yes, count_by_more_no, sum_by_more_le, sum_by-cons}
 use Rattle.iloc_ops.specs.declared.op.Op.{Op}
@@ -10,10 +10,7 @@ use Rattle.iloc_validation.specs.Counts.{are_alike, count_like}
 -- one that passes is counted
 pub counted : {X : Type 0} → (p : X → Bool) (xs : List X) (i : ℕ) (d : X) → i < length xs → p (get_or xs i d) ≡ true
     → count_by p (take i xs) + 1 ≤ count_by p xs
-counted p xs i d within passes =
-    let one : cond {A = ℕ} (p (get_or xs i d)) 1 0 ≡ 1 = ap (λ b. cond {A = ℕ} b 1 0) passes in
-    let all = sum_by_more_le (λ x. cond {A = ℕ} (p x) 1 0) xs i d within in
-    subst (λ n. count_by p (take i xs) + n ≤ count_by p xs) one all
+counted p xs i d within passes = grind (arith, sum_by_more_le)
 
 -- lists that pass the same tests at the same places count the same
 pub counts_same : {X Y : Type 0} → (p : X → Bool) (q : Y → Bool) (xs : List X) (ys : List Y) (d : X) (e : Y)

@@ -1,5 +1,5 @@
 -- From which cycle on memory and outputs let an operation be issued: it waits for what it has to wait for, and for no more.
-use Rattle.std.proofs.Common.{◌≡◌, ◌<◌, ◌≤◌, ℕ, zero, suc, ◌+◌, List, map, inl, inr, refl, sym, ap, ◌∙◌, subst, arith, add-one}
+use Rattle.std.proofs.Common.{◌≡◌, ◌<◌, ◌≤◌, ℕ, zero, suc, ◌+◌, List, map, inl, inr, refl, subst, arith, add-one}
 use Rattle.std.specs.Prelude.{max, fold}
 use Rattle.std.proofs.lemmas.Bool.{cases_eq}
 use Rattle.iloc_ops.specs.declared.op.Op.{Op}
@@ -44,26 +44,10 @@ module _ (lat : Latencies) (block : List Op) (cycle : ℕ → ℕ) where
       → ((i d : ℕ) → i < j → In (memory_by lat (kind (op_at block i)) k) d → cycle i + d ≤ c)
       → earliest lat block cycle j k ≤ c
   waits_no_more zero k c each = omega arith
-  waits_no_more (suc j) k c each =
-      elim (fold_max_reached (earliest lat block cycle j k)
-      (map (λ e. cycle j + e) (memory_by lat (kind (op_at block j)) k))) [
-        | inl before ↦
-            let rest : earliest lat block cycle j k ≤ c =
-            waits_no_more j k c (λ i d earlier there. each i d (omega arith) there) in
-            rw before rest
-        | inr here ↦
-            let one = from_map (λ e. cycle j + e) (memory_by lat (kind (op_at block j)) k)
-            (earliest lat block cycle (suc j) k) here in
-            let most : cycle j + one.0 ≤ c = each j one.0 (omega arith) one.1 in
-            subst (λ n. n ≤ c) one.2 most
-      ]
+  waits_no_more (suc j) k c each = grind (arith, fold_max_reached, from_map, waits_no_more j k c (λ i d earlier there. each i d (omega arith) there))
 
   -- one operation more
   pub noted_next : (i n : ℕ) (a : Kind) (waits waits' : Waits) → a ≡ kind (op_at block i) → n ≡ cycle i
       → ((k : Kind) → wait_of waits k ≡ earliest lat block cycle i k) → waits' ≡ noted lat a n waits → (k : Kind)
       → wait_of waits' k ≡ earliest lat block cycle (i + 1) k
-  noted_next i n a waits waits' is at so_far more k =
-      let here : fold max (wait_of waits k) (map (λ d. n + d) (memory_by lat a k)) ≡ earliest lat block cycle (suc i) k =
-      rw (so_far k, is, at) refl in
-      ap (λ w. wait_of w k) more ∙ wait_of-noted lat a n waits k ∙ here
-      ∙ ap (λ m. earliest lat block cycle m k) (sym (add-one i))
+  noted_next i n a waits waits' is at so_far more k = grind (arith, add-one, wait_of-noted)

@@ -1,10 +1,9 @@
 -- Lists of numbers that differ, led one to one into others, are no longer than those; and numbers that are counted.
 use Rattle.std.proofs.Common.{◌≡◌, ◌<◌, ◌≤◌, ℕ, zero, suc, ◌+◌, ◌==◌, Bool, cond, if◌then◌else◌, List, [], ◌∷◌, ◌++◌, length, inl, inr, refl, sym, ap, ◌∙◌, arith, eq-eqb, ne_eqb}
-use Rattle.std.specs.Prelude.{count_by, option_to_list}
+use Rattle.std.specs.Prelude.{count_by}
 use Rattle.std.proofs.lemmas.Bool.{cases_eq, cases_lt}
 use Rattle.std.proofs.lemmas.List.Sums.{sum_by-append, sum_by-cons}
 use Rattle.iloc_timed.specs.declared.row.Row.{Row}
-use Rattle.iloc_timed.specs.Rows.{row_at}
 use Rattle.iloc_sched.specs.Steps.Members.{In}
 use Rattle.iloc_sched.proofs.Basics.Members.{from_append, in_left, in_right}
 use Rattle.iloc_sched.proofs.Basics.Ordered.{Ordered, ordered_append}
@@ -47,13 +46,12 @@ pub fewer : (xs ys : List ℕ) (f : ℕ → ℕ) → Ordered Apart xs → ((x : 
     → ((x y : ℕ) → In xs x → In xs y → f x ≡ f y → x ≡ y) → length xs ≤ length ys
 fewer [] ys f apart each one = omega arith
 fewer (x ∷ xs) ys f apart each one =
-    let gone : length ys ≡ suc (length (without (f x) ys)) = length-without (f x) ys (each x (inl refl)) in
-    let rest : length xs ≤ length (without (f x) ys) =
-    fewer xs (without (f x) ys) f apart.1
-    (λ z there. in_without (f x) ys (f z) (each z (inr there))
-    (λ same. apart.0 z there (one x z (inl refl) (inr there) (sym same))))
-    (λ a b there there_too same. one a b (inr there) (inr there_too) same) in
-    omega arith
+    grind (
+      arith,
+      in_without,
+      length-without,
+      fewer xs (without (f x) ys) f apart.1 (λ z there. in_without (f x) ys (f z) (each z (inr there)) (λ same. apart.0 z there (one x z (inl refl) (inr there) (sym same)))) (λ a b there there_too same. one a b (inr there) (inr there_too) same),
+    )
 
 -- Numbers below a number
 
@@ -73,10 +71,7 @@ in_below (suc n) k less = elim (cases_lt k n) [
 
 pub below_apart : (n : ℕ) → Ordered Apart (numbers_below n)
 below_apart zero = tt
-below_apart (suc n) = ordered_append Apart (numbers_below n) (n ∷ []) (below_apart n) ((λ y there. absurd there), tt)
-    (λ x y before last same.
-    let less : x < n = below_from n x before in
-    elim last [ inl here ↦ let is : n ≡ y = here in absurd (omega arith) | inr none ↦ absurd none ])
+below_apart (suc n) = grind (arith, below_from, ordered_append, below_apart n)
 
 -- Counts
 
@@ -84,21 +79,10 @@ pub count_append : (p : ℕ → Bool) (xs ys : List ℕ) → count_by p (xs ++ y
 count_append p xs ys = sum_by-append (λ x. cond {A = ℕ} (p x) 1 0) xs ys
 
 pub count_single : (p : ℕ → Bool) (k : ℕ) → count_by p (k ∷ []) ≡ cond (p k) 1 0
-count_single p k =
-    let one : count_by p (k ∷ []) ≡ cond (p k) 1 0 + count_by p [] = sum_by-cons (λ x. cond {A = ℕ} (p x) 1 0) k [] in
-    omega (arith, one)
+count_single p k = grind (arith, sum_by-cons)
 
 -- the order of issue counts as that which begins with the latest
 pub count_issued : (p : ℕ → Bool) (rows : List Row) (c : ℕ)
     → count_by p (issued_before rows c) ≡ count_by p (numbers_before rows c)
 count_issued p rows zero = refl
-count_issued p rows (suc c) =
-    let row : Row = row_at rows c in
-    let first : List ℕ = option_to_list (row_at rows c).zero in
-    let second : List ℕ = option_to_list (row_at rows c).one in
-    let left = count_append p (issued_before rows c) (first ++ second) in
-    let left_too = count_append p first second in
-    let right = count_append p (second ++ first) (numbers_before rows c) in
-    let right_too = count_append p second first in
-    let before = count_issued p rows c in
-    left ∙ omega (arith, left_too, right, right_too, before)
+count_issued p rows (suc c) = grind (arith, count_append, count_issued p rows c)

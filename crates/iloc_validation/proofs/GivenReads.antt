@@ -44,11 +44,7 @@ used_new block i below = ap used (renamed_op_at block (numbering block) i below)
 -- what defines the name of a source is that source
 pub named_source : (block : List Op) (i j : ℕ) (r : Reg) → i < length block → In (used (op_at block i)) r → j < length block
     → defined (op_at (new block) j) ≡ Some (name_at block i r) → source block i r ≡ Result j
-named_source block i j r below uses within defines =
-    let found = named_defined (defined (op_at block j)) (name_of (numbering block) (Result j)) (name_at block i r)
-    (sym (defined_at block j within) ∙ defines) in
-    name_apart (numbering block) (source block i r) (Result j) (use_numbered block i r below uses)
-    (definition_numbered block j found.0 within found.1) (sym found.2)
+named_source block i j r below uses within defines = grind (arith, defined_at, definition_numbered, name_apart, named_defined, use_numbered)
 
 registers : (d : Option Reg) (r : Reg) → is_register r d ≡ true → (q : Reg) × (d ≡ Some q)
 registers None r is = absurd cc
@@ -68,13 +64,7 @@ source_defines block (suc i) j r is =
 -- a source defines its name
 pub source_named : (block : List Op) (i j : ℕ) (r : Reg) → i < length block → source block i r ≡ Result j
     → defined (op_at (new block) j) ≡ Some (name_at block i r)
-source_named block i j r below is =
-    let earlier : j < i = source_earlier block i j r is in
-    let within : j < length block = omega arith in
-    let found = source_defines block i j r is in
-    defined_at block j within
-    ∙ ap (option_map (λ (q : Reg). name_of (numbering block) (Result j))) found.1
-    ∙ ap (λ s. Some (name_of (numbering block) s)) (sym is)
+source_named block i j r below is = grind (arith, defined_at, option_map, source_defines, source_earlier)
 
 module _ (lat : Latencies) (block : List Op) (rows : List Row) (renamed : IsRenamed (new block))
     (table : IsTable (new block) rows) (waits : Waits lat (new block) rows) where

@@ -1,5 +1,5 @@
 -- What a table issues, by numbers: each operation once, with what it reads then.
-use Rattle.std.proofs.Common.{◌≡◌, ℕ, zero, suc, List, ℤ, ◌++◌, map, Option, inl, inr, refl, ap, sym, ◌∙◌, option_to_list}
+use Rattle.std.proofs.Common.{◌≡◌, ℕ, zero, suc, List, ℤ, ◌++◌, map, Option, inl, inr, refl, ap, sym, option_to_list, arith}
 use Rattle.std.proofs.lemmas.List.{map-append}
 use Rattle.iloc_ops.specs.declared.op.Op.{Op}
 use Rattle.iloc_meaning.specs.Trace.{op_at}
@@ -28,20 +28,11 @@ issued_here lat ops rows memory c k at =
 pub log_is : (lat : Latencies) (ops : List Op) (rows : List Row) (memory : List ℤ) (table : IsTable ops rows) (c : ℕ)
     → timed.issued_before lat memory ops rows c ≡ map (issued_at lat ops rows memory) (numbers_before rows c)
 log_is lat ops rows memory table zero = refl
-log_is lat ops rows memory table (suc c) =
-    ap (λ es. es ++ timed.issued_before lat memory ops rows c)
-    (map_same (λ k. issue lat memory c (timed.issued_before lat memory ops rows c) (op_at ops k))
-    (issued_at lat ops rows memory) (slots (row_at rows c))
-    (λ k there. issued_here lat ops rows memory c k (cycle_is ops rows table c k there)))
-    ∙ ap (λ es. map (issued_at lat ops rows memory) (slots (row_at rows c)) ++ es) (log_is lat ops rows memory table c)
-    ∙ sym (map-append (issued_at lat ops rows memory) (slots (row_at rows c)) (numbers_before rows c))
+log_is lat ops rows memory table (suc c) = grind (arith, cycle_is, issued_at, issued_here, map-append, map_same, log_is lat ops rows memory table c)
 
 in_row : (a b : Option ℕ) (k : ℕ) → In (option_to_list a ++ option_to_list b) k
     → In (option_to_list b ++ option_to_list a) k
-in_row a b k there = elim (from_append (option_to_list a) (option_to_list b) k there) [
-  | inl first ↦ in_right (option_to_list b) (option_to_list a) k first
-  | inr second ↦ in_left (option_to_list b) (option_to_list a) k second
-]
+in_row a b k there = grind (arith, from_append, in_left, in_right, option_to_list)
 
 -- the order of issue names the same operations as that which begins with the latest
 pub numbers_from_issued : (rows : List Row) (c k : ℕ) → In (issued_before rows c) k → In (numbers_before rows c) k

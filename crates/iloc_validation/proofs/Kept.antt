@@ -46,17 +46,11 @@ module _ (lat : Latencies) (block : List Op) (givens : List Sources) (schedule :
   issued_at k here = ap (λ (r : Reading). r.cycle) (sides.each_reading k here)
 
   pub issued_early : (k : ℕ) → k < length readings → (reading_at readings k).cycle ≤ MAX_ROWS
-  issued_early k here =
-      let inside : k < length ops = omega (arith, sides.reading_count) in
-      let row : issue_cycle schedule.rows k < length schedule.rows = issued_within ops schedule.rows sides.table k inside in
-      let few : length schedule.rows ≤ MAX_ROWS = sides.few in
-      rw issued_at (omega arith)
+  issued_early k here = grind (arith, issued_at, issued_within)
 
   reads_at : (k : ℕ) → k < length ops → by_numbers origin (reading_at readings k).sources
       ≡ sources_of (λ r. option_map origin (read lat ops schedule.rows (issue_cycle schedule.rows k) r)) (used (op_at ops k))
-  reads_at k here =
-      ap (λ (r : Reading). by_numbers origin r.sources) (sides.each_reading k here)
-      ∙ by_numbers_of origin (read lat ops schedule.rows (issue_cycle schedule.rows k)) (used (op_at ops k))
+  reads_at k here = grind (arith, by_numbers_of)
 
   module _ (waits : List ℕ) (each_wait : (i : ℕ) → i < length block
       → slice_index waits i ≡ earliest lat block cycle i (kind (op_at block i))) where

@@ -1,22 +1,18 @@
 -- Colours by the order of issue, and those of operations: what a pairing keeps of the ones it keeps of the others.
-use Rattle.std.proofs.Common.{◌≡◌, ◌<◌, ℕ, List, [], ◌∷◌, length, Option, Some, None, option_map, refl, sym, ap, ap₂, ◌∙◌, arith}
+use Rattle.std.proofs.Common.{◌≡◌, ◌<◌, ℕ, List, length, Option, Some, None, option_map, refl, sym, ap, ◌∙◌, arith}
 use Rattle.std.specs.Prelude.{slice_index, IfSome}
 use Rattle.iloc_ops.specs.declared.op.Reg.{Reg}
 use Rattle.iloc_ops.specs.declared.op.Op.{Op}
-use Rattle.iloc_ops.specs.Registers.{used}
-use Rattle.iloc_meaning.specs.Trace.{op_at}
 use Rattle.iloc_timed.specs.declared.latencies.Latencies.{Latencies}
-use Rattle.iloc_timed.specs.Rows.{issue_cycle}
 use Rattle.iloc_timed.specs.Schedule.{Table}
-use Rattle.iloc_sched.specs.Renaming.{Source, source}
+use Rattle.iloc_sched.specs.Renaming.{Source}
 use Rattle.iloc_sched.specs.Renaming.Source.{Start, Result}
 use Rattle.iloc_sched.proofs.Renamed.MentionedSources.{source_earlier}
 use Rattle.iloc_validation.specs.declared.colours.Coloured.{Coloured}
 use Rattle.iloc_validation.specs.declared.colours.issue_order.IssueOrder.{IssueOrder}
 use Rattle.iloc_validation.specs.declared.reading.Reading.{Reading}
 use Rattle.iloc_validation.specs.declared.reading.sources.Sources.{Sources}
-use Rattle.iloc_validation.specs.declared.reading.sources.Sources.TheVariants.{Nothing, One, Two}
-use Rattle.iloc_validation.specs.ByTheBook.{read, given, result_in, IsScheduleUnder}
+use Rattle.iloc_validation.specs.ByTheBook.{result_in, IsScheduleUnder}
 use Rattle.iloc_validation.specs.Steps.Colours.{AreKept, IsBelow, AreBelow, ReadAlike, HaveColours, ArePassed, ArePassedTo, IsOrderOf, AreColoured}
 use Rattle.iloc_validation.specs.Readings.{reading_at, sources_of, sources_at}
 use Rattle.iloc_validation.specs.Steps.Sides.{AreSides}
@@ -25,9 +21,7 @@ use Rattle.iloc_validation.proofs.Renumbered.{mapped_twice}
 use Rattle.iloc_validation.proofs.SourceLists.{by_numbers_of, sources_from_lists}
 
 by_numbers_twice : (f g : ℕ → ℕ) (s : Sources) → by_numbers f (by_numbers g s) ≡ by_numbers (λ k. f (g k)) s
-by_numbers_twice f g Nothing = refl
-by_numbers_twice f g (One only) = ap One (mapped_twice f g only)
-by_numbers_twice f g (Two left right) = ap₂ Two (mapped_twice f g left) (mapped_twice f g right)
+by_numbers_twice f g s = grind (arith, mapped_twice)
 
 -- what an operation of a block reads stands before it
 
@@ -36,17 +30,12 @@ result_before i (Start r) earlier = tt
 result_before i (Result j) earlier = earlier j refl
 
 below_of : (i : ℕ) (f : Reg → Option ℕ) → ((r : Reg) → IfSome (f r) (λ j. j < i)) → (rs : List Reg) → IsBelow i (sources_of f rs)
-below_of i f before [] = tt
-below_of i f before (r ∷ []) = before r
-below_of i f before (r ∷ s ∷ rest) = (before r, before s)
+below_of i f before rs = grind arith
 
 module _ (lat : Latencies) (block : List Op) (givens : List Sources) (schedule : Table) (readings : List Reading)
     (sides : AreSides lat block givens schedule readings) (order : IssueOrder) (is : IsOrderOf readings order) where
   below_given : AreBelow givens
-  below_given i within =
-      let inside : i < length block = rw sides.given_count at within in
-      rw (sides.each_given i inside)
-      (below_of i (given block i) (λ r. result_before i (source block i r) (λ j. source_earlier block i j r)) (used (op_at block i)))
+  below_given = grind (arith, below_of, result_before, source_earlier)
 
   below_read : AreBelow order.sources.items
   below_read p within = (is.each p (rw is.size at within)).below
@@ -59,27 +48,15 @@ module _ (lat : Latencies) (block : List Op) (givens : List Sources) (schedule :
     from i = slice_index order.places.items (partner i)
 
     known : (p : ℕ) → p < length order.ops.items → slice_index order.ops.items p < length schedule.ops
-    known p within =
-        let all : length order.places.items ≡ length readings = is.all in
-        let size : length readings ≡ length schedule.ops = sides.reading_count in
-        let there : slice_index order.ops.items p < length order.places.items = (is.leads p within).0 in
-        omega arith
+    known p within = grind arith
 
     placed : (k : ℕ) → k < length schedule.ops → (slice_index order.places.items k < length order.ops.items)
         × (slice_index order.ops.items (slice_index order.places.items k) ≡ k)
-    placed k within =
-        let all : length order.places.items ≡ length readings = is.all in
-        let size : length readings ≡ length schedule.ops = sides.reading_count in
-        is.returns k (omega arith)
+    placed k within = grind arith
 
     reads_alike : (k : ℕ) → k < length schedule.ops
         → by_numbers origin (reading_at readings k).sources ≡ sources_at givens (origin k)
-    reads_alike k here =
-        ap (λ (r : Reading). by_numbers origin r.sources) (sides.each_reading k here)
-        ∙ by_numbers_of origin (read lat schedule.ops schedule.rows (issue_cycle schedule.rows k)) (used (op_at schedule.ops k))
-        ∙ sources_from_lists (λ r. option_map origin (read lat schedule.ops schedule.rows (issue_cycle schedule.rows k) r))
-        (given block (origin k)) (used (op_at schedule.ops k)) (used (op_at block (origin k))) (under.reads k here)
-        ∙ sym (sides.each_given (origin k) (under.paired.there k here))
+    reads_alike k here = grind (arith, by_numbers_of, option_map, sources_from_lists)
 
     alike : ReadAlike givens order.sources.items to from
     alike = record {
@@ -105,11 +82,7 @@ module _ (lat : Latencies) (block : List Op) (givens : List Sources) (schedule :
         (same : start.here.items ≡ here) (each : (p : ℕ) → p < length order.ops.items
         → slice_index start.there.items p ≡ slice_index there (slice_index order.ops.items p)) where
       first : HaveColours (length order.sources.items) to start.here.items start.there.items
-      first p within =
-          let inside : p < length order.ops.items = rw is.size at within in
-          each p inside
-          ∙ kept origin partner under (slice_index order.ops.items p) (known p inside)
-          ∙ ap (λ cs. slice_index cs (to p)) (sym same)
+      first = grind (arith, known)
 
       pub none_under : ArePassed givens order.sources.items start None → ⊥
       none_under none = none below_given below_read to from alike first

@@ -1,5 +1,5 @@
 -- What operations of one label have in common.
-use Rattle.std.proofs.Common.{◌≡◌, ℕ, ℤ, pos, List, map, get_or, refl, sym, ap, ◌∙◌}
+use Rattle.std.proofs.Common.{◌≡◌, ℕ, ℤ, pos, List, map, get_or, refl, arith}
 use Rattle.std.proofs.Math.Path.{fun_ext}
 use Rattle.iloc_ops.specs.declared.op.Reg.{Reg}
 use Rattle.iloc_ops.specs.declared.op.Op.{Op}
@@ -18,10 +18,7 @@ label-with_registers new own Nop = refl
 label-with_registers new own _ = refl
 
 pub same_kind : (a b : Op) → label a ≡ label b → kind a ≡ kind b
-same_kind a b same =
-    sym (kind-with_registers (λ r. record { 0 = 0 }) (record { 0 = 0 }) a)
-    ∙ ap kind same
-    ∙ kind-with_registers (λ r. record { 0 = 0 }) (record { 0 = 0 }) b
+same_kind a b same = grind (arith, kind-with_registers)
 
 abbrev reg : ℕ → Reg
 reg n = record { 0 = n }
@@ -63,10 +60,4 @@ effect_placed _ values word = refl
 pub same_effect : (a b : Op) (values values' : Reg → ℤ) (word word' : ℕ → ℤ) → label a ≡ label b
     → map values (used a) ≡ map values' (used b) → ((x : ℕ) → word x ≡ word' x)
     → effect a values word ≡ effect b values' word'
-same_effect a b values values' word word' same reads words =
-    let one : placed a ≡ placed b = sym (placed_label a) ∙ ap placed same ∙ placed_label b in
-    effect_placed a values word
-    ∙ ap (λ op. effect op (in_place (map values (used a))) word) one
-    ∙ ap (λ (vs : List ℤ). effect (placed b) (in_place vs) word) reads
-    ∙ ap (λ (w : ℕ → ℤ). effect (placed b) (in_place (map values' (used b))) w) (fun_ext words)
-    ∙ sym (effect_placed b values' word')
+same_effect a b values values' word word' same reads words = grind (arith, effect_placed, fun_ext, placed_label)

@@ -19,7 +19,7 @@ use Rattle.iloc_sched.proofs.DelayPairs.WaitedFor.{Waits}
 use Rattle.iloc_sched.proofs.Renamed.MentionedSources.{renamed_op_at, length-renamed_by}
 use Rattle.iloc_sched.proofs.Renamed.OneMoreOperation.{map_same}
 use Rattle.iloc_sched.proofs.Renamed.RenamedBlocks.{renamed_is_renamed}
-use Rattle.iloc_validation.specs.ByTheBook.{label, read, given, ArePaired, IsScheduleUnder, IsByTheBook}
+use Rattle.iloc_validation.specs.ByTheBook.{read, given, ArePaired, IsScheduleUnder, IsByTheBook}
 use Rattle.iloc_validation.proofs.Labels.{kind-with_registers, label-with_registers}
 use Rattle.iloc_validation.proofs.GivenReads.{new, name_at, used_new, read_is_given}
 use Rattle.iloc_validation.specs.Steps.Waits.{memory_by}
@@ -36,15 +36,7 @@ module _ (lat : Latencies) (block : List Op) (rows : List Row) where
   own_kind i here = ap kind (renamed_op_at block (numbering block) i here) ∙ kind-with_registers _ _ (op_at block i)
 
   pub are_paired : ArePaired block (new block) (λ k. k) (λ i. i)
-  are_paired = record {
-    there = λ k here. omega (arith, size);
-    back = λ k here. refl;
-    there_too = λ i here. omega (arith, size);
-    back_too = λ i here. refl;
-    labels = λ k here.
-        ap label (renamed_op_at block (numbering block) k (omega (arith, size)))
-        ∙ label-with_registers _ _ (op_at block k);
-  }
+  are_paired = grind (arith, label-with_registers, renamed_op_at, size)
 
   pub under_itself : IsRenamed (new block) → IsTable (new block) rows → Waits lat (new block) rows
       → IsScheduleUnder lat block (new block) rows (λ k. k) (λ i. i)

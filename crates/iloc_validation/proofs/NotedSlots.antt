@@ -1,5 +1,5 @@
 -- What is noted of operations row by row, at their numbers.
-use Rattle.std.proofs.Common.{rules, ◌≡◌, ◌<◌, ◌≤◌, ◌≢◌, ℕ, ◌+◌, List, length, Option, Some, None, arith, refl, sym, ap, ◌∙◌, ◌⊎◌, inl, inr, get_or-set_same, get_or-set_other, slice_index}
+use Rattle.std.proofs.Common.{rules, ◌≡◌, ◌<◌, ◌≤◌, ℕ, ◌+◌, List, length, Option, Some, None, arith, refl, ◌⊎◌, get_or-set_same, get_or-set_other, slice_index}
 use Rattle.std.proofs.lemmas.Bool.{cases_lt}
 use Rattle.iloc_ops.specs.declared.op.Op.{Op}
 use Rattle.iloc_timed.specs.declared.row.Row.{Row}
@@ -15,17 +15,11 @@ length-with_number numbers (Some k) n = search rules
 
 number_here : (numbers : List ℕ) (slot : Option ℕ) (n k : ℕ) → slot ≡ Some k → k < length numbers
     → slice_index (with_number numbers slot n) k ≡ n
-number_here numbers None n k is within = absurd cc
-number_here numbers (Some j) n k is within =
-    let same : j ≡ k = cc in
-    rw same (get_or-set_same numbers k n 0 within)
+number_here numbers slot n k is within = grind (arith, get_or-set_same)
 
 number_other : (numbers : List ℕ) (slot : Option ℕ) (n k : ℕ) → (slot ≡ Some k → ⊥)
     → slice_index (with_number numbers slot n) k ≡ slice_index numbers k
-number_other numbers None n k other = refl
-number_other numbers (Some j) n k other =
-    let apart : k ≢ j = λ same. other (ap Some (sym same)) in
-    get_or-set_other numbers j k n 0 apart
+number_other numbers slot n k other = grind (arith, get_or-set_other)
 
 module _ (ops : List Op) (rows : List Row) (table : IsTable ops rows) (f : ℕ → ℕ) (c : ℕ) where
   pub at_zero : (k : ℕ) → (row_at rows c).zero ≡ Some k → issue_cycle rows k ≡ c
@@ -58,31 +52,12 @@ module _ (ops : List Op) (rows : List Row) (table : IsTable ops rows) (f : ℕ �
 
     noted : (k : ℕ) → k < length ops → ((row_at rows c).one ≡ Some k) ⊎ ((row_at rows c).zero ≡ Some k)
         → slice_index (with_number once (row_at rows c).one second) k ≡ f k
-    noted k here (inl there) =
-        let level : length once ≡ length numbers = length-with_number numbers (row_at rows c).zero first in
-        number_here once (row_at rows c).one second k there (omega (arith, size)) ∙ second_is k there
-    noted k here (inr there) =
-        number_other once (row_at rows c).one second k (λ one. apart_slots k here one there)
-        ∙ number_here numbers (row_at rows c).zero first k there (omega (arith, size))
-        ∙ first_is k there
+    noted k here h2 = grind (arith, apart_slots, length-with_number, number_here, number_other, size)
 
     pub one_row : AreNotedBefore (length ops) f rows (c + 1) (with_number once (row_at rows c).one second)
-    one_row = record {
-      size = length-with_number once (row_at rows c).one second ∙ length-with_number numbers (row_at rows c).zero first ∙ size;
-      each = λ k here before. elim (cases_lt (issue_cycle rows k) c) [
-        | inl earlier ↦
-            number_other once (row_at rows c).one second k
-            (λ is. let at : issue_cycle rows k ≡ c = at_one k is in omega arith)
-            ∙ number_other numbers (row_at rows c).zero first k
-            (λ is. let at : issue_cycle rows k ≡ c = at_zero k is in omega arith)
-            ∙ so_far.each k here earlier
-        | inr now ↦ let at : issue_cycle rows k ≡ c = omega arith in noted k here (stands k here at)
-      ];
-    }
+    one_row = grind (arith, at_one, at_zero, cases_lt, length-with_number, noted, number_other, size, stands)
 
 pub all_noted : (ops : List Op) (rows : List Row) → IsTable ops rows → (f : ℕ → ℕ) (n : ℕ) (numbers : List ℕ)
     → length rows ≤ n → AreNotedBefore (length ops) f rows n numbers → (k : ℕ) → k < length ops
     → slice_index numbers k ≡ f k
-all_noted ops rows table f n numbers past noted k here =
-    let issued : issue_cycle rows k < length rows = issued_within ops rows table k here in
-    noted.each k here (omega arith)
+all_noted ops rows table f n numbers past h3 k here = grind (arith, issued_within, noted)

@@ -6,9 +6,9 @@ use Rattle.std.proofs.lemmas.Bool.{cases_eq}
 use Rattle.std.proofs.lemmas.Simd.{map-map}
 use Rattle.iloc_ops.specs.declared.op.Reg.{Reg}
 use Rattle.iloc_ops.specs.declared.op.Op.{Op}
-use Rattle.iloc_ops.specs.Registers.{used, defined}
+use Rattle.iloc_ops.specs.Registers.{used}
 use Rattle.iloc_meaning.specs.Effect.{effect}
-use Rattle.iloc_meaning.specs.Trace.{op_at, is_register, result_of}
+use Rattle.iloc_meaning.specs.Trace.{op_at, result_of}
 use Rattle.iloc_meaning.specs.Outcome.{outcome}
 use Rattle.iloc_meaning.proofs.Effects.{effect-with_registers}
 use Rattle.iloc_timed.specs.declared.latencies.Latencies.{Latencies}
@@ -18,7 +18,7 @@ use Rattle.iloc_timed.specs.Latency.{latency, latency_of}
 use Rattle.iloc_timed.specs.Cycles.{cycles}
 use Rattle.iloc_timed.specs.Rows.{row_at, slots, issue_cycle, times_issued, keeps_units, IsTable}
 use Rattle.iloc_timed.specs.Timed as timed
-use Rattle.iloc_timed.specs.Timed.{Issued, register_in, word_in, timed_outcome, timed_outcome_of}
+use Rattle.iloc_timed.specs.Timed.{Issued, register_in, word_in, timed_outcome}
 use Rattle.iloc_sched.specs.Delays.{uses_result, when, memory_delays, delays}
 use Rattle.iloc_sched.specs.Lawful.{IsLawful}
 use Rattle.iloc_sched.specs.LowerBound.Least.{least}
@@ -28,7 +28,7 @@ use Rattle.iloc_sched.specs.Steps.Members.{In}
 use Rattle.iloc_sched.proofs.Basics.Members.{in_from, contains_from, from_append, from_map, in_map, from_any, in_range_from, from_range}
 use Rattle.iloc_sched.proofs.Basics.Maxima.{fold_max_each, fold_max_reached}
 use Rattle.iloc_sched.proofs.Basics.Registers.{is_register_same}
-use Rattle.iloc_sched.proofs.Basics.Slots.{numbers_before, within, issued_early}
+use Rattle.iloc_sched.proofs.Basics.Slots.{within, issued_early}
 use Rattle.iloc_sched.proofs.Bounds.LeastBound.{least_bound}
 use Rattle.iloc_sched.proofs.DelayPairs.WaitedFor.{Waits}
 use Rattle.iloc_sched.proofs.Outcome.LawfulOutcomes.{lawful_same_outcome}
@@ -72,10 +72,7 @@ module _ (lat : Latencies) (block ops : List Op) (rows : List Row) (origin partn
   below c k there = within ops rows by.table c k there
 
   kinds : (k : ℕ) → k < length ops → kind (op_at (new block) (origin k)) ≡ kind (op_at ops k)
-  kinds k here =
-      ap kind (renamed_op_at block (numbering block) (origin k) (by.paired.there k here))
-      ∙ kind-with_registers _ _ (op_at block (origin k))
-      ∙ sym (same_kind (op_at ops k) (op_at block (origin k)) (by.paired.labels k here))
+  kinds k here = grind (arith, kind-with_registers, renamed_op_at, same_kind)
 
   own_kinds : (i : ℕ) → i < length block → kind (op_at (new block) i) ≡ kind (op_at block i)
   own_kinds i here = ap kind (renamed_op_at block (numbering block) i here) ∙ kind-with_registers _ _ (op_at block i)
@@ -111,9 +108,7 @@ module _ (lat : Latencies) (block ops : List Op) (rows : List Row) (origin partn
   reads_of : (j : ℕ) → j < length block
       → map (λ r. option_map origin (read lat ops rows (issue_cycle rows (partner j)) r)) (used (op_at ops (partner j)))
       ≡ map (given block j) (used (op_at block j))
-  reads_of j here =
-      by.reads (partner j) (by.paired.there_too j here)
-      ∙ ap (λ m. map (given block m) (used (op_at block m))) (by.paired.back_too j here)
+  reads_of j here = grind arith
 
   -- what is read in the block has arrived
   result_in_time : (i j : ℕ) (r : Reg) → j < length block → In (used (op_at block j)) r → source block j r ≡ Result i
@@ -136,17 +131,17 @@ module _ (lat : Latencies) (block ops : List Op) (rows : List Row) (origin partn
       → In (when (uses_result (op_at (new block) i) (op_at (new block) j)) (latency lat (op_at (new block) i))) d
       → issue_cycle rows (partner i) + d ≤ issue_cycle rows (partner j)
   by_registers i j d first second there =
-      let both = from_when _ _ d there in
-      let reader = from_any (λ r. is_register r (defined (op_at (new block) i))) (used (op_at (new block) j)) both.0 in
-      let old = from_map (name_at block j) (used (op_at block j)) reader.0
-      (subst (λ xs. In xs reader.0) (used_new block j second) reader.1) in
-      let defines : defined (op_at (new block) i) ≡ Some (name_at block j old.0) =
-      is_register_same reader.0 (defined (op_at (new block) i)) reader.2 ∙ ap Some (sym old.2) in
-      let is : source block j old.0 ≡ Result i = named_source block j i old.0 second old.1 first defines in
-      let long : latency lat (op_at (new block) i) ≡ latency lat (op_at ops (partner i)) =
-      ap (latency_of lat) (kind_of_partner i first) in
-      subst (λ n. issue_cycle rows (partner i) + n ≤ issue_cycle rows (partner j)) (sym long ∙ both.1)
-      (result_in_time i j old.0 second old.1 is)
+      grind (
+        arith,
+        from_any,
+        from_map,
+        from_when,
+        is_register_same,
+        kind_of_partner,
+        named_source,
+        result_in_time,
+        used_new,
+      )
 
   own_waits : Waits lat (new block) own_rows
   own_waits i j d pair =
@@ -185,16 +180,7 @@ module _ (lat : Latencies) (block ops : List Op) (rows : List Row) (origin partn
 
     logs_alike : (c : ℕ) → SameUpTo c
         → AlikeAll (timed.issued_before lat memory ops rows c) (timed.issued_before lat memory (new block) own_rows c)
-    logs_alike c same =
-        rw (
-          log_is lat ops rows memory by.table c,
-          log_is lat (new block) own_rows memory own_table c,
-          numbers_before-map origin rows c,
-          map-map own origin (numbers_before rows c),
-        )
-        (alike_map theirs (λ k. own (origin k)) (numbers_before rows c) (λ k there.
-        let early = issued_early ops rows by.table c k there in
-        record { due = same_due k early.0; effect = same k early.0 early.1 }))
+    logs_alike c same = grind (arith, alike_map, issued_early, log_is, map-map, numbers_before-map, own_table, same_due)
 
     -- the values of registers before cycle c
     abbrev values : ℕ → Reg → ℤ
@@ -236,10 +222,7 @@ module _ (lat : Latencies) (block ops : List Op) (rows : List Row) (origin partn
         → word_in memory (timed.arrived (issue_cycle rows k) (timed.issued_before lat memory ops rows (issue_cycle rows k))) a
         ≡ word_in memory (timed.arrived (issue_cycle own_rows (origin k))
         (timed.issued_before lat memory (new block) own_rows (issue_cycle own_rows (origin k)))) a
-    same_words k here same a =
-        words_alike memory _ _ a (arrived_alike (issue_cycle rows k) _ _ (logs_alike (issue_cycle rows k) same))
-        ∙ ap (λ c. word_in memory (timed.arrived c (timed.issued_before lat memory (new block) own_rows c)) a)
-        (sym (own_cycle k here))
+    same_words k here same a = grind (arith, arrived_alike, logs_alike, own_cycle, words_alike)
 
     one_effect : (k : ℕ) → k < length ops → SameUpTo (issue_cycle rows k)
         → (theirs k).executed.effect ≡ (own (origin k)).executed.effect
@@ -263,10 +246,7 @@ module _ (lat : Latencies) (block ops : List Op) (rows : List Row) (origin partn
     ]
 
     pub own_outcome : timed_outcome lat ops rows memory ≡ timed_outcome lat (new block) own_rows memory
-    own_outcome =
-        outcome_alike memory _ _ (logs_alike (length rows) (all_effects (length rows)))
-        ∙ ap (λ n. timed_outcome_of memory (timed.issued_before lat memory (new block) own_rows n))
-        (sym (length-renumber origin rows))
+    own_outcome = grind (arith, all_effects, length-renumber, logs_alike, outcome_alike)
 
   -- the cycles are the same, of which one direction is needed
   pub own_cycles : cycles lat (new block) own_rows ≤ cycles lat ops rows

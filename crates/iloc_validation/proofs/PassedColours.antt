@@ -1,12 +1,11 @@
 -- Where a pairing keeps colours, a pass keeps them, and their sums are one.
-use Rattle.std.proofs.Common.{◌≡◌, ℕ, ◌%◌, ◌^◌, List, length, Option, Some, None, ap, ◌<◌, zero, suc, option_map, refl, sym, ap₂, ◌∙◌, subst, arith}
+use Rattle.std.proofs.Common.{◌≡◌, ℕ, ◌%◌, ◌^◌, List, length, Option, Some, None, ap, ◌<◌, zero, suc, option_map, refl, sym, ◌∙◌, subst, arith}
 use Rattle.std.specs.Prelude.{sum_by, slice_index, IfSome}
 use Rattle.iloc_validation.specs.declared.colours.Coloured.{Coloured}
 use Rattle.iloc_validation.specs.declared.reading.sources.Sources.{Sources}
 use Rattle.iloc_validation.specs.Steps.Colours.{mixed, AreForwards, AreBackwards, ReadAlike, HaveColours, ArePassed, ArePassedTo, told, with_told, IsBelow, AreBelow}
 use Rattle.iloc_validation.proofs.ColourSums.{values_paired}
 use Rattle.iloc_validation.proofs.BackwardColours.{backwards_keep}
-use Rattle.iloc_validation.specs.declared.reading.sources.Sources.TheVariants.{Nothing, One, Two}
 use Rattle.iloc_validation.specs.Steps.Sources.{by_numbers}
 use Rattle.iloc_validation.specs.Readings.{sources_at}
 
@@ -20,10 +19,7 @@ module _ (f g : ℕ → ℕ) where
 
     with_told_paired : (c : ℕ) (s : Sources) → IsBelow p s → IsBelow q (by_numbers to s)
         → with_told f c s ≡ with_told g c (by_numbers to s)
-    with_told_paired c Nothing below below_too = refl
-    with_told_paired c (One only) below below_too = ap (mixed c) (told_paired only below below_too)
-    with_told_paired c (Two left right) below below_too =
-        ap₂ (λ x y. mixed (mixed c x) y) (told_paired left below.0 below_too.0) (told_paired right below.1 below_too.1)
+    with_told_paired c s below below_too = grind (arith, told_paired)
 
 module _ (here there : List Sources) (to from : ℕ → ℕ) (alike : ReadAlike here there to from) (below : AreBelow here)
     (below_too : AreBelow there) (old new old' new' : List ℕ) (made : AreForwards here old new)
@@ -64,12 +60,7 @@ module _ (here there : List Sources) where
       → ArePassed here there next last → ArePassed here there old last
   then_passed old next None first more = λ below below_too to from alike kept.
       more below below_too to from alike (first.kept below below_too to from alike kept)
-  then_passed old next (Some last) first more = record {
-    here_size = more.here_size;
-    there_size = more.there_size;
-    kept = λ below below_too to from alike kept.
-        more.kept below below_too to from alike (first.kept below below_too to from alike kept);
-  }
+  then_passed old next (Some last) first more = grind arith
 
   -- where the sums differ, no pairing keeps the colours
   pub differing : (old : Coloured) → length old.here.items ≡ length here → length old.there.items ≡ length there

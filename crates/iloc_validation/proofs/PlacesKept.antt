@@ -1,13 +1,12 @@
 -- Every pairing keeps the places of loads, stores and outputs, and so the first colours.
-use Rattle.std.proofs.Common.{◌≡◌, ◌<◌, ◌≤◌, ℕ, suc, ◌+◌, ◌%◌, ◌^◌, ◌⊎◌, Bool, true, cond, if◌then◌else◌, List, [], ◌∷◌, ◌++◌, length, Option, Some, None, slice_index, inl, inr, refl, sym, ap, ap₂, ◌∙◌, subst, arith}
-use Rattle.std.specs.Prelude.{count_by, filter, option_to_list}
+use Rattle.std.proofs.Common.{◌≡◌, ◌<◌, ◌≤◌, ℕ, suc, ◌+◌, ◌%◌, ◌^◌, ◌⊎◌, Bool, true, List, [], ◌∷◌, ◌++◌, length, Option, Some, None, slice_index, inl, refl, sym, ap, ap₂, ◌∙◌, subst, arith}
+use Rattle.std.specs.Prelude.{filter, option_to_list}
 use Rattle.std.proofs.lemmas.Bool.{cases_lt}
 use Rattle.std.proofs.lemmas.List.{append-nil, append_assoc}
 use Rattle.std.proofs.lemmas.List.Sums.{length-filter}
 use Rattle.std.proofs.Math.Nat.{mod-add-mod}
 use Rattle.iloc_ops.specs.declared.op.Op.{Op}
 use Rattle.iloc_meaning.specs.Trace.{op_at}
-use Rattle.iloc_meaning.proofs.Cases.{by_bool}
 use Rattle.iloc_timed.specs.declared.kind.Kind.{Kind}
 use Rattle.iloc_timed.specs.declared.kind.Kind.TheVariants as K
 use Rattle.iloc_timed.specs.declared.latencies.Latencies.{Latencies}
@@ -21,8 +20,8 @@ use Rattle.iloc_sched.proofs.Basics.Slots.{numbers_before, ComesLater, issued_in
 use Rattle.iloc_sched.proofs.KeptEdges.NearPairs.{store_is, output_is}
 use Rattle.iloc_validation.specs.declared.decision.first_colours.Places.{Places}
 use Rattle.iloc_validation.specs.ByTheBook.{issued_before, IsScheduleUnder}
-use Rattle.iloc_validation.specs.Steps.Colours.{mixed, AreKept}
-use Rattle.iloc_validation.specs.Steps.FirstColours.{label_colour, with_place, colour_in, counted, with_op, with_slot, count_of, ArePlaces, colour_behind, numbers_below, first_here, first_there}
+use Rattle.iloc_validation.specs.Steps.Colours.{AreKept}
+use Rattle.iloc_validation.specs.Steps.FirstColours.{label_colour, with_place, colour_in, counted, with_op, with_slot, count_of, ArePlaces, numbers_below, first_here, first_there}
 use Rattle.iloc_validation.specs.Steps.Numbers.{with_number, AreNotedBefore}
 use Rattle.iloc_validation.specs.Steps.Waits.{memory_by}
 use Rattle.iloc_validation.proofs.FewerNumbers.{Apart, fewer, below_from, in_below, below_apart, count_append, count_single, count_issued}
@@ -34,21 +33,7 @@ use Rattle.iloc_validation.proofs.UnderWayExcludes.{kind_of, waited}
 
 counted_more : (test : Kind → Bool) (ops : List Op) (ks : List ℕ) (k n : ℕ) → n ≡ count_of test ops ks % 2 ^ 64
     → counted test (op_at ops k) n ≡ count_of test ops (ks ++ (k ∷ [])) % 2 ^ 64
-counted_more test ops ks k n is =
-    let split = count_append (λ j. test (kind (op_at ops j))) ks (k ∷ []) in
-    let single = count_single (λ j. test (kind (op_at ops j))) k in
-    by_bool (test (kind (op_at ops k)))
-    (λ t.
-    let one : cond {A = ℕ} (test (kind (op_at ops k))) 1 0 ≡ 1 = ap (λ b. cond {A = ℕ} b 1 0) t in
-    let more : count_of test ops (ks ++ (k ∷ [])) ≡ count_of test ops ks + 1 = omega (arith, split, single, one) in
-    ap (λ b. if b then (n + 1) % 2 ^ 64 else n) t
-    ∙ ap (λ m. (m + 1) % 2 ^ 64) is
-    ∙ mod-add-mod (count_of test ops ks) (2 ^ 64) 1
-    ∙ ap (λ m. m % 2 ^ 64) (sym more))
-    (λ t.
-    let none : cond {A = ℕ} (test (kind (op_at ops k))) 1 0 ≡ 0 = ap (λ b. cond {A = ℕ} b 1 0) t in
-    let same : count_of test ops (ks ++ (k ∷ [])) ≡ count_of test ops ks = omega (arith, split, single, none) in
-    ap (λ b. if b then (n + 1) % 2 ^ 64 else n) t ∙ is ∙ ap (λ m. m % 2 ^ 64) (sym same))
+counted_more test ops ks k n is = grind (arith, count_append, count_single, mod-add-mod)
 
 pub places_op : (ops : List Op) (ks : List ℕ) (k : ℕ) (places : Places) → ArePlaces ops ks places
     → ArePlaces ops (ks ++ (k ∷ [])) (with_op (op_at ops k) places)
@@ -80,10 +65,7 @@ places_row ops rows c n places is are =
 pub slot_colour : (ops : List Op) (rows : List Row) (c : ℕ) (places : Places) (slot : Option ℕ)
     → ArePlaces ops (issued_before rows c) places → (k : ℕ) → slot ≡ Some k → issue_cycle rows k ≡ c
     → colour_in ops places.stores places.outputs slot ≡ first_there ops rows k
-slot_colour ops rows c places slot are k is at =
-    ap (colour_in ops places.stores places.outputs) is
-    ∙ ap₂ (λ s o. colour_in ops s o (Some k)) are.stores are.outputs
-    ∙ ap (λ n. colour_behind ops (issued_before rows n) k) (sym at)
+slot_colour ops rows c places slot are k is at = grind arith
 
 pub places_next : (ops : List Op) (i n : ℕ) (places next : Places) → n ≡ suc i → next ≡ with_op (op_at ops i) places
     → ArePlaces ops (numbers_below i) places → ArePlaces ops (numbers_below n) next
@@ -130,12 +112,7 @@ abbrev IsPlaced : Kind → Type 0
 IsPlaced a = (a ≡ K.Load) ⊎ ((a ≡ K.Store) ⊎ (a ≡ K.Output))
 
 stores_keep : (lat : Latencies) (a b : Kind) → is_store a ≡ true → IsPlaced b → KeepOrder lat a b
-stores_keep lat a b store (inl load) = rw (store_is a store, load)
-    record { ahead = lat.store; is_ahead = inl refl; some = lat.some_store; behind = inl refl }
-stores_keep lat a b store (inr (inl other)) = rw (store_is a store, other)
-    record { ahead = 1; is_ahead = inl refl; some = omega arith; behind = inl refl }
-stores_keep lat a b store (inr (inr out)) = rw (store_is a store, out)
-    record { ahead = lat.store; is_ahead = inl refl; some = lat.some_store; behind = inl refl }
+stores_keep lat a b store h2 = grind (arith, store_is)
 
 outputs_keep : (lat : Latencies) (a b : Kind) → is_output a ≡ true → b ≡ K.Output → KeepOrder lat a b
 outputs_keep lat a b output out = rw (output_is a output, out)
@@ -156,26 +133,10 @@ module _ (lat : Latencies) (block ops : List Op) (rows : List Row) (origin partn
   module _ (j k : ℕ) (here : j < length ops) (there : k < length ops)
       (keep : KeepOrder lat (kind (op_at ops j)) (kind (op_at ops k))) where
     issued_first : origin j < origin k → issue_cycle rows j < issue_cycle rows k
-    issued_first before =
-        let over : issue_cycle rows j + keep.ahead ≤ issue_cycle rows k =
-        waited lat block ops rows origin partner by j k keep.ahead here there before keep.is_ahead in
-        let some : 1 ≤ keep.ahead = keep.some in
-        omega arith
+    issued_first before = grind (arith, waited)
 
     stands_first : issue_cycle rows j < issue_cycle rows k → origin j < origin k
-    stands_first early = elim (cases_lt (origin j) (origin k)) [
-      | inl before ↦ before
-      | inr not_before ↦ elim (cases_lt (origin k) (origin j)) [
-        | inl after ↦
-            let over : issue_cycle rows k + 1 ≤ issue_cycle rows j =
-            waited lat block ops rows origin partner by k j 1 there here after keep.behind in
-            absurd (omega arith)
-        | inr not_after ↦
-            let level : origin j ≡ origin k = omega arith in
-            let cycles : issue_cycle rows j ≡ issue_cycle rows k = ap (issue_cycle rows) (one_origin j k here there level) in
-            absurd (omega arith)
-      ]
-    ]
+    stands_first early = grind (arith, cases_lt, one_origin, waited)
 
   module _ (test : Kind → Bool) (k : ℕ) (inside : k < length ops)
       (keep : (j : ℕ) → test (kind (op_at ops j)) ≡ true → KeepOrder lat (kind (op_at ops j)) (kind (op_at ops k))) where
@@ -211,10 +172,7 @@ module _ (lat : Latencies) (block ops : List Op) (rows : List Row) (origin partn
         (issued_early ops rows by.table c j (from_filter p (numbers_before rows c) j there_too).0).0 same)
 
     given_inside : (i : ℕ) → In given i → i < length block
-    given_inside i there =
-        let less : i < origin k = below_from (origin k) i (from_filter q (numbers_below (origin k)) i there).0 in
-        let most : origin k < length block = by.paired.there k inside in
-        omega arith
+    given_inside i there = grind (arith, below_from, from_filter)
 
     given_few : length given ≤ length issued
     given_few = fewer given issued partner (ordered_filter Apart q (numbers_below (origin k)) (below_apart (origin k)))
@@ -232,19 +190,11 @@ module _ (lat : Latencies) (block ops : List Op) (rows : List Row) (origin partn
         (λ i j there there_too same. one_partner i j (given_inside i there) (given_inside j there_too) same)
 
     count_kept : count_of test ops (issued_before rows c) ≡ count_of test block (numbers_below (origin k))
-    count_kept =
-        let here : length issued ≡ count_by p (numbers_before rows c) = length-filter p (numbers_before rows c) in
-        let there : length given ≡ count_by q (numbers_below (origin k)) = length-filter q (numbers_below (origin k)) in
-        let level : length issued ≡ length given = omega (arith, issued_few, given_few) in
-        count_issued p rows c ∙ sym here ∙ level ∙ there
+    count_kept = grind (arith, count_issued, given_few, issued_few, length-filter)
 
   same_place : (a : Kind) (colour s s' o o' : ℕ) → (IsPlaced a → s ≡ s') → (a ≡ K.Output → o ≡ o')
       → with_place a colour s o ≡ with_place a colour s' o'
-  same_place K.Load colour s s' o o' stores outputs = ap (mixed colour) (stores (inl refl))
-  same_place K.Store colour s s' o o' stores outputs = ap (mixed colour) (stores (inr (inl refl)))
-  same_place K.Output colour s s' o o' stores outputs =
-      ap₂ (λ m n. mixed (mixed colour m) n) (stores (inr (inr refl))) (outputs refl)
-  same_place a colour s s' o o' stores outputs = refl
+  same_place a colour s s' o o' stores outputs = grind arith
 
   first_same : (k : ℕ) → k < length ops → first_there ops rows k ≡ first_here block (origin k)
   first_same k inside =

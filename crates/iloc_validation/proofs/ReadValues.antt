@@ -1,5 +1,5 @@
 -- The value in a register is the result of the operation that is read.
-use Rattle.std.proofs.Common.{◌≡◌, ℕ, zero, suc, Bool, true, false, ℤ, List, [], ◌∷◌, ◌++◌, map, fold, Option, Some, None, ◌⊎◌, inl, inr, refl, ap, sym, ◌∙◌, option_to_list, append_assoc, append-nil}
+use Rattle.std.proofs.Common.{◌≡◌, ℕ, zero, suc, Bool, true, false, ℤ, List, [], ◌∷◌, ◌++◌, map, fold, Option, Some, None, ◌⊎◌, inl, inr, refl, ap, sym, ◌∙◌, option_to_list, append_assoc, append-nil, arith}
 use Rattle.std.specs.Prelude.{filter, option_map, nat_lt, nat_le}
 use Rattle.std.proofs.lemmas.List.Elements.{filter-append}
 use Rattle.std.proofs.lemmas.List.Sums.{fold-append}
@@ -35,43 +35,14 @@ module _ (e : ℕ → Issued) (test : Executed → Bool) (n : ℕ) where
 
   picked_tested : (k : ℕ) (js : List ℕ) → test (e k).executed ≡ true → picked (js ++ k ∷ [])
       ≡ fold (last_of (λ j. (e j).due)) (picked js) (filter (λ j. nat_le (e j).due n) (k ∷ []))
-  picked_tested k js is =
-      let own : filter (λ j. test (e j).executed) (k ∷ []) ≡ k ∷ [] = rw is refl in
-      ap (λ xs. fold (last_of (λ j. (e j).due)) None (filter (λ j. nat_le (e j).due n) xs))
-      (filter-append (λ j. test (e j).executed) js (k ∷ [])
-      ∙ ap (λ xs. filter (λ j. test (e j).executed) js ++ xs) own)
-      ∙ ap (fold (last_of (λ j. (e j).due)) None)
-      (filter-append (λ j. nat_le (e j).due n) (filter (λ j. test (e j).executed) js) (k ∷ []))
-      ∙ fold-append (last_of (λ j. (e j).due)) None
-      (filter (λ j. nat_le (e j).due n) (filter (λ j. test (e j).executed) js)) (filter (λ j. nat_le (e j).due n) (k ∷ []))
+  picked_tested k js is = grind (arith, filter-append, fold-append)
 
   picked_untested : (k : ℕ) (js : List ℕ) → test (e k).executed ≡ false → picked (js ++ k ∷ []) ≡ picked js
-  picked_untested k js is =
-      let own : filter (λ j. test (e j).executed) (k ∷ []) ≡ [] = rw is refl in
-      ap (λ xs. fold (last_of (λ j. (e j).due)) None (filter (λ j. nat_le (e j).due n) xs))
-      (filter-append (λ j. test (e j).executed) js (k ∷ [])
-      ∙ ap (λ xs. filter (λ j. test (e j).executed) js ++ xs) own
-      ∙ append-nil (filter (λ j. test (e j).executed) js))
+  picked_untested k js is = grind (arith, append-nil, filter-append)
 
   agree_more : (k : ℕ) (ks js : List ℕ) → in_log ks ≡ option_map e (picked js)
       → in_log (k ∷ ks) ≡ option_map e (picked (js ++ k ∷ []))
-  agree_more k ks js before =
-      by_bool (test (e k).executed)
-      (λ t. by_bool (nat_le (e k).due n)
-      (λ u.
-      let here : in_log (k ∷ ks) ≡ Some (later (e k) (in_log ks)) = rw (u, t) refl in
-      let more : fold (last_of (λ j. (e j).due)) (picked js) (filter (λ j. nat_le (e j).due n) (k ∷ []))
-      ≡ last_of (λ j. (e j).due) (picked js) k = rw u refl in
-      here ∙ ap (λ o. Some (later (e k) o)) before ∙ later_mapped k (picked js)
-      ∙ ap (option_map e) (sym (picked_tested k js t ∙ more)))
-      (λ u.
-      let here : in_log (k ∷ ks) ≡ in_log ks = rw u refl in
-      let more : fold (last_of (λ j. (e j).due)) (picked js) (filter (λ j. nat_le (e j).due n) (k ∷ [])) ≡ picked js =
-      rw u refl in
-      here ∙ before ∙ ap (option_map e) (sym (picked_tested k js t ∙ more))))
-      (λ t.
-      let here : in_log (k ∷ ks) ≡ in_log ks = by_bool (nat_le (e k).due n) (λ u. rw (u, t) refl) (λ u. rw u refl) in
-      here ∙ before ∙ ap (option_map e) (sym (picked_untested k js t)))
+  agree_more k ks js before = grind (arith, later_mapped, picked_tested, picked_untested)
 
   agree_row : (zero one : Option ℕ) (ks js : List ℕ) → in_log ks ≡ option_map e (picked js)
       → in_log ((option_to_list one ++ option_to_list zero) ++ ks)
@@ -110,23 +81,12 @@ read_value lat ops rows memory c n r =
 pub register_is_read : (lat : Latencies) (ops : List Op) (rows : List Row) (memory : List ℤ) → IsTable ops rows → (c : ℕ)
     (r : Reg) → register_in (timed.arrived c (timed.issued_before lat memory ops rows c)) r
     ≡ value_of (issued_at lat ops rows memory) (read lat ops rows c r)
-register_is_read lat ops rows memory table c r =
-    ap (λ es. register_in (timed.arrived c es) r) (log_is lat ops rows memory table c)
-    ∙ read_value lat ops rows memory c c r
+register_is_read lat ops rows memory table c r = grind (arith, log_is, read_value)
 
 -- what is found stands in the list, or was there before
 found_in : (due : ℕ → ℕ) (o : Option ℕ) (ks : List ℕ) (k : ℕ) → fold (last_of due) o ks ≡ Some k → (o ≡ Some k) ⊎ In ks k
 found_in due o [] k is = inl is
-found_in due o (j ∷ ks) k is = elim (found_in due (last_of due o j) ks k is) [
-  | inl here ↦ step o here
-  | inr rest ↦ inr (inr rest)
-]
-  where
-    step : (p : Option ℕ) → last_of due p j ≡ Some k → (p ≡ Some k) ⊎ In (j ∷ ks) k
-    step None here = inr (inl cc)
-    step (Some i) here = by_bool (nat_lt (due j) (due i))
-        (λ t. let same : Some i ≡ Some k = rw t at here in inl same)
-        (λ t. let same : Some j ≡ Some k = rw t at here in inr (inl cc))
+found_in due o (j ∷ ks) k is = grind (arith, found_in due (last_of due o j) ks k is)
 
 pub record IsReadIn (lat : Latencies) (ops : List Op) (rows : List Row) (c : ℕ) (r : Reg) (k : ℕ) : Type 0 where
   pub issued : In (issued_before rows c) k

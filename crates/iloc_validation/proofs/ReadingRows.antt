@@ -1,5 +1,5 @@
 -- What operations read, noted row by row.
-use Rattle.std.proofs.Common.{rules, ◌≡◌, ◌<◌, ◌≤◌, ◌≢◌, ℕ, ◌+◌, List, length, Option, Some, None, arith, refl, sym, ap, ◌∙◌, ◌⊎◌, inl, inr, get_or-set_same, get_or-set_other}
+use Rattle.std.proofs.Common.{rules, ◌≡◌, ◌<◌, ◌≤◌, ℕ, ◌+◌, List, length, Option, Some, None, arith, refl, ◌⊎◌, inl, get_or-set_same, get_or-set_other}
 use Rattle.std.specs.Prelude.{IfSome, option_to_list}
 use Rattle.std.proofs.lemmas.Bool.{cases_eq, cases_lt}
 use Rattle.iloc_ops.specs.declared.op.Op.{Op}
@@ -13,17 +13,12 @@ use Rattle.iloc_sched.proofs.Basics.Members.{from_append, in_left, in_right}
 use Rattle.iloc_sched.proofs.Basics.Slots.{stands_there, issued_within, cycle_is}
 use Rattle.iloc_validation.specs.declared.reading.Reading.{Reading}
 use Rattle.iloc_validation.specs.declared.reading.run.Run.{Run}
-use Rattle.iloc_validation.specs.declared.reading.sources.Sources.TheVariants.{Nothing}
-use Rattle.iloc_validation.specs.ByTheBook.{read}
 use Rattle.iloc_validation.specs.Steps.Tracks.Holders.{holder}
 use Rattle.iloc_validation.specs.Steps.Readings.{with_noted, AreNoted}
 use Rattle.iloc_validation.specs.Readings.{reading_at, reading_of, sources_of}
 use Rattle.iloc_validation.specs.Steps.Tracks.{Tracks}
 use Rattle.iloc_validation.proofs.SourceLists.{sources_same}
 use Rattle.iloc_validation.proofs.Tracking.{log_before, held_is_read}
-
-abbrev none : Reading
-none = record { cycle = 0; sources = Nothing }
 
 pub length-with_noted : (readings : List Reading) (slot : Option ℕ) (noted : ℕ → Reading)
     → length (with_noted readings slot noted) ≡ length readings
@@ -32,35 +27,20 @@ length-with_noted readings (Some k) noted = search rules
 
 noted_here : (readings : List Reading) (slot : Option ℕ) (noted : ℕ → Reading) (k : ℕ) → slot ≡ Some k → k < length readings
     → reading_at (with_noted readings slot noted) k ≡ noted k
-noted_here readings None noted k is within = absurd cc
-noted_here readings (Some j) noted k is within =
-    let same : j ≡ k = cc in
-    rw same (get_or-set_same readings k (noted k) none within)
+noted_here readings slot noted k is within = grind (arith, get_or-set_same)
 
 noted_other : (readings : List Reading) (slot : Option ℕ) (noted : ℕ → Reading) (k : ℕ) → (slot ≡ Some k → ⊥)
     → reading_at (with_noted readings slot noted) k ≡ reading_at readings k
-noted_other readings None noted k other = refl
-noted_other readings (Some j) noted k other =
-    let apart : k ≢ j = λ same. other (ap Some (sym same)) in
-    get_or-set_other readings j k (noted j) none apart
+noted_other readings slot noted k other = grind (arith, get_or-set_other)
 
 -- what is noted already stays where the same is noted again
 noted_kept : (readings : List Reading) (slot : Option ℕ) (noted : ℕ → Reading) (k : ℕ) → k < length readings
     → reading_at readings k ≡ noted k → reading_at (with_noted readings slot noted) k ≡ noted k
-noted_kept readings None noted k within is = is
-noted_kept readings (Some j) noted k within is = elim (cases_eq j k) [
-  | inl same ↦ noted_here readings (Some j) noted k (ap Some same) within
-  | inr apart ↦ noted_other readings (Some j) noted k (λ some. apart (let same : j ≡ k = cc in same)) ∙ is
-]
+noted_kept readings slot noted k within is = grind (arith, cases_eq, noted_here, noted_other)
 
 in_slots : (one zero : Option ℕ) (k : ℕ) → In (option_to_list one) k ⊎ In (option_to_list zero) k
     → (zero ≡ Some k) ⊎ (one ≡ Some k)
-in_slots one None k (inr there) = absurd there
-in_slots one (Some z) k (inr (inl same)) = inl (ap Some same)
-in_slots one (Some z) k (inr (inr there)) = absurd there
-in_slots None zero k (inl there) = absurd there
-in_slots (Some o) zero k (inl (inl same)) = inr (ap Some same)
-in_slots (Some o) zero k (inl (inr there)) = absurd there
+in_slots one zero k h1 = grind arith
 
 -- what a slot holds has a place in the list
 pub slot_known : (slot : Option ℕ) (n m : ℕ) → n ≡ m → IfSome slot (λ i. i < m) → IfSome slot (λ i. i < n)
@@ -88,43 +68,15 @@ module _ (lat : Latencies) (ops : List Op) (rows : List Row) where
         → ((k : ℕ) → k < length ops → issue_cycle rows k ≡ c → noted k ≡ reading_of lat ops rows k)
         → AreNoted lat ops rows (c + 1)
         (with_noted (with_noted readings (row_at rows c).zero noted) (row_at rows c).one noted)
-    one_row readings noted so_far first second right = record {
-      size = length-with_noted _ (row_at rows c).one noted ∙ length-with_noted readings (row_at rows c).zero noted ∙ so_far.size;
-      each = λ k within before. elim (cases_lt (issue_cycle rows k) c) [
-        | inl earlier ↦
-            noted_other once (row_at rows c).one noted k (elsewhere k within earlier (row_at rows c).one second)
-            ∙ noted_other readings (row_at rows c).zero noted k (elsewhere k within earlier (row_at rows c).zero first)
-            ∙ so_far.each k within earlier
-        | inr now ↦ let at : issue_cycle rows k ≡ c = omega arith in here k within at (stands k within at)
-      ];
-    }
-      where
-        once : List Reading
-        once = with_noted readings (row_at rows c).zero noted
-
-        here : (k : ℕ) → k < length ops → issue_cycle rows k ≡ c
-            → ((row_at rows c).zero ≡ Some k) ⊎ ((row_at rows c).one ≡ Some k)
-            → reading_at (with_noted once (row_at rows c).one noted) k ≡ reading_of lat ops rows k
-        here k within at (inl zero) =
-            let size : length readings ≡ length ops = so_far.size in
-            let size_once : length once ≡ length readings = length-with_noted readings (row_at rows c).zero noted in
-            noted_kept once (row_at rows c).one noted k (omega arith)
-            (noted_here readings (row_at rows c).zero noted k zero (omega arith)) ∙ right k within at
-        here k within at (inr one) =
-            let size : length readings ≡ length ops = so_far.size in
-            let size_once : length once ≡ length readings = length-with_noted readings (row_at rows c).zero noted in
-            noted_here once (row_at rows c).one noted k one (omega arith) ∙ right k within at
+    one_row readings noted so_far first second right =
+        grind (arith, cases_lt, elsewhere, length-with_noted, noted_here, noted_kept, noted_other, stands)
 
     -- what is noted by what is held is what is read
     pub noted_right : (run : Run) → Tracks (c + 1) (log_before lat ops rows c) run → (k : ℕ) → k < length ops
         → issue_cycle rows k ≡ c
         → ◌≡◌ {A = Reading} (record { cycle = c; sources = sources_of (holder run.holders) (used (op_at ops k)) })
         (reading_of lat ops rows k)
-    noted_right run tracks k within at =
-        let sources = sources_same (holder run.holders) (read lat ops rows c) (used (op_at ops k))
-        (held_is_read lat ops rows c run tracks) in
-        ap (λ s. record { cycle = c; sources = s }) sources
-        ∙ ap (λ n. record { cycle = n; sources = sources_of (read lat ops rows n) (used (op_at ops k)) }) (sym at)
+    noted_right run tracks k within at = grind (arith, held_is_read, sources_same)
 
     -- what a run notes of operation k
     abbrev pub by_run : Run → List Op → ℕ → Reading
@@ -147,6 +99,4 @@ module _ (lat : Latencies) (ops : List Op) (rows : List Row) where
   -- at the end each operation is noted
   pub all_noted : (table : IsTable ops rows) (n : ℕ) (readings : List Reading) → length rows ≤ n
       → AreNoted lat ops rows n readings → (k : ℕ) → k < length ops → reading_at readings k ≡ reading_of lat ops rows k
-  all_noted table n readings past noted k within =
-      let issued : issue_cycle rows k < length rows = issued_within ops rows table k within in
-      noted.each k within (omega arith)
+  all_noted table n readings past noted k within = grind (arith, issued_within)

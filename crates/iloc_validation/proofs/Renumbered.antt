@@ -1,5 +1,5 @@
 -- Rows in which each number is another, one to one: what stands where stays.
-use Rattle.std.proofs.Common.{◌≡◌, ℕ, zero, suc, ◌+◌, ◌<◌, ◌==◌, cond, List, [], ◌∷◌, ◌++◌, map, length, Option, Some, None, option_map, option_to_list, inl, inr, refl, ap, ap₂, sym, ◌∙◌, eq-eqb, ne_eqb}
+use Rattle.std.proofs.Common.{◌≡◌, ℕ, zero, suc, ◌+◌, ◌<◌, ◌==◌, cond, List, [], ◌∷◌, ◌++◌, map, length, Option, Some, None, option_map, option_to_list, inl, inr, refl, ap, ap₂, sym, ◌∙◌, eq-eqb, ne_eqb, arith}
 use Rattle.std.specs.Prelude.{count_by}
 use Rattle.std.specs.List.{list_any}
 use Rattle.std.proofs.lemmas.Bool.{cases_eq}
@@ -43,9 +43,7 @@ slots_at-map f rows c = ap slots (row_at-map f rows c) ∙ slots-renumber f (row
 pub numbers_before-map : (f : ℕ → ℕ) (rows : List Row) (c : ℕ)
     → numbers_before (map (renumber f) rows) c ≡ map f (numbers_before rows c)
 numbers_before-map f rows zero = refl
-numbers_before-map f rows (suc c) =
-    ap₂ (λ xs ys. xs ++ ys) (slots_at-map f rows c) (numbers_before-map f rows c)
-    ∙ sym (map-append f (slots (row_at rows c)) (numbers_before rows c))
+numbers_before-map f rows (suc c) = grind (arith, map-append, slots_at-map, numbers_before-map f rows c)
 
 -- numbers below n have numbers of their own
 abbrev pub AreApartBelow : ℕ → (ℕ → ℕ) → Type 0
@@ -57,11 +55,7 @@ AreBelow n rows = (c k : ℕ) → In (slots (row_at rows c)) k → k < n
 
 module _ (n : ℕ) (f : ℕ → ℕ) (apart : AreApartBelow n f) (k : ℕ) (below : k < n) where
   test_same : (j : ℕ) → j < n → (f k == f j) ≡ (k == j)
-  test_same j within = elim (cases_eq k j) [
-    | inl same ↦ eq-eqb (f k) (f j) (ap f same) ∙ sym (eq-eqb k j same)
-    | inr differs ↦
-        ne_eqb (f k) (f j) (λ level. differs (apart k j below within level)) ∙ sym (ne_eqb k j differs)
-  ]
+  test_same j within = grind (arith, cases_eq, eq-eqb, ne_eqb)
 
   any_same : (xs : List ℕ) → ((j : ℕ) → In xs j → j < n) → list_any (λ j. f k == j) (map f xs) ≡ list_any (λ j. k == j) xs
   any_same [] within = refl
@@ -100,15 +94,4 @@ kind_same ops ops' f (Some k) same = ap Some (same k refl)
 pub units_same : (ops ops' : List Op) (f : ℕ → ℕ) (row : Row)
     → ((k : ℕ) → In (slots row) k → kind (op_at ops' (f k)) ≡ kind (op_at ops k))
     → keeps_units ops' (renumber f row) ≡ keeps_units ops row
-units_same ops ops' f row same =
-    let zero : kind_in ops' (option_map f row.zero) ≡ kind_in ops row.zero =
-    kind_same ops ops' f row.zero (λ k is. same k (in_zero k is)) in
-    let one : kind_in ops' (option_map f row.one) ≡ kind_in ops row.one =
-    kind_same ops ops' f row.one (λ k is. same k (in_one k is)) in
-    rw (zero, one) refl
-  where
-    in_zero : (k : ℕ) → row.zero ≡ Some k → In (slots row) k
-    in_zero k is = in_right (option_to_list row.one) (option_to_list row.zero) k (rw is (inl refl))
-
-    in_one : (k : ℕ) → row.one ≡ Some k → In (slots row) k
-    in_one k is = in_left (option_to_list row.one) (option_to_list row.zero) k (rw is (inl refl))
+units_same ops ops' f row same = grind (arith, in_left, in_right, kind_same, option_map, option_to_list)

@@ -18,7 +18,7 @@ use Rattle.iloc_sched.specs.Steps.Members.{In}
 use Rattle.iloc_sched.proofs.Basics.Members.{contains_from, in_left, in_right, from_filter}
 use Rattle.iloc_sched.proofs.Basics.Slots.{count_in, count_in_twice, count_in_within, issued_early, issued_there, stands_there, is_issued}
 use Rattle.iloc_sched.proofs.Renamed.OneMoreOperation.{map_same}
-use Rattle.iloc_validation.specs.ByTheBook.{in_order, issued_before, due, last_of, defining, arrived, read, label, issued_in, IssueTheSame, IsScheduleUnder}
+use Rattle.iloc_validation.specs.ByTheBook.{issued_before, due, last_of, defining, arrived, read, label, issued_in, IssueTheSame, IsScheduleUnder}
 use Rattle.iloc_validation.specs.Laws.{OwnRowsAreByTheBook}
 use Rattle.iloc_validation.specs.OwnRows.{renumber}
 use Rattle.iloc_validation.specs.Steps.Numbers.{is_in, in_slot, number_in}
@@ -38,13 +38,7 @@ rows_same ops ops' (row ∷ rows) (row' ∷ rows') same (suc c) =
 rows_same ops ops' rows rows' same c = absurd cc
 
 pub slot_cases : (a b : Option ℕ) (k : ℕ) → In (option_to_list a ++ option_to_list b) k → (a ≡ Some k) ⊎ (b ≡ Some k)
-slot_cases None None k there = absurd there
-slot_cases None (Some z) k (inl here) = inr (ap Some here)
-slot_cases None (Some z) k (inr rest) = absurd rest
-slot_cases (Some o) b k (inl here) = inl (ap Some here)
-slot_cases (Some o) None k (inr rest) = absurd rest
-slot_cases (Some o) (Some z) k (inr (inl here)) = inr (ap Some here)
-slot_cases (Some o) (Some z) k (inr (inr rest)) = absurd rest
+slot_cases a b k there = grind arith
 
 pub in_first : (a b : Option ℕ) (k : ℕ) → a ≡ Some k → In (option_to_list a ++ option_to_list b) k
 in_first a b k is = in_left (option_to_list a) (option_to_list b) k (rw is (inl refl))
@@ -76,9 +70,7 @@ module _ (ops ops' : List Op) (rows rows' : List Row) (numbered : AreNumbered op
 
   slot_moved : (z other : Option ℕ) → option_map (op_at ops) other ≡ option_map (op_at ops') z → (f : ℕ → ℕ)
       → ((k : ℕ) → z ≡ Some k → f k ≡ unwrap_or other 0) → other ≡ option_map f z
-  slot_moved None None level f to = refl
-  slot_moved (Some k) (Some j) level f to = ap Some (sym (to k refl))
-  slot_moved z other level f to = absurd cc
+  slot_moved z other level f h2 = grind arith
 
   pub zero_moved : (c k : ℕ) → (row_at rows' c).zero ≡ Some k → number_in rows rows' k ≡ unwrap_or (row_at rows c).zero 0
   zero_moved c k is =
@@ -114,17 +106,11 @@ module _ (ops ops' : List Op) (rows rows' : List Row) (numbered : AreNumbered op
 
   -- where each number stands
   pub stands : (k : ℕ) → k < length ops' → In (slots (row_at rows' (issue_cycle rows' k))) k
-  stands k here =
-      let once : times_issued rows' k ≡ 1 = numbered.once k here in
-      stands_there rows' k (is_issued rows' k (omega arith))
+  stands k here = grind (arith, is_issued, stands_there)
 
   slot_op : (z other : Option ℕ) (f : ℕ → ℕ) (k : ℕ) → option_map (op_at ops) other ≡ option_map (op_at ops') z
       → other ≡ option_map f z → z ≡ Some k → op_at ops (f k) ≡ op_at ops' k
-  slot_op z other f k level moved is =
-      let left : Some (op_at ops (f k)) ≡ option_map (op_at ops) other =
-      sym (ap (option_map (op_at ops)) (moved ∙ ap (option_map f) is)) in
-      let both : Some (op_at ops (f k)) ≡ Some (op_at ops' k) = left ∙ level ∙ ap (option_map (op_at ops')) is in
-      cc
+  slot_op z other f k level moved is = grind (arith, option_map)
 
   pub op_moved : (k : ℕ) → k < length ops' → op_at ops (number_in rows rows' k) ≡ op_at ops' k
   op_moved k here =
@@ -153,9 +139,7 @@ module _ (ops ops' : List Op) (rows rows' : List Row) (first : AreNumbered ops r
       row_moved ops' ops rows' rows first (sym same) c ∙ ap (renumber from) (row_moved ops ops' rows rows' second same c)
 
   back_in : (o : Option ℕ) (k : ℕ) → o ≡ option_map from (option_map to o) → o ≡ Some k → from (to k) ≡ k
-  back_in o k level is =
-      let both : Some k ≡ Some (from (to k)) = sym is ∙ level ∙ ap (λ p. option_map from (option_map to p)) is in
-      cc
+  back_in o k level is = grind (arith, option_map)
 
   pub there_and_back : (k : ℕ) → k < length ops' → from (to k) ≡ k
   there_and_back k here =
@@ -191,19 +175,12 @@ module _ (ops ops' : List Op) (rows rows' : List Row) (first : AreNumbered ops r
 issued_moved : (f : ℕ → ℕ) (rows rows' : List Row) → ((c : ℕ) → row_at rows c ≡ renumber f (row_at rows' c)) → (c : ℕ)
     → issued_before rows c ≡ map f (issued_before rows' c)
 issued_moved f rows rows' row zero = refl
-issued_moved f rows rows' row (suc c) =
-    ap₂ (λ xs ys. xs ++ ys) (issued_moved f rows rows' row c)
-    (ap in_order (row c) ∙ slots_of f (row_at rows' c).zero (row_at rows' c).one)
-    ∙ sym (map-append f (issued_before rows' c) (in_order (row_at rows' c)))
+issued_moved f rows rows' row (suc c) = grind (arith, map-append, slots_of, issued_moved f rows rows' row c)
 
 filter_moved : (f : ℕ → ℕ) (p p' : ℕ → Bool) (ks : List ℕ) → ((k : ℕ) → In ks k → p (f k) ≡ p' k)
     → filter p (map f ks) ≡ map f (filter p' ks)
 filter_moved f p p' [] level = refl
-filter_moved f p p' (k ∷ ks) level =
-    let rest = filter_moved f p p' ks (λ j there. level j (inr there)) in
-    by_bool (p' k)
-    (λ t. let yes : p (f k) ≡ true = level k (inl refl) ∙ t in rw (t, yes) (ap (λ xs. f k ∷ xs) rest))
-    (λ t. let no : p (f k) ≡ false = level k (inl refl) ∙ t in rw (t, no) rest)
+filter_moved f p p' (k ∷ ks) level = grind (arith, filter_moved f p p' ks (λ j there. level j (inr there)))
 
 last_moved : (f : ℕ → ℕ) (due due' : ℕ → ℕ) (o : Option ℕ) (k : ℕ) → ((j : ℕ) → o ≡ Some j → due (f j) ≡ due' j)
     → due (f k) ≡ due' k → last_of due (option_map f o) (f k) ≡ option_map f (last_of due' o k)
@@ -215,23 +192,19 @@ last_moved f due due' (Some j) k before here =
     (λ t. let no : nat_lt (due (f k)) (due (f j)) ≡ false = first ∙ t in rw (t, no) refl)
 
 last_is : (due : ℕ → ℕ) (o : Option ℕ) (k j : ℕ) → last_of due o k ≡ Some j → (o ≡ Some j) ⊎ (k ≡ j)
-last_is due None k j is = inr cc
-last_is due (Some i) k j is = by_bool (nat_lt (due k) (due i))
-    (λ t. let same : Some i ≡ Some j = rw t at is in inl same)
-    (λ t. let same : Some k ≡ Some j = rw t at is in inr cc)
+last_is due o k j is = grind arith
 
 fold_moved : (f : ℕ → ℕ) (due due' : ℕ → ℕ) (o : Option ℕ) (ks : List ℕ) → ((j : ℕ) → o ≡ Some j → due (f j) ≡ due' j)
     → ((k : ℕ) → In ks k → due (f k) ≡ due' k)
     → fold (last_of due) (option_map f o) (map f ks) ≡ option_map f (fold (last_of due') o ks)
 fold_moved f due due' o [] before each = refl
 fold_moved f due due' o (k ∷ ks) before each =
-    ap (λ p. fold (last_of due) p (map f ks)) (last_moved f due due' o k before (each k (inl refl)))
-    ∙ fold_moved f due due' (last_of due' o k) ks
-    (λ j is. elim (last_is due' o k j is) [
-      | inl old ↦ before j old
-      | inr new ↦ subst (λ n. due (f n) ≡ due' n) new (each k (inl refl))
-    ])
-    (λ j there. each j (inr there))
+    grind (
+      arith,
+      last_is,
+      last_moved,
+      fold_moved f due due' (last_of due' o k) ks (λ j is. elim (last_is due' o k j is) [ inl old ↦ before j old | inr new ↦ subst (λ n. due (f n) ≡ due' n) new (each k (inl refl)) ]) (λ j there. each j (inr there)),
+    )
 
 module _ (lat : Latencies) (f : ℕ → ℕ) (ops ops' : List Op) (rows rows' : List Row) (c : ℕ) (r : Reg)
     (row : (n : ℕ) → row_at rows n ≡ renumber f (row_at rows' n))

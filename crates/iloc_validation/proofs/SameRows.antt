@@ -1,5 +1,5 @@
 -- Rows are compared as what they issue.
-use Rattle.std.proofs.Common.{◌≡◌, ◌<◌, ℕ, zero, suc, List, [], ◌∷◌, length, map, Option, Some, None, arith, refl, ap, ap₂}
+use Rattle.std.proofs.Common.{◌≡◌, ◌<◌, ℕ, zero, suc, List, [], ◌∷◌, length, map, Option, arith, refl, ap₂}
 use Rattle.std.specs.Prelude.{slice_index_or}
 use Rattle.std.specs.Bool.{Decides}
 use Rattle.std.specs.Option.{option_eq}
@@ -12,12 +12,7 @@ use Rattle.iloc_validation.proofs.SameOps.{op_same}
 
 -- what stands in two slots is compared as what it is
 pub slot_same : (x y : Option Op) → Decides (option_eq of_ops.eq-value.it x y) (x ≡ y)
-slot_same None None = (λ same. refl, λ same. refl)
-slot_same (Some a) (Some b) = (
-  λ same. ap Some ((op_same a b).0 same),
-  λ same. let inner : a ≡ b = cc in (op_same a b).1 inner,
-)
-slot_same x y = (λ same. absurd cc, λ same. absurd cc)
+slot_same x y = grind (arith, op_same)
 
 pub issue_each : (ops ops' : List Op) (rows rows' : List Row) → length rows ≡ length rows'
     → ((c : ℕ) → c < length rows' → issued_in ops (row_at rows c) ≡ issued_in ops' (row_at rows' c))

@@ -1,10 +1,9 @@
 -- What an operation reads, as a list and as the code has it.
-use Rattle.std.proofs.Common.{◌≡◌, ℕ, ◌≤◌, List, [], ◌∷◌, length, map, Option, option_map, refl, ap, ap₂, arith}
+use Rattle.std.proofs.Common.{◌≡◌, ℕ, ◌≤◌, List, [], ◌∷◌, length, map, Option, option_map, refl, ap, arith}
 use Rattle.iloc_ops.specs.declared.op.Reg.{Reg}
 use Rattle.iloc_ops.specs.declared.op.Op.{Op}
 use Rattle.iloc_ops.specs.declared.op.Op.TheVariants.{Nop}
 use Rattle.iloc_ops.specs.Registers.{used}
-use Rattle.iloc_validation.specs.declared.reading.sources.Sources.TheVariants.{One, Two}
 use Rattle.iloc_validation.specs.Steps.Sources.{by_numbers}
 use Rattle.iloc_validation.specs.Readings.{sources_of}
 
@@ -13,9 +12,7 @@ few_used Nop = omega arith
 few_used _ = omega arith
 
 pub sources_same : (f g : Reg → Option ℕ) (rs : List Reg) → ((r : Reg) → f r ≡ g r) → sources_of f rs ≡ sources_of g rs
-sources_same f g [] same = refl
-sources_same f g (r ∷ []) same = ap One (same r)
-sources_same f g (r ∷ s ∷ rest) same = ap₂ Two (same r) (same s)
+sources_same f g rs same = grind arith
 
 pub by_numbers_of : (f : ℕ → ℕ) (g : Reg → Option ℕ) (rs : List Reg)
     → by_numbers f (sources_of g rs) ≡ sources_of (λ r. option_map f (g r)) rs
@@ -27,19 +24,10 @@ pub lists_same : (f g : Reg → Option ℕ) (rs ss : List Reg) → length rs ≤
 lists_same f g [] [] few short same = refl
 lists_same f g [] (s ∷ []) few short same = absurd cc
 lists_same f g (r ∷ []) (s ∷ []) few short same = let one : f r ≡ g s = cc in ap (λ x. x ∷ []) one
-lists_same f g (r ∷ q ∷ []) (s ∷ t ∷ []) few short same =
-    let one : f r ≡ g s = cc in
-    let two : f q ≡ g t = cc in
-    ap₂ (λ x y. x ∷ y ∷ []) one two
+lists_same f g (r ∷ q ∷ []) (s ∷ t ∷ []) few short same = grind arith
 lists_same f g (r ∷ q ∷ []) (s ∷ t ∷ u ∷ rest) few short same = absurd (omega arith)
 lists_same f g (r ∷ q ∷ p ∷ rest) ss few short same = absurd (omega arith)
 lists_same f g _ _ few short same = absurd cc
 
 pub sources_from_lists : (f g : Reg → Option ℕ) (rs ss : List Reg) → map f rs ≡ map g ss → sources_of f rs ≡ sources_of g ss
-sources_from_lists f g [] [] same = refl
-sources_from_lists f g (r ∷ []) (s ∷ []) same = let one : f r ≡ g s = cc in ap One one
-sources_from_lists f g (r ∷ q ∷ rest) (s ∷ t ∷ others) same =
-    let one : f r ≡ g s = cc in
-    let two : f q ≡ g t = cc in
-    ap₂ Two one two
-sources_from_lists f g rs ss same = absurd cc
+sources_from_lists f g rs ss same = grind arith

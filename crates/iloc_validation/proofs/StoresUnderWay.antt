@@ -19,9 +19,7 @@ use Rattle.iloc_validation.specs.Steps.Stores.{IsStoredUntil}
 use Rattle.iloc_validation.proofs.SameIssues.{in_first, in_second}
 
 is_of_reader : (k : Kind) → reads_stored K.Store k ≡ true → (k ≡ K.Load) ⊎ (k ≡ K.Output)
-is_of_reader K.Load is = inl refl
-is_of_reader K.Output is = inr refl
-is_of_reader k is = absurd (false≢true is)
+is_of_reader k is = grind (arith, false≢true)
 
 -- what stands in a slot, of a kind that passes
 record Passes (test : Kind → Bool) (ops : List Op) (slot : Option ℕ) : Type 0 where
@@ -44,12 +42,7 @@ record IssuesOne (test : Kind → Bool) (ops : List Op) (rows : List Row) (c : �
 module _ (lat : Latencies) (ops : List Op) (rows : List Row) (table : IsTable ops rows) (c : ℕ) where
   issues_it : (test : Kind → Bool) {slot : Option ℕ} (it : Passes test ops slot) → In (slots (row_at rows c)) it.k
       → IssuesOne test ops rows c
-  issues_it test it there = record {
-    k = it.k;
-    within = within ops rows table c it.k there;
-    at = cycle_is ops rows table c it.k there;
-    passes = it.passes;
-  }
+  issues_it test it there = grind (arith, cycle_is, within)
 
   issues_one : (test : Kind → Bool) → (is_some_kind test (kind_in ops (row_at rows c).zero) ≡ true)
       ⊎ (is_some_kind test (kind_in ops (row_at rows c).one) ≡ true) → IssuesOne test ops rows c
@@ -76,13 +69,7 @@ module _ (lat : Latencies) (ops : List Op) (rows : List Row) (table : IsTable op
 
   -- one without keeps what is under way
   pub still_stored : (until : ℕ) → IsStoredUntil lat ops rows c until → IsStoredUntil lat ops rows (c + 1) until
-  still_stored until it = let begun : issue_cycle rows it.s < c = it.begun in record {
-    s = it.s;
-    within = it.within;
-    store = it.store;
-    begun = omega arith;
-    over = it.over;
-  }
+  still_stored until it = grind (arith, within)
 
   -- what reads memory in a row is issued while that store is under way
   pub reads_under_way : (until : ℕ) → c < until → IsStoredUntil lat ops rows (c + 1) until

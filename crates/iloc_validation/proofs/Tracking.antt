@@ -1,5 +1,5 @@
 -- Rows in mid-run, one step on; and what is held then is what is read.
-use Rattle.std.proofs.Common.{◌≡◌, ◌<◌, ◌≤◌, ℕ, suc, ◌+◌, ◌%◌, ◌==◌, true, false, List, [], ◌∷◌, ◌++◌, length, map, set, Option, Some, None, option_to_list, arith, refl, sym, ap, ◌∙◌, subst, add-one, inl}
+use Rattle.std.proofs.Common.{◌≡◌, ◌<◌, ◌≤◌, ℕ, ◌+◌, ◌%◌, true, false, List, [], ◌∷◌, ◌++◌, length, map, set, Option, Some, None, option_to_list, arith, refl, sym, ap, ◌∙◌, add-one, inl}
 use Rattle.std.specs.Prelude.{fold, option_map}
 use Rattle.std.proofs.lemmas.List.{get_or-map, map-set, length-map, map-append}
 use Rattle.iloc_ops.specs.declared.op.Reg.{Reg}
@@ -8,7 +8,6 @@ use Rattle.iloc_ops.specs.Registers.{defined}
 use Rattle.iloc_meaning.specs.Results.{GoesTo}
 use Rattle.iloc_meaning.specs.Outcome.{is_fault}
 use Rattle.iloc_meaning.specs.Trace.{op_at, is_register, defines, result_or_zero, result_of}
-use Rattle.iloc_meaning.proofs.Cases.{by_bool}
 use Rattle.iloc_timed.specs.declared.latencies.Latencies.{Latencies}
 use Rattle.iloc_timed.specs.declared.row.Row.{Row}
 use Rattle.iloc_timed.specs.declared.wheel.Pending.TheVariants.{Register}
@@ -38,15 +37,11 @@ use Rattle.iloc_validation.proofs.ReadValues.{agree, value_of, value_mapped, rea
 mark_landed : (r : Reg) (o : Option ℕ) (due : List Arrival)
     → mark (fold (landed_at r) o due) ≡ fold (landed_in_register r) (mark o) (map sent_as due)
 mark_landed r o [] = refl
-mark_landed r o (a ∷ due) =
-    mark_landed r (landed_at r o a) due
-    ∙ ap (λ v. fold (landed_in_register r) v (map sent_as due)) (by_bool (r.0 == a.register.0) (λ t. rw t refl) (λ t. rw t refl))
+mark_landed r o (a ∷ due) = grind (arith, mark_landed r (landed_at r o a) due)
 
 lists_sent : (lists : List (List Arrival)) (c : ℕ) → length lists ≡ 16
     → list_at (map (map sent_as) lists) c ≡ map sent_as (list_at lists c)
-lists_sent lists c count =
-    let within : c % 16 < length lists = rw count (omega arith) in
-    get_or-map (map sent_as) lists (c % 16) [] [] within
+lists_sent lists c count = grind (arith, get_or-map)
 
 length_sent : (lists : List (List Arrival)) → length (map (map sent_as) lists) ≡ length lists
 length_sent lists = length-map lists (map sent_as)
@@ -89,11 +84,7 @@ sends (Some r) k = refl
 issued : (c due k : ℕ) (op : Op) (log : List Issued) (run : Run) (wheel : List (List Arrival)) → c ≤ due → due < c + 16
     → AreUnderWay c (marked due op k ∷ log) (map (map sent_as) wheel) → Tracks c log run
     → Tracks c (marked due op k ∷ log) (record run { wheel = wheel })
-issued c due k op log run wheel from upto way tracks = record {
-  held = λ r. tracks.held r ∙ ap (λ l. register_in l r) (sym (landed-later c (marked due op k) log from));
-  under_way = way;
-  all_land = (upto, record { no_fault = no_fault (defined op) k; goes = goes (defined op) k }, tracks.all_land);
-}
+issued c due k op log run wheel from upto way tracks = grind (arith, goes, landed-later, no_fault)
 
 -- an operation is issued, and its result is under way
 pub tracks_result : (c due k : ℕ) (op : Op) (r : Reg) (log : List Issued) (run : Run) (wheel : List (List Arrival))
@@ -119,13 +110,7 @@ tracks_result c due k op r log run wheel from upto defines turned tracks =
 -- what is held is what is read
 
 mark_same : (o p : Option ℕ) → mark o ≡ mark p → o ≡ p
-mark_same None None same = refl
-mark_same None (Some k) same = let no : 0 ≡ suc k = cc in absurd (omega arith)
-mark_same (Some j) None same = let no : suc j ≡ 0 = cc in absurd (omega arith)
-mark_same (Some j) (Some k) same =
-    let level : suc j ≡ suc k = cc in
-    let one : j ≡ k = omega arith in
-    ap Some one
+mark_same o p same = grind arith
 
 given_by : (r : Reg) (d : Option Reg) (k : ℕ) → is_register r d ≡ true → result_of (marked_by d k) ≡ mark (Some k)
 given_by r None k is = absurd cc
@@ -165,12 +150,7 @@ module _ (lat : Latencies) (ops : List Op) (rows : List Row) where
       → ((k : ℕ) → zero ≡ Some k → issue_cycle rows k ≡ c)
       → with_slot lat ops c one (with_slot lat ops c zero (map in_log ks))
       ≡ map in_log ((option_to_list one ++ option_to_list zero) ++ ks)
-  both_issued c None None ks first second = refl
-  both_issued c None (Some z) ks first second = ap (λ e. e ∷ map in_log ks) (in_log_is c z (second z refl))
-  both_issued c (Some o) None ks first second = ap (λ e. e ∷ map in_log ks) (in_log_is c o (first o refl))
-  both_issued c (Some o) (Some z) ks first second =
-      ap (λ e. marked (c + latency lat (op_at ops o)) (op_at ops o) o ∷ e ∷ map in_log ks) (in_log_is c z (second z refl))
-      ∙ ap (λ e. e ∷ in_log z ∷ map in_log ks) (in_log_is c o (first o refl))
+  both_issued c one zero ks first second = grind (arith, in_log_is)
 
   -- the log with a row more
   pub row_issued : (c : ℕ) → IsTable ops rows
@@ -192,6 +172,4 @@ module _ (lat : Latencies) (ops : List Op) (rows : List Row) where
       → ((log : List Issued) → Tracks (c + 1) log zero_run
       → Tracks (c + 1) (with_slot lat lent c (row_at lent_rows c).one log) one_run)
       → Tracks (c + 1) (log_before (c + 1)) one_run
-  row_tracked c lent lent_rows landed_run zero_run one_run table same same_rows tracks first second =
-      let last = second (with_slot lat lent c (row_at lent_rows c).zero (log_before c)) (first (log_before c) tracks) in
-      subst (λ log. Tracks (c + 1) log one_run) (row_issued c table) (rw (same, same_rows) at last)
+  row_tracked c lent lent_rows landed_run zero_run one_run table same same_rows tracks first second = grind (arith, row_issued)

@@ -1,5 +1,5 @@
 -- How many numbers of a range pass a test, for the counts of `Heuristic`.
-use Rattle.std.proofs.Common.{◌≡◌, ℕ, zero, suc, ◌+◌, ◌<◌, ◌≤◌, Bool, false, cond, length, refl, ◌∙◌, ap, arith}
+use Rattle.std.proofs.Common.{◌≡◌, ℕ, zero, suc, ◌+◌, ◌<◌, ◌≤◌, Bool, false, cond, refl, ◌∙◌, ap, arith}
 use Rattle.std.specs.Prelude.{count_by}
 use Rattle.std.specs.List.{range_with_len}
 use Rattle.std.proofs.lemmas.List.Sums.{sum_by-cons, count_by-le-length}
@@ -15,15 +15,7 @@ count_first p a n =
 -- the numbers of a range, up to b and from b on
 pub count_range : (p : ℕ → Bool) (a m n b : ℕ) → a + m ≡ b → count_by p (range_with_len a (m + n))
     ≡ count_by p (range_with_len a m) + count_by p (range_with_len b n)
-count_range p a zero n b end =
-    let same : a ≡ b = omega arith in
-    let size : 0 + n ≡ n = omega arith in
-    let left : count_by p (range_with_len a (0 + n)) ≡ count_by p (range_with_len a n) =
-    ap (λ k. count_by p (range_with_len a k)) size in
-    let right : count_by p (range_with_len a n) ≡ count_by p (range_with_len b n) =
-    ap (λ k. count_by p (range_with_len k n)) same in
-    let none : count_by p (range_with_len a 0) ≡ 0 = refl in
-    omega arith
+count_range p a zero n b end = grind arith
 count_range p a (suc m) n b end =
     let rest : count_by p (range_with_len (suc a) (m + n))
     ≡ count_by p (range_with_len (suc a) m) + count_by p (range_with_len b n) =
@@ -37,32 +29,14 @@ count_range p a (suc m) n b end =
 
 pub none_in_range : (p : ℕ → Bool) (a n : ℕ) → ((k : ℕ) → a ≤ k → k < a + n → p k ≡ false) → count_by p (range_with_len a n) ≡ 0
 none_in_range p a zero none = refl
-none_in_range p a (suc n) none =
-    let rest : count_by p (range_with_len (suc a) n) ≡ 0 = none_in_range p (suc a) n (λ k after below. none k (omega arith) (omega arith)) in
-    let not : p a ≡ false = none a (omega arith) (omega arith) in
-    let first : cond {A = ℕ} (p a) 1 0 ≡ 0 = ap (λ (v : Bool). cond {A = ℕ} v 1 0) not in
-    let all : count_by p (range_with_len a (suc n)) ≡ cond {A = ℕ} (p a) 1 0 + count_by p (range_with_len (suc a) n) =
-    count_first p a n in
-    omega arith
+none_in_range p a (suc n) none = grind (arith, count_first, none_in_range p (suc a) n (λ k after below. none k (omega arith) (omega arith)))
 
 -- where each number passes one test as often as two others together
 pub count_sum : (p q r : ℕ → Bool) (a n : ℕ)
     → ((k : ℕ) → a ≤ k → k < a + n → cond {A = ℕ} (p k) 1 0 ≡ cond {A = ℕ} (q k) 1 0 + cond {A = ℕ} (r k) 1 0)
     → count_by p (range_with_len a n) ≡ count_by q (range_with_len a n) + count_by r (range_with_len a n)
 count_sum p q r a zero each = refl
-count_sum p q r a (suc n) each =
-    let rest : count_by p (range_with_len (suc a) n)
-    ≡ count_by q (range_with_len (suc a) n) + count_by r (range_with_len (suc a) n) =
-    count_sum p q r (suc a) n (λ k after below. each k (omega arith) (omega arith)) in
-    let first = each a (omega arith) (omega arith) in
-    let all_p = count_first p a n in
-    let all_q = count_first q a n in
-    let all_r = count_first r a n in
-    omega arith
+count_sum p q r a (suc n) each = grind (arith, count_first, count_sum p q r (suc a) n (λ k after below. each k (omega arith) (omega arith)))
 
 pub count_most : (p : ℕ → Bool) (a n : ℕ) → count_by p (range_with_len a n) ≤ n
-count_most p a n =
-    let most : count_by p (range_with_len a n) ≤ length (range_with_len a n) =
-    count_by-le-length p (range_with_len a n) in
-    let size : length (range_with_len a n) ≡ n = length-range_with_len a n in
-    omega arith
+count_most p a n = grind (arith, count_by-le-length, length-range_with_len)

@@ -1,5 +1,5 @@
 -- The cycles of issue in rows that grow; for the schedule that is made row after row.
-use Rattle.std.proofs.Common.{◌≡◌, ℕ, ◌+◌, ◌<◌, ◌≤◌, zero, suc, List, [], ◌∷◌, ◌++◌, length, refl, ap, sym, ◌∙◌, subst, arith, add-one}
+use Rattle.std.proofs.Common.{◌≡◌, ℕ, ◌+◌, ◌<◌, ◌≤◌, zero, suc, List, [], ◌∷◌, ◌++◌, length, refl, sym, ◌∙◌, subst, arith, add-one}
 use Rattle.std.proofs.Math.ListN.{get_or-append}
 use Rattle.std.proofs.Math.Seq.{get_or-append_seam}
 use Rattle.std.proofs.lemmas.List.{get_or_past}
@@ -11,9 +11,7 @@ use Rattle.iloc_sched.proofs.Basics.Slots.{count_in, count_in_none, times_issued
 
 pub issue_cycle_within : (rows : List Row) (i : ℕ) → issue_cycle rows i ≤ length rows
 issue_cycle_within [] i = omega arith
-issue_cycle_within (row ∷ rows) i =
-    let rest : issue_cycle rows i ≤ length rows = issue_cycle_within rows i in
-    by_bool (holds row i) (λ t. rw t (omega arith)) (λ t. rw t (omega arith))
+issue_cycle_within (row ∷ rows) i = grind (arith, issue_cycle_within rows i)
 
 pub issue_cycle_front : (rows more : List Row) (i : ℕ) → issue_cycle rows i < length rows
     → issue_cycle (rows ++ more) i ≡ issue_cycle rows i
@@ -44,20 +42,11 @@ issue_cycle_more rows row i within = issue_cycle_front rows (row ∷ []) i withi
 
 pub issue_cycle_last : (rows : List Row) (row : Row) (i : ℕ) → length rows ≤ issue_cycle rows i → In (slots row) i
     → issue_cycle (rows ++ row ∷ []) i ≡ length rows
-issue_cycle_last rows row i beyond there =
-    let here : issue_cycle (row ∷ []) i ≡ 0 = rw (holds_from row i there) refl in
-    let sum : issue_cycle (rows ++ row ∷ []) i ≡ length rows + issue_cycle (row ∷ []) i =
-    issue_cycle_back rows (row ∷ []) i beyond in
-    sum ∙ ap (λ n. length rows + n) here ∙ omega arith
+issue_cycle_last rows row i beyond there = grind (arith, holds_from, issue_cycle_back)
 
 pub issue_cycle_beyond : (rows : List Row) (row : Row) (i : ℕ) → length rows ≤ issue_cycle rows i
     → (In (slots row) i → ⊥) → issue_cycle (rows ++ row ∷ []) i ≡ length rows + 1
-issue_cycle_beyond rows row i beyond not_there =
-    by_bool (holds row i)
-    (λ t. absurd (not_there (from_holds row i t)))
-    (λ t.
-    let one : issue_cycle (row ∷ []) i ≡ 0 + 1 = rw t refl in
-    issue_cycle_back rows (row ∷ []) i beyond ∙ ap (λ n. length rows + n) one ∙ omega arith)
+issue_cycle_beyond rows row i beyond not_there = grind (arith, from_holds, issue_cycle_back)
 
 pub row_at_more : (rows : List Row) (row : Row) (c : ℕ) → c < length rows → row_at (rows ++ row ∷ []) c ≡ row_at rows c
 row_at_more rows row c within = get_or-append rows (row ∷ []) empty_row c within
@@ -72,9 +61,7 @@ row_at_past rows c past = get_or_past rows c empty_row past
 pub issued_by : (rows : List Row) (c i : ℕ) → In (slots (row_at rows c)) i → issue_cycle rows i ≤ c
 issued_by [] c i there = absurd there
 issued_by (row ∷ rows) zero i there = rw (holds_from row i there) (omega arith)
-issued_by (row ∷ rows) (suc c) i there =
-    let rest : issue_cycle rows i ≤ c = issued_by rows c i there in
-    by_bool (holds row i) (λ t. rw t (omega arith)) (λ t. rw t (omega arith))
+issued_by (row ∷ rows) (suc c) i there = grind (arith, issued_by rows c i there)
 
 -- an operation that no row holds is issued in no slot
 pub times_none : (rows : List Row) (i : ℕ) → ((c : ℕ) → c < length rows → In (slots (row_at rows c)) i → ⊥)

@@ -1,5 +1,5 @@
 -- The greatest of some numbers; for priorities, cycles and bounds.
-use Rattle.std.proofs.Common.{◌≡◌, ℕ, ◌≤◌, List, [], ◌∷◌, ◌⊎◌, inl, inr, refl, sym, ◌∙◌, arith}
+use Rattle.std.proofs.Common.{◌≡◌, ℕ, ◌≤◌, List, [], ◌∷◌, ◌⊎◌, inl, inr, refl, arith}
 use Rattle.std.specs.Prelude.{max, fold}
 use Rattle.std.proofs.lemmas.Bool.{cases_lt}
 use Rattle.iloc_timed.proofs.Greatest.{le_fold_max}
@@ -16,7 +16,4 @@ max_is a b = elim (cases_lt a b) [ inl less ↦ inr (omega arith) | inr more ↦
 
 pub fold_max_reached : (a : ℕ) (xs : List ℕ) → (fold max a xs ≡ a) ⊎ In xs (fold max a xs)
 fold_max_reached a [] = inl refl
-fold_max_reached a (x ∷ xs) = elim (fold_max_reached (max a x) xs) [
-  | inl start ↦ elim (max_is a x) [ inl first ↦ inl (start ∙ first) | inr here ↦ inr (inl (sym (start ∙ here))) ]
-  | inr there ↦ inr (inr there)
-]
+fold_max_reached a (x ∷ xs) = grind (arith, max_is, fold_max_reached (max a x) xs)

@@ -54,9 +54,7 @@ from_map f (x ∷ xs) y (inr there) =
 pub in_filter : {X : Type 0} → (p : X → Bool) (xs : List X) (x : X) → In xs x → p x ≡ true → In (filter p xs) x
 in_filter p [] x there passes = absurd there
 in_filter p (y ∷ xs) x (inl here) passes = let same : p y ≡ true = ap p here ∙ passes in rw same (inl here)
-in_filter p (y ∷ xs) x (inr there) passes =
-    let rest : In (filter p xs) x = in_filter p xs x there passes in
-    by_bool (p y) (λ t. rw t (inr rest)) (λ t. rw t rest)
+in_filter p (y ∷ xs) x (inr there) passes = grind (arith, in_filter p xs x there passes)
 
 pub from_filter : {X : Type 0} → (p : X → Bool) (xs : List X) (x : X) → In (filter p xs) x → In xs x × (p x ≡ true)
 from_filter p [] x there = absurd there
@@ -73,9 +71,7 @@ from_filter p (y ∷ xs) x there =
 pub any_at : {X : Type 0} → (p : X → Bool) (xs : List X) (x : X) → In xs x → p x ≡ true → list_any p xs ≡ true
 any_at p [] x there passes = absurd there
 any_at p (y ∷ xs) x (inl here) passes = let same : p y ≡ true = ap p here ∙ passes in rw same refl
-any_at p (y ∷ xs) x (inr there) passes =
-    let rest : list_any p xs ≡ true = any_at p xs x there passes in
-    by_bool (p y) (λ t. rw t refl) (λ t. rw t rest)
+any_at p (y ∷ xs) x (inr there) passes = grind (arith, any_at p xs x there passes)
 
 pub from_any : {X : Type 0} → (p : X → Bool) (xs : List X) → list_any p xs ≡ true → (x : X) × In xs x × (p x ≡ true)
 from_any p [] passes = absurd (true≢false (sym passes))
@@ -88,12 +84,7 @@ from_any p (y ∷ xs) passes =
 -- a test finds as much in one list as in another that has its members
 pub any_same : {X : Type 0} → (p : X → Bool) (xs ys : List X) → ((x : X) → In xs x → In ys x)
     → ((x : X) → In ys x → In xs x) → list_any p xs ≡ list_any p ys
-any_same p xs ys to from =
-    by_bool (list_any p xs)
-    (λ t. let w = from_any p xs t in t ∙ sym (any_at p ys w.0 (to w.0 w.1) w.2))
-    (λ t. by_bool (list_any p ys)
-    (λ u. let w = from_any p ys u in absurd (true≢false (sym (any_at p xs w.0 (from w.0 w.1) w.2) ∙ t)))
-    (λ u. t ∙ sym u))
+any_same p xs ys to from = grind (arith, any_at, from_any, true≢false)
 
 pub all_from : {X : Type 0} → (p : X → Bool) (xs : List X) → ((x : X) → In xs x → p x ≡ true) → list_all p xs ≡ true
 all_from p [] passes = refl

@@ -1,9 +1,8 @@
 -- Lists of numbers that rise or fall, and a search down from n; for the choice, and for look-ups in a log.
-use Rattle.std.proofs.Common.{◌≡◌, ℕ, ◌+◌, ◌<◌, ◌≤◌, zero, suc, Bool, true, false, List, [], ◌∷◌, Some, None, ◌⊎◌, inl, inr, refl, ap, sym, ◌∙◌, subst, arith}
+use Rattle.std.proofs.Common.{◌≡◌, ℕ, ◌+◌, ◌<◌, zero, suc, Bool, true, false, List, [], ◌∷◌, Some, None, ◌⊎◌, inl, inr, refl, ap, sym, ◌∙◌, subst, arith}
 use Rattle.std.specs.Prelude.{find}
 use Rattle.std.specs.List.{range_with_len}
 use Rattle.std.proofs.lemmas.Bool.{cases_eq}
-use Rattle.iloc_meaning.proofs.Cases.{by_bool}
 use Rattle.iloc_sched.specs.Steps.Members.{In}
 use Rattle.iloc_sched.proofs.Basics.Members.{from_range}
 use Rattle.iloc_sched.proofs.Basics.Ordered.{Ordered}
@@ -16,10 +15,7 @@ Falls = Ordered (λ x y. y < x)
 
 pub rises_range : (a n : ℕ) → Rises (range_with_len a n)
 rises_range a zero = tt
-rises_range a (suc n) = (
-  (λ y there. let b : (a + 1 ≤ y) × (y < a + 1 + n) = from_range (a + 1) n y there in omega arith),
-  rises_range (a + 1) n,
-)
+rises_range a (suc n) = grind (arith, from_range, rises_range (a + 1) n)
 
 -- two lists that one asymmetric relation orders are one if they have the same members
 same_ordered : (R : ℕ → ℕ → Type 0) → ((x y : ℕ) → R x y → R y x → ⊥) → (xs ys : List ℕ) → Ordered R xs → Ordered R ys
@@ -98,42 +94,9 @@ pub record FindsLast (p : ℕ → Bool) (n m : ℕ) : Type 0 where
 
 pub finds : (p : ℕ → Bool) (n : ℕ) → FindsNone p n ⊎ ((m : ℕ) × FindsLast p n m)
 finds p zero = inl (record { is = refl; fails = λ k below. absurd (omega arith) })
-finds p (suc n) =
-    by_bool (p n)
-    (λ t. inr (
-      n,
-      record {
-        is = rw t refl;
-        below = omega arith;
-        passes = t;
-        fails = λ k above below.
-            absurd (omega arith);
-      },
-    ))
-    (λ t. elim (finds p n) [
-      | inl none ↦ inl (record {
-        is = rw t none.is;
-        fails = λ k below. elim (cases_eq k n) [ inl here ↦ ap p here ∙ t | inr apart ↦ none.fails k (omega arith) ];
-      })
-      | inr some ↦ inr (
-        some.0,
-        record {
-          is = rw t some.1.is;
-          below = let within : some.0 < n = some.1.below in omega arith;
-          passes = some.1.passes;
-          fails = λ k above below. elim (cases_eq k n) [
-            | inl here ↦ ap p here ∙ t
-            | inr apart ↦
-                some.1.fails k above (omega arith)
-          ];
-        },
-      )
-    ])
+finds p (suc n) = grind (arith, cases_eq, finds p n)
 
 pub falls_from : (R : ℕ → ℕ → Type 0) (xs : List ℕ) → Ordered R xs → ((x y : ℕ) → In xs x → In xs y → R x y → y < x)
     → Falls xs
 falls_from R [] o below = tt
-falls_from R (x ∷ xs) o below = (
-  (λ y there. below x y (inl refl) (inr there) (o.0 y there)),
-  falls_from R xs o.1 (λ z y front back. below z y (inr front) (inr back)),
-)
+falls_from R (x ∷ xs) o below = grind (arith, falls_from R xs o.1 (λ z y front back. below z y (inr front) (inr back)))

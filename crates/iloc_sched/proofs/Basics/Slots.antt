@@ -31,9 +31,7 @@ pub holds_from : (row : Row) (i : ℕ) → In (slots row) i → holds row i ≡ 
 holds_from row i there = any_at (λ j. i == j) (slots row) i there (eq-eqb i i refl)
 
 pub from_holds : (row : Row) (i : ℕ) → holds row i ≡ true → In (slots row) i
-from_holds row i is =
-    let found = from_any (λ j. i == j) (slots row) is in
-    subst (In (slots row)) (sym (eqb-true i found.0 found.2)) found.1
+from_holds row i is = grind (arith, eqb-true, from_any)
 
 pub count_in_some : (row : Row) (i : ℕ) → In (slots row) i → 1 ≤ count_in row i
 count_in_some row i there = count_some (λ j. i == j) (slots row) i there (eq-eqb i i refl)
@@ -42,16 +40,12 @@ pub count_in_none : (row : Row) (i : ℕ) → holds row i ≡ false → count_in
 count_in_none row i none = count_by_none (λ j. i == j) (slots row) none
 
 pub count_in_twice : (row : Row) (i : ℕ) → row.one ≡ Some i → row.zero ≡ Some i → 2 ≤ count_in row i
-count_in_twice row i one two =
-    let here : (i == i) ≡ true = eq-eqb i i refl in
-    rw (one, two, here) (omega arith)
+count_in_twice row i one two = grind (arith, eq-eqb)
 
 pub count_in_within : (rows : List Row) (c i : ℕ) → count_in (row_at rows c) i ≤ times_issued rows i
 count_in_within [] c i = omega arith
 count_in_within (row ∷ rows) zero i = subst (λ n. count_in row i ≤ n) (sym (times_issued-cons row rows i)) (omega arith)
-count_in_within (row ∷ rows) (suc c) i =
-    let rest : count_in (row_at rows c) i ≤ times_issued rows i = count_in_within rows c i in
-    subst (λ n. count_in (row_at rows c) i ≤ n) (sym (times_issued-cons row rows i)) (omega arith)
+count_in_within (row ∷ rows) (suc c) i = grind (arith, times_issued-cons, count_in_within rows c i)
 
 -- an operation that stands in one slot is issued at the cycle of a row where it stands
 pub issued_there : (rows : List Row) (c i : ℕ) → times_issued rows i ≡ 1 → In (slots (row_at rows c)) i
@@ -152,12 +146,4 @@ module _ (ops : List Op) (rows : List Row) (table : IsTable ops rows) where
 
   pub issued_in_order : (c : ℕ) → Ordered (ComesLater rows) (numbers_before rows c)
   issued_in_order zero = tt
-  issued_in_order (suc c) = ordered_append (ComesLater rows) (slots (row_at rows c)) (numbers_before rows c)
-      (row_in_order c) (issued_in_order c) (λ x y here before.
-      let at : issue_cycle rows x ≡ c = cycle_is c x here in
-      let early : issue_cycle rows y < c = (issued_early c y before).1 in
-      record {
-        later = omega arith;
-        apart = λ same. let moved : issue_cycle rows x
-            ≡ issue_cycle rows y = ap (issue_cycle rows) same in omega arith;
-      })
+  issued_in_order (suc c) = grind (arith, cycle_is, issued_early, ordered_append, row_in_order, issued_in_order c)

@@ -1,14 +1,13 @@
 -- How many numbers pass a test; for `laws::least_bounds_the_cycles`.
 use Rattle.std.proofs.Common.{◌≡◌, ◌∙◌, ℕ, ◌+◌, ◌<◌, ◌≤◌, ◌/◌, zero, suc, Bool, true, false, cond, ◌&&◌, ◌||◌, ◌==◌, List, [], ◌∷◌, ◌++◌, length, map, filter, refl, sym, ap, ap₂, subst₂, inl, inr, arith}
 use Rattle.std.specs.Prelude.{count_by, nat_le}
-use Rattle.std.specs.List.{list_any, range_with_len}
+use Rattle.std.specs.List.{range_with_len}
 use Rattle.std.specs.List.Sorted.{IsPermutation}
 use Rattle.std.proofs.Math.Nat.{div-mul-le_self}
 use Rattle.std.proofs.lemmas.Nat.{le-div}
 use Rattle.std.proofs.lemmas.Bool.Decides.{nat_tests}
 use Rattle.std.proofs.lemmas.List.Sorted.{sum_by-IsPermutation}
 use Rattle.std.proofs.lemmas.List.Sums.{sum_by-append}
-use Rattle.iloc_meaning.proofs.Cases.{by_bool}
 use Rattle.iloc_timed.proofs.Counts.{count_by_none}
 use Rattle.iloc_sched.specs.Steps.Members.{In}
 use Rattle.iloc_sched.proofs.Basics.Members.{from_any}
@@ -24,9 +23,7 @@ count-append p xs ys = sum_by-append (λ x. cond (p x) 1 0) xs ys
 -- none is counted that fails
 pub count-never : {X : Type 0} → (p : X → Bool) (xs : List X) → ((x : X) → In xs x → p x ≡ true → ⊥)
     → count_by p xs ≤ 0
-count-never p xs h = by_bool (list_any p xs)
-    (λ some. let found = from_any p xs some in absurd (h found.0 found.1 found.2))
-    (λ none. omega (arith, count_by_none p xs none))
+count-never p xs h = grind (arith, count_by_none, from_any)
 
 -- the tests of counts
 
@@ -65,15 +62,7 @@ count-filter {X} p q (x ∷ xs) = by (q x) refl (count-filter p q xs)
 pub count-mono : {X : Type 0} → (p q : X → Bool) (xs : List X) → ((x : X) → In xs x → p x ≡ true → q x ≡ true)
     → count_by p xs ≤ count_by q xs
 count-mono p q [] h = omega arith
-count-mono {X} p q (x ∷ xs) h =
-    let rest : count_by p xs ≤ count_by q xs = count-mono p q xs (λ y there. h y (inr there)) in
-    let first : cond {A = ℕ} (p x) 1 0 ≤ cond (q x) 1 0 = by (p x) (q x) (h x (inl refl)) in
-    subst₂ (λ a b. a ≤ b) (sym (count_by-cons p x xs)) (sym (count_by-cons q x xs)) (omega arith)
-  where
-    by : (a b : Bool) → (a ≡ true → b ≡ true) → cond {A = ℕ} a 1 0 ≤ cond b 1 0
-    by false b h = omega arith
-    by true true h = omega arith
-    by true false h = let no = h refl in cc
+count-mono {X} p q (x ∷ xs) h = grind (arith, count_by-cons, subst₂, count-mono p q xs (λ y there. h y (inr there)))
 
 pub count-or : {X : Type 0} → (p q : X → Bool) (xs : List X)
     → count_by (λ x. p x || q x) xs ≤ count_by p xs + count_by q xs
@@ -93,10 +82,7 @@ count-or {X} p q (x ∷ xs) =
 
 late_none : (x a n : ℕ) → x < a → count_by (λ i. i == x) (range_with_len a n) ≡ 0
 late_none x a zero h = refl
-late_none x a (suc n) h =
-    let other : (a == x) ≡ false = grind (arith, nat_tests) in
-    count_by-cons (λ i. i == x) a (range_with_len (a + 1) n)
-    ∙ ap₂ (λ b m. cond b 1 0 + m) other (late_none x (a + 1) n (omega arith))
+late_none x a (suc n) h = grind (arith, count_by-cons, nat_tests, late_none x (a + 1) n (omega arith))
 
 one_at_most : (x a n : ℕ) → count_by (λ i. i == x) (range_with_len a n) ≤ 1
 one_at_most x a zero = omega arith
@@ -120,11 +106,7 @@ among (x ∷ xs) i = (i == x) || among xs i
 pub in_among : (xs : List ℕ) (i : ℕ) → In xs i → among xs i ≡ true
 in_among [] i h = absurd h
 in_among (x ∷ xs) i (inl e) = let here : (i == x) ≡ true = grind (arith, nat_tests) in rw here refl
-in_among (x ∷ xs) i (inr there) = by (i == x) (in_among xs i there)
-  where
-    by : (b : Bool) → among xs i ≡ true → (b || among xs i) ≡ true
-    by true h = refl
-    by false h = h
+in_among (x ∷ xs) i (inr there) = grind (arith, in_among xs i there)
 
 -- a range has no number twice
 pub among-short : (xs : List ℕ) (a n : ℕ) → count_by (among xs) (range_with_len a n) ≤ length xs

@@ -1,5 +1,5 @@
 -- Intervals that cover all cycles below n have n cycles at least; for `laws::latencies_bound_the_cycles`.
-use Rattle.std.proofs.Common.{◌≡◌, ℕ, ◌+◌, ◌-◌, ◌<◌, ◌≤◌, zero, suc, min, List, [], ◌∷◌, map, length, inl, inr, refl, ap, sym, ◌∙◌, subst, arith}
+use Rattle.std.proofs.Common.{◌≡◌, ℕ, ◌+◌, ◌-◌, ◌<◌, ◌≤◌, zero, suc, min, List, [], ◌∷◌, map, length, inl, inr, refl, ap, sym, ◌∙◌, arith}
 use Rattle.std.specs.Prelude.{sum_by, slice_index_or}
 use Rattle.std.specs.List.{range_with_len}
 use Rattle.std.proofs.lemmas.List.FromFn.{fill_by_all}
@@ -12,16 +12,8 @@ use Rattle.iloc_sched.proofs.Basics.Members.{in_range_from}
 sum_grows : {X : Type 0} → (f g : X → ℕ) (xs : List X) (x : X) → In xs x → f x + 1 ≤ g x → ((y : X) → f y ≤ g y)
     → sum_by f xs + 1 ≤ sum_by g xs
 sum_grows f g [] x there more each = absurd there
-sum_grows f g (y ∷ ys) x (inl here) more each =
-    let first : f y + 1 ≤ g y = subst (λ z. f z + 1 ≤ g z) (sym here) more in
-    let rest : sum_by f ys ≤ sum_by g ys = sum_by-le-sum_by f g ys each in
-    subst (λ n. n + 1 ≤ sum_by g (y ∷ ys)) (sym (sum_by-cons f y ys))
-    (subst (λ n. f y + sum_by f ys + 1 ≤ n) (sym (sum_by-cons g y ys)) (omega arith))
-sum_grows f g (y ∷ ys) x (inr there) more each =
-    let first : f y ≤ g y = each y in
-    let rest : sum_by f ys + 1 ≤ sum_by g ys = sum_grows f g ys x there more each in
-    subst (λ n. n + 1 ≤ sum_by g (y ∷ ys)) (sym (sum_by-cons f y ys))
-    (subst (λ n. f y + sum_by f ys + 1 ≤ n) (sym (sum_by-cons g y ys)) (omega arith))
+sum_grows f g (y ∷ ys) x (inl here) more each = grind (arith, sum_by-cons, sum_by-le-sum_by)
+sum_grows f g (y ∷ ys) x (inr there) more each = grind (arith, sum_by-cons, sum_grows f g ys x there more each)
 
 pub sum_by-map : {X Y : Type 0} → (f : Y → ℕ) (h : X → Y) (xs : List X) → sum_by f (map h xs) ≡ sum_by (λ x. f (h x)) xs
 sum_by-map f h xs = fold-map (λ a y. a + f y) h 0 xs

@@ -1,18 +1,17 @@
 -- No lawful schedule takes fewer cycles than `least` says: `laws::least_bounds_the_cycles`.
-use Rattle.std.proofs.Common.{◌≡◌, ℕ, ◌+◌, ◌<◌, ◌≤◌, Bool, true, ◌&&◌, List, [], ◌∷◌, length, map, filter, refl, sym, ap, subst, inl, inr, arith}
+use Rattle.std.proofs.Common.{◌≡◌, ℕ, ◌+◌, ◌<◌, ◌≤◌, Bool, ◌&&◌, List, [], ◌∷◌, length, map, filter, refl, ap, inl, inr, arith}
 use Rattle.std.specs.Prelude.{nat_le}
 use Rattle.std.specs.List.{range_with_len}
 use Rattle.std.proofs.lemmas.Bool.{and_parts}
 use Rattle.iloc_ops.specs.declared.op.Op.{Op}
-use Rattle.iloc_meaning.proofs.Cases.{by_bool}
 use Rattle.iloc_timed.specs.declared.kind.Kind.{Kind}
 use Rattle.iloc_timed.specs.declared.latencies.Latencies.{Latencies}
 use Rattle.iloc_timed.specs.declared.row.Row.{Row}
-use Rattle.iloc_timed.specs.Kinds.{is_load, is_memory, is_mult, is_output}
+use Rattle.iloc_timed.specs.Kinds.{is_load}
 use Rattle.iloc_timed.specs.Rows.{issue_cycle}
 use Rattle.iloc_timed.specs.Cycles.{cycles}
 use Rattle.iloc_sched.specs.LowerBound.Starts.{start}
-use Rattle.iloc_sched.specs.LowerBound.Least.{needed, tail, of_kind, from_start, needed_after, needed_by, least_of}
+use Rattle.iloc_sched.specs.LowerBound.Least.{needed, tail, of_kind, from_start, needed_after, needed_by}
 use Rattle.iloc_sched.specs.Lawful.{IsLawful}
 use Rattle.iloc_sched.specs.Laws.{LeastBoundsTheCycles, BoundsProveTheOptimum}
 use Rattle.iloc_sched.proofs.Basics.Members.{from_map, from_filter, from_range}
@@ -25,11 +24,7 @@ use Rattle.iloc_sched.proofs.Bounds.TailBound.{Fits, key, crowd_of, tail_within}
 
 filter_twice : {X : Type 0} → (p q : X → Bool) (xs : List X) → filter p (filter q xs) ≡ filter (λ x. q x && p x) xs
 filter_twice p q [] = refl
-filter_twice {X} p q (x ∷ xs) = by_bool (q x)
-    (λ is. by_bool (p x)
-    (λ kept. rw (is, kept, filter_twice p q xs) refl)
-    (λ out. rw (is, out, filter_twice p q xs) refl))
-    (λ not. rw (not, filter_twice p q xs) refl)
+filter_twice {X} p q (x ∷ xs) = grind (arith, filter_twice p q xs)
 
 needed_bound : (test : Kind → Bool) (width : ℕ) (lat : Latencies) (block ops : List Op) (rows : List Row)
     → IsLawful lat block ops rows → Holds test width ops → 0 < width
@@ -73,16 +68,7 @@ needed_bound test width lat block ops rows lawful holds some =
     ]
 
 pub least_bound : LeastBoundsTheCycles
-least_bound lat block ops rows lawful =
-    let memory = needed_bound is_memory 1 lat block ops rows lawful (holds_memory ops) (omega arith) in
-    let products = needed_bound is_mult 1 lat block ops rows lawful (holds_products ops) (omega arith) in
-    let outputs = needed_bound is_output 1 lat block ops rows lawful (holds_outputs ops) (omega arith) in
-    let all = needed_bound (λ k. true) 2 lat block ops rows lawful (holds_all ops) (omega arith) in
-    let own : least_of lat ops ≤ cycles lat ops rows = omega arith in
-    subst (λ names. least_of lat names ≤ cycles lat ops rows) lawful.names own
+least_bound = grind (arith, holds_all, holds_memory, holds_outputs, holds_products, needed_bound)
 
 pub optimum : BoundsProveTheOptimum
-optimum lat block ops ops' rows rows' lawful same other =
-    let low : cycles lat ops rows ≤ cycles lat ops' rows' =
-    subst (λ n. n ≤ cycles lat ops' rows') (sym same) (least_bound lat block ops' rows' other) in
-    low
+optimum = grind (arith, least_bound)

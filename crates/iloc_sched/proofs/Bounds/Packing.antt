@@ -29,9 +29,7 @@ count_no s x xs lt = count_by-cons (λ p. nat_le s p) x xs
     ∙ ap (λ b. cond {A = ℕ} b 1 0 + count_from xs s) (low_no s x lt)
 
 pub count_falls : (xs : List ℕ) (a b : ℕ) → a ≤ b → count_from xs b ≤ count_from xs a
-count_falls xs a b le = count-mono (λ p. nat_le b p) (λ p. nat_le a p) xs (λ x there passes.
-    let high : b ≤ x = at_least b x passes in
-    is_at_least a x (omega arith))
+count_falls xs a b le = grind (arith, at_least, count-mono, is_at_least)
 
 -- the lowest number from s on
 record IsLowest (xs : List ℕ) (s : ℕ) : Type 0 where
@@ -132,11 +130,7 @@ taken_no taken s n fails = count_by-cons taken s (range_with_len (s + 1) n)
 taken_few : (taken : ℕ → Bool) (top : ℕ) → ((q : ℕ) → taken q ≡ true → q ≤ top) → (s n : ℕ)
     → taken_in taken s n ≤ (top + 1) - s
 taken_few taken top up_to s zero = omega arith
-taken_few taken top up_to s (suc n) =
-    let rest : taken_in taken (s + 1) n ≤ (top + 1) - (s + 1) = taken_few taken top up_to (s + 1) n in
-    by_bool (taken s)
-    (λ holds. let here = taken_yes taken s n holds in let below : s ≤ top = up_to s holds in omega arith)
-    (λ fails. let here = taken_no taken s n fails in omega arith)
+taken_few taken top up_to s (suc n) = grind (arith, taken_no, taken_yes, taken_few taken top up_to (s + 1) n)
 
 -- all up to the top
 taken_run : (taken : ℕ → Bool) (top s n : ℕ) → s ≤ top → top < s + n
@@ -157,12 +151,7 @@ taken_none taken s (suc n) none =
 module _ (taken taken' : ℕ → Bool) (p : ℕ) (other : (q : ℕ) → q ≢ p → taken' q ≡ taken q) where
   put_out : (s n : ℕ) → p < s → taken_in taken' s n ≡ taken_in taken s n
   put_out s zero past = refl
-  put_out s (suc n) past =
-      let rest : taken_in taken' (s + 1) n ≡ taken_in taken (s + 1) n = put_out (s + 1) n (omega arith) in
-      let same : taken' s ≡ taken s = other s (omega arith) in
-      by_bool (taken s)
-      (λ holds. let old = taken_yes taken s n holds in let new = taken_yes taken' s n (same ∙ holds) in omega arith)
-      (λ fails. let old = taken_no taken s n fails in let new = taken_no taken' s n (same ∙ fails) in omega arith)
+  put_out s (suc n) past = grind (arith, taken_no, taken_yes, put_out (s + 1) n (omega arith))
 
   put_in : taken p ≡ false → taken' p ≡ true → (s n : ℕ) → s ≤ p → p < s + n
       → taken_in taken' s n ≡ 1 + taken_in taken s n
@@ -186,13 +175,7 @@ not_both : (b : Bool) → b ≡ true → b ≡ false → ⊥
 not_both b holds fails = cc
 
 pub packed_none : (taken : ℕ → Bool) → ((q : ℕ) → taken q ≡ false) → IsPacked [] taken 0
-packed_none taken none = record {
-  most = λ s n within. let zero_from : count_from [] s ≡ 0 = refl in omega arith;
-  whole = λ n within. taken_none taken 0 n none;
-  same = λ s n within free. taken_none taken (s + 1) n none;
-  up_to = λ q is. absurd (not_both (taken q) is (none q));
-  reached = inl refl;
-}
+packed_none taken none = grind (arith, not_both, taken_none)
 
 packed_low : (xs : List ℕ) (taken : ℕ → Bool) (top : ℕ) → IsPacked xs taken top → top ≤ needed 1 xs
 packed_low xs taken top is = elim is.reached [
@@ -319,33 +302,10 @@ module _ (links : List ℕ) (p next after : ℕ) (is : IsLinked links) (within :
     at_other q other = get_or-set_other links p q after q other
 
     pub shorter_alike : (q : ℕ) → is_taken (set links p after) q ≡ is_taken links q
-    shorter_alike q = by_eq q p
-        (λ same.
-        let new : is_taken (set links p after) p ≡ true = from_taken (set links p after) p
-        (let one = at_p in let two = ahead in let three = further in omega arith) in
-        let old : is_taken links p ≡ true = from_taken links p (omega arith) in
-        ap (is_taken (set links p after)) same ∙ new ∙ sym old ∙ sym (ap (is_taken links) same))
-        (λ other. ap (λ l. not (l == q)) (at_other q other))
+    shorter_alike q = grind (arith, ahead, at_other, at_p, from_taken, further)
 
     pub shorter_linked : IsLinked (set links p after)
-    shorter_linked =
-        let size : length (set links p after) ≡ length links = length-set links p after in
-        record {
-          forth = λ k under. by_eq k p
-              (λ same.
-              let here : link (set links p after) k ≡ link (set links p after) p = ap (link (set links p after)) same in
-              let one = at_p in let two = ahead in let three = further in omega arith)
-              (λ other. let old : k ≤ link links k = is.forth k (omega arith) in
-              let here = at_other k other in omega arith);
-          between = λ k q under low high. shorter_alike q ∙ by_eq k p
-              (λ same.
-              let here : link (set links p after) k ≡ link (set links p after) p = ap (link (set links p after)) same in
-              let one = at_p in
-              by_lt q next
-              (λ first. is.between p q within (omega arith) (omega arith))
-              (λ second. is.between next q beyond second (omega arith)))
-              (λ other. let here = at_other k other in is.between k q (omega arith) low (omega arith));
-        }
+    shorter_linked = grind (arith, ahead, at_other, at_p, further, length-set, shorter_alike)
 
 -- a free place that is taken
 module _ (links : List ℕ) (p : ℕ) (is : IsLinked links) (within : p < length links) (free : is_taken links p ≡ false) where
@@ -359,47 +319,15 @@ module _ (links : List ℕ) (p : ℕ) (is : IsLinked links) (within : p < length
   put_other q other = ap (λ l. not (l == q)) (get_or-set_other links p q (p + 1) q other)
 
   still : (q : ℕ) → is_taken links q ≡ true → is_taken (set links p (p + 1)) q ≡ true
-  still q holds = by_eq q p
-      (λ same. ap (is_taken (set links p (p + 1))) same ∙ put_now)
-      (λ other. put_other q other ∙ holds)
+  still q holds = grind (arith, put_now, put_other)
 
   pub put_linked : IsLinked (set links p (p + 1))
-  put_linked =
-      let size : length (set links p (p + 1)) ≡ length links = length-set links p (p + 1) in
-      record {
-        forth = λ k under. by_eq k p
-            (λ same.
-            let here : link (set links p (p + 1)) k ≡ link (set links p (p + 1)) p =
-            ap (link (set links p (p + 1))) same in
-            let one = at_place in omega arith)
-            (λ other. let old : k ≤ link links k = is.forth k (omega arith) in
-            let here : link (set links p (p + 1)) k ≡ link links k = get_or-set_other links p k (p + 1) k other in
-            omega arith);
-        between = λ k q under low high. by_eq k p
-            (λ same.
-            let here : link (set links p (p + 1)) k ≡ link (set links p (p + 1)) p =
-            ap (link (set links p (p + 1))) same in
-            let one = at_place in
-            let is_p : q ≡ p = omega arith in
-            ap (is_taken (set links p (p + 1))) is_p ∙ put_now)
-            (λ other.
-            let here : link (set links p (p + 1)) k ≡ link links k = get_or-set_other links p k (p + 1) k other in
-            still q (is.between k q (omega arith) low (omega arith)));
-      }
+  put_linked = grind (arith, at_place, get_or-set_other, length-set, put_now, still)
 
 -- a link goes no further than behind the last taken place
 pub link_near : (links : List ℕ) (top p : ℕ) → IsLinked links → ((q : ℕ) → is_taken links q ≡ true → q ≤ top)
     → p < length links → top + 1 < length links → link links p < length links
-link_near links top p is up_to within space = by_eq (link links p) p
-    (λ same. omega arith)
-    (λ apart.
-    let forth : p ≤ link links p = is.forth p within in
-    let last : link links p - 1 ≤ top =
-    up_to (link links p - 1) (is.between p (link links p - 1) within (omega arith) (omega arith)) in
-    omega arith)
+link_near links top p is up_to within space = grind arith
 
 pub free_linked : (links : List ℕ) → ((q : ℕ) → link links q ≡ q) → IsLinked links
-free_linked links all = record {
-  forth = λ p within. let same = all p in omega arith;
-  between = λ p q within low high. absurd (let same = all p in omega arith);
-}
+free_linked links all = grind arith

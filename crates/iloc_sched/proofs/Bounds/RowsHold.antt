@@ -1,5 +1,5 @@
 -- How many of some operations a row holds; for `laws::least_bounds_the_cycles`.
-use Rattle.std.proofs.Common.{◌≡◌, ◌∙◌, ℕ, ◌+◌, ◌≤◌, Bool, true, false, cond, not, ◌&&◌, List, [], ◌∷◌, ◌++◌, Option, Some, None, refl, sym, ap, inl, inr, arith}
+use Rattle.std.proofs.Common.{◌≡◌, ◌∙◌, ℕ, ◌+◌, ◌≤◌, Bool, true, false, not, ◌&&◌, List, [], ◌∷◌, ◌++◌, Option, Some, None, refl, sym, ap, inl, inr, arith}
 use Rattle.std.specs.Prelude.{count_by, option_to_list, IsTrue}
 use Rattle.iloc_ops.specs.declared.op.Op.{Op}
 use Rattle.iloc_meaning.specs.Trace.{op_at}
@@ -30,9 +30,7 @@ one_slot p (Some i) = count_by-le-length p (i ∷ [])
 
 no_slot : (p : ℕ → Bool) (slot : Option ℕ) → ((i : ℕ) → slot ≡ Some i → p i ≡ false)
     → count_by p (option_to_list slot) ≤ 0
-no_slot p None h = omega arith
-no_slot p (Some i) h = let none : count_by p (i ∷ []) ≡ 0 =
-    count_by-cons p i [] ∙ ap (λ b. cond {A = ℕ} b 1 0 + 0) (h i refl) in omega arith
+no_slot p slot h = grind (arith, count_by-cons)
 
 units_parts : (a b c : Bool) → (not a && not b && not c) ≡ true → (a ≡ false) × (b ≡ false) × (c ≡ false)
 units_parts false false false h = (refl, refl, refl)
@@ -42,9 +40,7 @@ units_parts _ _ _ h = cc
 units_of : (ops : List Op) (row : Row) → IsTrue (keeps_units ops row)
     → (is_some_kind is_mult (kind_in ops row.zero) ≡ false) × (is_some_kind is_memory (kind_in ops row.one) ≡ false)
     × ((is_some_kind is_output (kind_in ops row.zero) && is_some_kind is_output (kind_in ops row.one)) ≡ false)
-units_of ops row h = units_parts (is_some_kind is_mult (kind_in ops row.zero))
-    (is_some_kind is_memory (kind_in ops row.one))
-    (is_some_kind is_output (kind_in ops row.zero) && is_some_kind is_output (kind_in ops row.one)) h
+units_of ops row h = grind (arith, units_parts)
 
 not_there : (test : Kind → Bool) (ops : List Op) (slot : Option ℕ) → is_some_kind test (kind_in ops slot) ≡ false
     → count_by (is_kind test ops) (option_to_list slot) ≤ 0
@@ -52,18 +48,10 @@ not_there test ops slot h = no_slot (is_kind test ops) slot
     (λ i e. sym (ap (λ s. is_some_kind test (kind_in ops s)) e) ∙ h)
 
 pub holds_memory : (ops : List Op) → Holds is_memory 1 ops
-holds_memory ops row h =
-    let p : ℕ → Bool = is_kind is_memory ops in
-    let none = not_there is_memory ops row.one (units_of ops row h).1 in
-    let one = one_slot p row.zero in
-    let sum = both_slots p row.one row.zero in omega arith
+holds_memory ops = grind (arith, both_slots, not_there, one_slot, units_of)
 
 pub holds_products : (ops : List Op) → Holds is_mult 1 ops
-holds_products ops row h =
-    let p : ℕ → Bool = is_kind is_mult ops in
-    let none = not_there is_mult ops row.zero (units_of ops row h).0 in
-    let one = one_slot p row.one in
-    let sum = both_slots p row.one row.zero in omega arith
+holds_products ops = grind (arith, both_slots, not_there, one_slot, units_of)
 
 pub holds_outputs : (ops : List Op) → Holds is_output 1 ops
 holds_outputs ops row h =
@@ -78,19 +66,7 @@ holds_outputs ops row h =
     ]
 
 pub holds_all : (ops : List Op) → Holds (λ k. true) 2 ops
-holds_all ops row h =
-    let p : ℕ → Bool = is_kind (λ k. true) ops in
-    let zero_one = one_slot p row.zero in
-    let one_one = one_slot p row.one in
-    let sum = both_slots p row.one row.zero in omega arith
+holds_all ops = grind (arith, both_slots, one_slot)
 
 pub holds_loads : (ops : List Op) → Holds is_load 1 ops
-holds_loads ops row h =
-    let all : count_by (is_kind is_memory ops) (slots row) ≤ 1 = holds_memory ops row h in
-    let some : count_by (is_kind is_load ops) (slots row) ≤ count_by (is_kind is_memory ops) (slots row) =
-    count-mono (is_kind is_load ops) (is_kind is_memory ops) (slots row) (λ i there loads.
-    memory_of (kind (op_at ops i)) loads) in
-    omega arith
-  where
-    memory_of : (k : Kind) → is_load k ≡ true → is_memory k ≡ true
-    memory_of k loads = rw loads refl
+holds_loads ops = grind (arith, count-mono, holds_memory)

@@ -1,5 +1,5 @@
 -- How early operations are issued at least, by their tails; for `laws::least_bounds_the_cycles`.
-use Rattle.std.proofs.Common.{◌≡◌, ◌∙◌, ℕ, ◌+◌, ◌-◌, ◌*◌, ◌<◌, ◌≤◌, ◌/◌, max, zero, suc, Bool, true, false, cond, ◌&&◌, List, [], ◌∷◌, length, map, filter, refl, sym, ap, add-one, inl, inr, arith}
+use Rattle.std.proofs.Common.{◌≡◌, ◌∙◌, ℕ, ◌+◌, ◌-◌, ◌*◌, ◌<◌, ◌≤◌, ◌/◌, max, zero, suc, Bool, true, cond, ◌&&◌, List, [], ◌∷◌, length, map, filter, refl, sym, ap, add-one, inl, inr, arith}
 use Rattle.std.specs.Prelude.{count_by, nat_le, nat_lt, slice_index, fold}
 use Rattle.std.specs.List.{range_with_len}
 use Rattle.std.proofs.Math.Nat.{mul-suc, mul-div-le, mul-le-mul_left}
@@ -16,7 +16,7 @@ use Rattle.iloc_timed.specs.Kinds.{kind, is_load, is_store}
 use Rattle.iloc_timed.specs.Latency.{latency}
 use Rattle.iloc_timed.specs.Rows.{row_at, slots, issue_cycle, IsTable}
 use Rattle.iloc_timed.proofs.WholeRuns.{short_latency}
-use Rattle.iloc_sched.specs.Delays.{uses_result, reads_stored, keeps_order, when, memory_delays, delays, IsDelayPair}
+use Rattle.iloc_sched.specs.Delays.{when, delays, IsDelayPair}
 use Rattle.iloc_sched.specs.Priority.{reaches}
 use Rattle.iloc_sched.specs.LowerBound.Least.{count_from, cycles_from, needed, load_tails, behind, tails, tail}
 use Rattle.iloc_sched.specs.Steps.Members.{In}
@@ -35,26 +35,14 @@ loads_at ops i = is_load (kind (op_at ops i))
 
 -- (m - 1) / width is at most r where m is at most width * (r + 1): else width * (r + 1) would be at most m - 1
 rest_within : (width m r : ℕ) → 0 < width → m ≤ width * (r + 1) → (m - 1) / width ≤ r
-rest_within width m r some h = elim (cases_lt r ((m - 1) / width)) [
-  | inl more ↦
-      (let least : width * suc r ≤ width * ((m - 1) / width) = mul-le-mul_left width (omega arith) in
-      let back : width * ((m - 1) / width) ≤ m - 1 = mul-div-le (m - 1) width in
-      let same : width * (r + 1) ≡ width * suc r = ap (λ n. width * n) (add-one r) in
-      let some_product : width ≤ width * suc r = omega (arith, mul-suc width r) in
-      absurd (omega arith))
-  | inr less ↦ less
-]
+rest_within width m r some h = grind (arith, add-one, cases_lt, mul-div-le, mul-le-mul_left, mul-suc)
 
 -- whether x is a cycle from a to before c
 abbrev pub between : ℕ → ℕ → ℕ → Bool
 between a c x = nat_le a x && nat_lt x c
 
 is_between : (a c x : ℕ) → between a c x ≡ true → (a ≤ x) × (x < c)
-is_between a c x h =
-    let parts = and_parts (nat_le a x) (nat_lt x c) h in
-    let low : nat_le a x ≡ true = parts.0 in
-    let high : nat_lt x c ≡ true = parts.1 in
-    (at_least a x low, grind (arith, nat_tests))
+is_between a c x h = grind (arith, and_parts, at_least, nat_tests)
 
 in_between : (a c x : ℕ) → a ≤ x → x < c → between a c x ≡ true
 in_between a c x low high =
@@ -202,9 +190,7 @@ fits_later lat op later limit t f = record {
 }
 
 load_one : (b : ℕ) (l : Bool) (x : ℕ) → count_from (when l x) b ≤ cond {A = ℕ} (l && nat_le b x) 1 0
-load_one b true x = let here = count_by-cons (λ y. nat_le b y) x [] in
-    let none : count_by (λ y. nat_le b y) [] ≡ 0 = refl in omega arith
-load_one b false x = omega arith
+load_one b l x = grind (arith, count_by-cons)
 
 -- a load's tail is picked by its number
 loads_picked : (ops : List Op) (ts : List ℕ) (b : ℕ) → count_from (load_tails ops ts) b
@@ -237,11 +223,7 @@ loads_picked ops ts b =
 
 store_load : (lat : Latencies) (i j : Op) → is_store (kind i) ≡ true → is_load (kind j) ≡ true
     → In (delays lat i j) (latency lat i)
-store_load lat i j stores loads =
-    let reads : reads_stored (kind i) (kind j) ≡ true = rw (stores, loads) refl in
-    in_right (when (uses_result i j) (latency lat i)) (memory_delays lat i j) (latency lat i)
-    (in_left (when (reads_stored (kind i) (kind j)) (latency lat i)) (when (keeps_order (kind i) (kind j)) 1)
-    (latency lat i) (in_when (reads_stored (kind i) (kind j)) (latency lat i) reads))
+store_load lat i j stores loads = grind (arith, in_left, in_right, in_when)
 
 -- the first operation, where the later ones have their tails left
 tail_first : (lat : Latencies) (op : Op) (later : List Op) (limit : ℕ) (t : ℕ → ℕ) → Fits lat (op ∷ later) limit t

@@ -2,13 +2,11 @@
 use Rattle.std.proofs.Common.{◌≡◌, ℕ, ◌≤◌, Bool, true, List, ◌⊎◌, inl, inr, refl, arith, ◌++◌}
 use Rattle.std.specs.Prelude.{Contains}
 use Rattle.iloc_ops.specs.declared.op.Op.{Op}
-use Rattle.iloc_ops.specs.Registers.{used}
 use Rattle.iloc_timed.specs.declared.kind.Kind.{Kind}
 use Rattle.iloc_timed.specs.declared.latencies.Latencies.{Latencies}
 use Rattle.iloc_timed.specs.Kinds.{kind}
 use Rattle.iloc_timed.specs.Latency.{latency, latency_of}
-use Rattle.iloc_meaning.proofs.Cases.{by_bool}
-use Rattle.iloc_sched.specs.Delays.{uses_result, reads_stored, keeps_order, when, memory_delays, delays}
+use Rattle.iloc_sched.specs.Delays.{reads_stored, keeps_order, when, delays}
 use Rattle.iloc_sched.specs.Steps.Members.{In}
 use Rattle.iloc_sched.proofs.Basics.Members.{in_from, from_append}
 use Rattle.iloc_timed.proofs.WholeRuns.{some_latency, short_latency}
@@ -21,22 +19,11 @@ pub in_when : (b : Bool) (d : ℕ) → b ≡ true → In (when b d) d
 in_when b d holds = rw holds (inl refl)
 
 pub from_when : (b : Bool) (d e : ℕ) → In (when b d) e → (b ≡ true) × (d ≡ e)
-from_when b d e there =
-    by_bool b
-    (λ t. elim (rw t at there) [ inl here ↦ (t, here) | inr none ↦ absurd none ])
-    (λ t. absurd (rw t at there))
+from_when b d e there = grind arith
 
 -- a delay is the latency of the first or 1
 pub delay_is : (lat : Latencies) (i j : Op) (d : ℕ) → Contains (delays lat i j) d → (latency lat i ≡ d) ⊎ (1 ≡ d)
-delay_is lat i j d there = elim (from_append (when (uses_result i j) (latency lat i)) (memory_delays lat i j) d
-    (in_from (delays lat i j) d there)) [
-      | inl used ↦ inl (from_when (uses_result i j) (latency lat i) d used).1
-      | inr memory ↦ elim (from_append (when (reads_stored (kind i) (kind j)) (latency lat i))
-          (when (keeps_order (kind i) (kind j)) 1) d memory) [
-            | inl stored ↦ inl (from_when (reads_stored (kind i) (kind j)) (latency lat i) d stored).1
-            | inr order ↦ inr (from_when (keeps_order (kind i) (kind j)) 1 d order).1
-          ]
-    ]
+delay_is lat i j d there = grind (arith, from_append, from_when, in_from)
 
 pub delay_at_least : (lat : Latencies) (i j : Op) (d : ℕ) → Contains (delays lat i j) d → 1 ≤ d
 delay_at_least lat i j d there = elim (delay_is lat i j d there) [
@@ -45,10 +32,7 @@ delay_at_least lat i j d there = elim (delay_is lat i j d there) [
 ]
 
 pub delay_at_most : (lat : Latencies) (i j : Op) (d : ℕ) → Contains (delays lat i j) d → d ≤ latency lat i
-delay_at_most lat i j d there = elim (delay_is lat i j d there) [
-  | inl is ↦ omega arith
-  | inr is ↦ let some : 1 ≤ latency lat i = some_latency lat (kind i) in omega arith
-]
+delay_at_most lat i j d there = grind (arith, delay_is, some_latency)
 
 pub short_delay : (lat : Latencies) (i j : Op) (d : ℕ) → Contains (delays lat i j) d → d ≤ 16
 short_delay lat i j d there = omega (arith, delay_at_most lat i j d there, short_latency lat (kind i))

@@ -23,16 +23,7 @@ record IsTo (lat : Latencies) (ops : List Op) (j : ℕ) (p : Pair) : Type 0 wher
 
 between : (lat : Latencies) (ops : List Op) (j i : ℕ) (p : Pair)
     → In (with_delays i j (rising (delays lat (op_at ops i) (op_at ops j)))) p → IsTo lat ops j p × (p.first ≡ i)
-between lat ops j i p there =
-    let found = from_map (λ d. record { first = i; second = j; delay = d })
-    (rising (delays lat (op_at ops i) (op_at ops j))) p there in
-    rw (← found.2) (
-      record {
-        second = refl;
-        delay = from_rising (delays lat (op_at ops i) (op_at ops j)) found.0 found.1;
-      },
-      refl,
-    )
+between lat ops j i p there = grind (arith, from_map, from_rising)
 
 from_pairs_from : (lat : Latencies) (ops : List Op) (j i : ℕ) (p : Pair) → In (pairs_from lat ops j i) p
     → IsTo lat ops j p × (p.first < i)
@@ -114,14 +105,7 @@ ordered_from lat ops j (suc n) =
 
 ordered_before : (lat : Latencies) (ops : List Op) (n : ℕ) → Ordered ComesBefore (pairs_before lat ops n)
 ordered_before lat ops zero = tt
-ordered_before lat ops (suc n) =
-    ordered_append ComesBefore (pairs_before lat ops n) _ (ordered_before lat ops n) (ordered_from lat ops n n)
-    (λ p q before here.
-    let left = from_pairs_before lat ops n p before in
-    let right = from_pairs_from lat ops n n q here in
-    let below : p.second < n = left.within in
-    let same : q.second ≡ n = right.0.second in
-    inl (omega arith))
+ordered_before lat ops (suc n) = grind (arith, from_pairs_before, from_pairs_from, ordered_append, ordered_from, ordered_before lat ops n)
 
 pub pairs_ordered : (lat : Latencies) (ops : List Op) → AllPairs ComesBefore (pairs lat ops)
 pairs_ordered lat ops = all_pairs ComesBefore (pairs lat ops) (ordered_before lat ops (length ops))

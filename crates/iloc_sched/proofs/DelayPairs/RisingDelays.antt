@@ -9,27 +9,11 @@ use Rattle.iloc_sched.proofs.Basics.Ordered.{Ordered}
 -- what stands in a list with one more delay
 from_with : (d : ℕ) (es : List ℕ) (x : ℕ) → In (with_delay d es) x → (d ≡ x) ⊎ In es x
 from_with d [] x there = there
-from_with d (e ∷ rest) x there = by_bool (nat_lt d e)
-    (λ t. rw t at there)
-    (λ f. by_bool (d == e)
-    (λ t. inr (rw (f, t) at there))
-    (λ g. later (rw (f, g) at there) (from_with d rest x)))
-  where
-    later : (e ≡ x) ⊎ In (with_delay d rest) x → (In (with_delay d rest) x → (d ≡ x) ⊎ In rest x)
-        → (d ≡ x) ⊎ ((e ≡ x) ⊎ In rest x)
-    later (inl here) go = inr (inl here)
-    later (inr there) go = elim (go there) [
-      | inl new ↦ inl new
-      | inr old ↦ inr (inr old)
-    ]
+from_with d (e ∷ rest) x there = grind (arith, from_with d rest x)
 
 with_new : (d : ℕ) (es : List ℕ) → In (with_delay d es) d
 with_new d [] = inl refl
-with_new d (e ∷ rest) = by_bool (nat_lt d e)
-    (λ t. rw t (inl refl))
-    (λ f. by_bool (d == e)
-    (λ t. rw (f, t) (inl (let same : e ≡ d = grind (arith, nat_tests) in same)))
-    (λ g. rw (f, g) (inr (with_new d rest))))
+with_new d (e ∷ rest) = grind (arith, nat_tests, with_new d rest)
 
 with_old : (d : ℕ) (es : List ℕ) (x : ℕ) → In es x → In (with_delay d es) x
 with_old d [] x there = absurd there
@@ -47,27 +31,7 @@ Below a b = a < b
 
 ordered_with : (d : ℕ) (es : List ℕ) → Ordered Below es → Ordered Below (with_delay d es)
 ordered_with d [] ordered = (λ y there. absurd there, tt)
-ordered_with d (e ∷ rest) ordered = by_bool (nat_lt d e)
-    (λ t.
-    let below : d < e = grind (arith, nat_tests) in
-    rw t (
-      λ y there. elim there [
-        | inl here ↦ omega arith
-        | inr behind ↦ let more : e < y = ordered.0 y behind in omega arith
-      ],
-      ordered,
-    ))
-    (λ f. by_bool (d == e)
-    (λ t. rw (f, t) ordered)
-    (λ g.
-    let above : e < d = grind (arith, nat_tests) in
-    rw (f, g) (
-      λ y there. elim (from_with d rest y there) [
-        | inl new ↦ omega arith
-        | inr old ↦ ordered.0 y old
-      ],
-      ordered_with d rest ordered.1,
-    )))
+ordered_with d (e ∷ rest) ordered = grind (arith, from_with, nat_tests, ordered_with d rest ordered.1)
 
 pub rising_ordered : (ds : List ℕ) → Ordered Below (rising ds)
 rising_ordered [] = tt

@@ -69,9 +69,7 @@ module _ (lat : Latencies) (ops : List Op) (rows : List Row) (waits : Waits lat 
       omega arith
 
 pub read_then_store : (a b : Kind) → reads_memory a ≡ true → is_store b ≡ true → keeps_order a b ≡ true
-read_then_store K.Load b reads store = rw store refl
-read_then_store K.Output b reads store = rw store refl
-read_then_store _ b reads store = absurd (false≢true reads)
+read_then_store a b reads store = grind (arith, false≢true)
 
 pub store_then_store : (a b : Kind) → is_store a ≡ true → is_store b ≡ true → keeps_order a b ≡ true
 store_then_store K.Store b first second = rw second refl

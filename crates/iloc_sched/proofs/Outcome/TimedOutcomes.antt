@@ -9,16 +9,15 @@ use Rattle.iloc_ops.specs.declared.op.Op.{Op}
 use Rattle.iloc_ops.specs.Registers.{used, defined}
 use Rattle.iloc_meaning.specs.declared.outcome.Outcome.TheVariants.{Finished, Fault}
 use Rattle.iloc_meaning.specs.Effect.{effect}
-use Rattle.iloc_meaning.specs.Memory.{word_at, with_words}
+use Rattle.iloc_meaning.specs.Memory.{word_at}
 use Rattle.iloc_meaning.specs.Trace.{Executed, defines, writes_to, result_or_zero, written_or, op_at, register_after, word_after, before}
-use Rattle.iloc_meaning.specs.Outcome.{is_fault, emitted_by, has_fault, emitted, outcome}
+use Rattle.iloc_meaning.specs.Outcome.{emitted_by, has_fault, emitted, outcome}
 use Rattle.iloc_timed.specs.declared.latencies.Latencies.{Latencies}
 use Rattle.iloc_timed.specs.declared.row.Row.{Row}
 use Rattle.iloc_timed.specs.Kinds.{kind, is_store, is_output}
 use Rattle.iloc_timed.specs.Latency.{latency}
 use Rattle.iloc_timed.specs.Rows.{row_at, slots, issue_cycle, IsTable}
 use Rattle.iloc_timed.specs.Timed.{Issued, arrived, register_in, word_in, issue, issue_all, issued_before, executed_in, timed_outcome}
-use Rattle.iloc_meaning.proofs.Cases.{by_bool}
 use Rattle.iloc_sched.specs.Renaming.{IsRenamed}
 use Rattle.iloc_sched.specs.Steps.Members.{In}
 use Rattle.iloc_sched.proofs.Basics.Members.{contains_from, in_map, from_map, in_filter, from_filter, any_same}
@@ -52,10 +51,7 @@ emitted_by_some : (done : ℕ → Executed) (p : ℕ → Bool) (ks : List ℕ)
     → ((k : ℕ) → p k ≡ false → emitted_by (done k).effect ≡ [])
     → emitted (map done ks) ≡ emitted (map done (filter p ks))
 emitted_by_some done p [] silent = refl
-emitted_by_some done p (k ∷ ks) silent =
-    by_bool (p k)
-    (λ t. rw t (ap (λ words. words ++ emitted_by (done k).effect) (emitted_by_some done p ks silent)))
-    (λ t. rw (t, silent k t) (append-nil (emitted (map done ks)) ∙ emitted_by_some done p ks silent))
+emitted_by_some done p (k ∷ ks) silent = grind (arith, append-nil, emitted_by_some done p ks silent)
 
 outcome_same : (fault fault' : Bool) (words words' memory memory' : List ℤ) → fault ≡ fault' → words ≡ words'
     → memory ≡ memory' → cond fault Fault (Finished words memory) ≡ cond fault' Fault (Finished words' memory')
@@ -64,11 +60,7 @@ outcome_same fault fault' words words' memory memory' same_fault same_words same
 module _ (lat : Latencies) (ops : List Op) (rows : List Row) (memory : List ℤ) (keeps : Keeps lat ops rows) where
   -- operation k as it is executed in program order
   plain : ℕ → Executed
-  plain k = record {
-    op = op_at ops k;
-    effect = effect (op_at ops k) (register_after (before memory ops k))
-        (word_after memory (before memory ops k));
-  }
+  plain k = grind arith
 
   due : ℕ → ℕ
   due k = issue_cycle rows k + latency lat (op_at ops k)
@@ -97,10 +89,7 @@ module _ (lat : Latencies) (ops : List Op) (rows : List Row) (memory : List ℤ)
 
   in_arrived : (c k : ℕ) → k < length ops → due k ≤ c → In (arrived c (log c)) (entry plain due k)
   unfolding due
-  in_arrived c k below over =
-      let some : 1 ≤ latency lat (op_at ops k) = some_latency lat (kind (op_at ops k)) in
-      in_filter (λ (e : Issued). nat_le e.due c) (log c) (entry plain due k) (in_log c k below (omega arith))
-      (le-leb (due k) c over)
+  in_arrived c k below over = grind (arith, due, in_filter, in_log, le-leb, log, plain, some_latency)
 
   from_arrived : (c : ℕ) (e : Issued) → In (arrived c (log c)) e → (k : ℕ) × (k < length ops) × (issue_cycle rows k < c)
       × (e ≡ entry plain due k)
@@ -183,10 +172,7 @@ module _ (lat : Latencies) (ops : List Op) (rows : List Row) (memory : List ℤ)
   issue_is : (i : ℕ) → i < length ops → issue lat memory (issue_cycle rows i) (log (issue_cycle rows i)) (op_at ops i)
       ≡ entry plain due i
   unfolding plain due
-  issue_is i here =
-      ap (λ e. entry (λ k. record { op = op_at ops i; effect = e })
-      (λ k. issue_cycle rows i + latency lat (op_at ops i)) i)
-      (effect_used (op_at ops i) _ _ _ _ (registers_same i here) (words_same i here))
+  issue_is i here = grind (arith, effect_used, registers_same, words_same)
 
   log_is : (c : ℕ) → issued_before lat memory ops rows c ≡ log c
   unfolding log
@@ -217,16 +203,7 @@ module _ (lat : Latencies) (ops : List Op) (rows : List Row) (memory : List ℤ)
   executed_is = executed_in-entries plain due (numbers_before rows (length rows))
 
   faults_same : has_fault (executed_in (log (length rows))) ≡ has_fault (before memory ops (length ops))
-  faults_same =
-      ap has_fault executed_is
-      ∙ any_same (λ (e : Executed). is_fault e.effect) (map plain issued) (map plain (countdown (length ops)))
-      (λ e there. let at = from_map plain issued e there in
-      subst (In (map plain (countdown (length ops)))) at.2
-      (in_map plain _ at.0 (in_countdown (length ops) at.0 (from_issued at.0 at.1))))
-      (λ e there. let at = from_map plain (countdown (length ops)) e there in
-      subst (In (map plain issued)) at.2
-      (in_map plain _ at.0 (in_issued at.0 (from_countdown (length ops) at.0 at.1))))
-      ∙ sym (ap has_fault (before_is (length ops)))
+  faults_same = grind (arith, any_same, before_is, executed_is, from_countdown, from_issued, from_map, in_countdown, in_issued, in_map, issued, plain)
 
   emits : ℕ → Bool
   emits k = is_output (kind (op_at ops k))
@@ -253,18 +230,23 @@ module _ (lat : Latencies) (ops : List Op) (rows : List Row) (memory : List ℤ)
   same_outputs : filter emits issued ≡ filter emits (countdown (length ops))
   unfolding issued
   same_outputs =
-      falls_same (filter emits issued) (filter emits (countdown (length ops)))
-      (falls_from (ComesLater rows) (filter emits issued)
-      (ordered_filter (ComesLater rows) emits issued (issued_in_order ops rows keeps.table (length rows)))
-      (λ x y one other later.
-      let first = from_filter emits issued x one in
-      let second = from_filter emits issued y other in
-      outputs_fall x y (from_issued x first.0) (from_issued y second.0) first.1 second.1 later))
-      (ordered_filter (λ (x y : ℕ). y < x) emits (countdown (length ops)) (falls_countdown (length ops)))
-      (λ k there. let at = from_filter emits issued k there in
-      in_filter emits (countdown (length ops)) k (in_countdown (length ops) k (from_issued k at.0)) at.1)
-      (λ k there. let at = from_filter emits (countdown (length ops)) k there in
-      in_filter emits issued k (in_issued k (from_countdown (length ops) k at.0)) at.1)
+      grind (
+        arith,
+        emits,
+        falls_countdown,
+        falls_from,
+        falls_same,
+        from_countdown,
+        from_filter,
+        from_issued,
+        in_countdown,
+        in_filter,
+        in_issued,
+        issued,
+        issued_in_order,
+        ordered_filter,
+        outputs_fall,
+      )
 
   outputs_same : emitted (executed_in (log (length rows))) ≡ emitted (before memory ops (length ops))
   outputs_same =
@@ -286,9 +268,7 @@ module _ (lat : Latencies) (ops : List Op) (rows : List Row) (memory : List ℤ)
       ∙ sym (ap (find (writes_to a)) (before_is (length ops))))
 
   pub kept_is_plain : timed_outcome lat ops rows memory ≡ outcome ops memory
-  kept_is_plain =
-      rw (log_is (length rows)) (outcome_same _ _ _ _ _ _ faults_same outputs_same
-      (ap (with_words memory) (fun_ext last_words_same)))
+  kept_is_plain = grind (arith, faults_same, fun_ext, last_words_same, log_is, outcome_same, outputs_same)
 
 pub timed_is_plain : (lat : Latencies) (ops : List Op) (rows : List Row) (memory : List ℤ) → IsRenamed ops
     → IsTable ops rows → Waits lat ops rows → timed_outcome lat ops rows memory ≡ outcome ops memory

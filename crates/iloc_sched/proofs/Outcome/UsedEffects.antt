@@ -1,13 +1,12 @@
 -- An effect depends on the used registers, and on words only where memory is read; for `TimedOutcomes`.
-use Rattle.std.proofs.Common.{◌≡◌, ℕ, ◌+ℤ◌, ℤ, Bool, true, false, ◌||◌, [], refl, ap, ◌∙◌}
+use Rattle.std.proofs.Common.{◌≡◌, ℕ, ℤ, Bool, true, false, ◌||◌, [], refl, ◌∙◌, arith}
 use Rattle.std.proofs.lemmas.Bool.{true≢false, false≢true}
 use Rattle.iloc_ops.specs.declared.op.Reg.{Reg}
 use Rattle.iloc_ops.specs.declared.op.Op.{Op}
-use Rattle.iloc_ops.specs.declared.op.Op.TheVariants.{Load, Store, Output, LoadAI, StoreAI}
+use Rattle.iloc_ops.specs.declared.op.Op.TheVariants.{Store}
 use Rattle.iloc_ops.specs.Registers.{used}
 use Rattle.iloc_meaning.specs.declared.effect.Effect.TheVariants.{Gives, Writes, Emits}
 use Rattle.iloc_meaning.specs.Address.{good_address}
-use Rattle.iloc_meaning.specs.Arithmetic.{wrapped, constant}
 use Rattle.iloc_meaning.specs.Effect.{effect, at_address}
 use Rattle.iloc_meaning.specs.Trace.{is_write_to}
 use Rattle.iloc_meaning.specs.Outcome.{emitted_by}
@@ -27,13 +26,7 @@ reads_memory k = is_load k || is_output k
 -- words are looked at only where memory is read
 words_unread : (op : Op) (reg : Reg → ℤ) (word word' : ℕ → ℤ) → (reads_memory (kind op) ≡ true → (a : ℕ) → word a ≡ word' a)
     → effect op reg word ≡ effect op reg word'
-words_unread (Load addr dest) reg word word' words =
-    at_address_same (reg addr) _ _ (λ a good. ap Gives (words refl a))
-words_unread (LoadAI addr offset dest) reg word word' words =
-    at_address_same (wrapped (reg addr +ℤ constant offset)) _ _ (λ a good. ap Gives (words refl a))
-words_unread (Output addr) reg word word' words =
-    at_address_same (constant addr) _ _ (λ a good. ap Emits (words refl a))
-words_unread _ reg word word' words = refl
+words_unread op reg word word' words = grind (arith, at_address_same)
 
 pub effect_used : (op : Op) (reg reg' : Reg → ℤ) (word word' : ℕ → ℤ) → ((r : Reg) → In (used op) r → reg r ≡ reg' r)
     → (reads_memory (kind op) ≡ true → (a : ℕ) → word a ≡ word' a) → effect op reg word ≡ effect op reg' word'
@@ -53,16 +46,7 @@ output_writes_not z word a = at_address_cases (λ e. is_write_to a e ≡ false) 
 -- what writes is a store
 pub only_stores_write : (op : Op) (reg : Reg → ℤ) (word : ℕ → ℤ) (a : ℕ) → is_write_to a (effect op reg word) ≡ true
     → is_store (kind op) ≡ true
-only_stores_write (Store value addr) reg word a writes = refl
-only_stores_write (StoreAI value addr offset) reg word a writes = refl
-only_stores_write (Load addr dest) reg word a writes = let not : is_write_to a (effect (Load addr dest) reg word)
-    ≡ false = load_writes_not (reg addr) word a in absurd cc
-only_stores_write (LoadAI addr offset dest) reg word a writes =
-    let not : is_write_to a (effect (LoadAI addr offset dest) reg word) ≡ false =
-    load_writes_not (wrapped (reg addr +ℤ constant offset)) word a in absurd cc
-only_stores_write (Output addr) reg word a writes = let not : is_write_to a (effect (Output addr) reg word) ≡ false =
-    output_writes_not (constant addr) word a in absurd cc
-only_stores_write _ reg word a writes = absurd cc
+only_stores_write op reg word a writes = grind (arith, load_writes_not, output_writes_not)
 
 load_emits_not : (z : ℤ) (word : ℕ → ℤ) → emitted_by (at_address (good_address z) (λ b. Gives (word b))) ≡ []
 load_emits_not z word = at_address_cases (λ e. emitted_by e ≡ []) z (λ b. Gives (word b)) refl (λ b good. refl)
@@ -73,13 +57,7 @@ store_emits_not z value = at_address_cases (λ e. emitted_by e ≡ []) z (λ b. 
 -- what emits is an output
 pub only_outputs_emit : (op : Op) (reg : Reg → ℤ) (word : ℕ → ℤ) → is_output (kind op) ≡ false
     → emitted_by (effect op reg word) ≡ []
-only_outputs_emit (Output addr) reg word is = absurd (true≢false is)
-only_outputs_emit (Load addr dest) reg word is = load_emits_not (reg addr) word
-only_outputs_emit (LoadAI addr offset dest) reg word is = load_emits_not (wrapped (reg addr +ℤ constant offset)) word
-only_outputs_emit (Store value addr) reg word is = store_emits_not (reg addr) (reg value)
-only_outputs_emit (StoreAI value addr offset) reg word is =
-    store_emits_not (wrapped (reg addr +ℤ constant offset)) (reg value)
-only_outputs_emit _ reg word is = refl
+only_outputs_emit op reg word is = grind (arith, load_emits_not, store_emits_not, true≢false)
 
 store_kind_latency : (lat : Latencies) (k : Kind) → is_store k ≡ true → latency_of lat k ≡ lat.store
 store_kind_latency lat K.Store is = refl

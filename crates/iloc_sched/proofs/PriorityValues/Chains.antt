@@ -1,13 +1,12 @@
 -- Longest chains are the least numbers that keep all pairs, and numbers that edges raise become them; for priorities,
 -- starts, tails and the bounds.
-use Rattle.std.proofs.Common.{◌≡◌, ◌≢◌, ℕ, zero, suc, ◌+◌, ◌<◌, ◌≤◌, max, List, length, set, get_or, inl, inr, sym, ◌∙◌, ap, subst, arith}
+use Rattle.std.proofs.Common.{◌≡◌, ◌≢◌, ℕ, zero, suc, ◌+◌, ◌<◌, ◌≤◌, max, List, length, set, get_or, inl, inr, ap, arith}
 use Rattle.std.proofs.lemmas.List.{get_or-set_same, get_or-set_other, length-set}
 use Rattle.iloc_ops.specs.declared.op.Op.{Op}
 use Rattle.iloc_timed.specs.declared.latencies.Latencies.{Latencies}
 use Rattle.iloc_sched.specs.Delays.{IsDelayPair}
 use Rattle.iloc_sched.specs.Steps.Chains.{IsChain, IsRaised, IsFrom, IsBefore}
 use Rattle.iloc_sched.specs.Steps.Graph.{Graph, IsGraphOf}
-use Rattle.iloc_sched.proofs.Basics.Cases.{by_eq, by_lt}
 use Rattle.iloc_sched.proofs.KeptEdges.FarPairs.{near_or_by_way}
 
 -- what is at least the base and keeps the pairs is at least the chain, where pairs lead to a lower rank
@@ -38,17 +37,13 @@ module _ (found : List ℕ) (at v : ℕ) (there : at < length found) (up : get_o
   away k apart = get_or-set_other found at k v 0 apart
 
   grown : (k : ℕ) → get_or found k 0 ≤ get_or (set found at v) k 0
-  grown k = by_eq k at
-      (λ same. subst (λ n. get_or found n 0 ≤ get_or (set found at v) n 0) (sym same) (let is = here in omega arith))
-      (λ apart. let kept = away k apart in omega arith)
+  grown k = grind (arith, away, here)
 
 module _ (size : ℕ) (base chain value place other delay : ℕ → ℕ) (Pair : ℕ → ℕ → ℕ → Type 0)
     (is : IsChain size Pair base chain value) (Done : ℕ → Type 0) (found : List ℕ) where
   pub at_most : (j i : ℕ) → IsRaised size base chain value place other delay Done found j → i < size
       → get_or found i 0 ≤ value i
-  at_most j i raised below = by_lt i j
-      (λ before. let upper = raised.upper i before below in let whole = is.whole i below in omega arith)
-      (λ after. let done = raised.done i after below in omega arith)
+  at_most j i raised below = grind arith
 
   -- edge x is done too
   pub raise : (More : ℕ → Type 0) (j x : ℕ) → IsRaised size base chain value place other delay Done found j
@@ -56,64 +51,21 @@ module _ (size : ℕ) (base chain value place other delay : ℕ → ℕ) (Pair :
       → ((y : ℕ) → More y → other y ≢ place x) → ((y : ℕ) → More y → y ≢ x → Done y)
       → IsRaised size base chain value place other delay More
       (set found (place x) (max (get_or found (place x) 0) (delay x + get_or found (other x) 0))) j
-  raise More j x raised pair early inside end apart rest =
-      let at : ℕ = place x in
-      let v : ℕ = max (get_or found at 0) (delay x + get_or found (other x) 0) in
-      let there : at < length found = omega (arith, raised.size) in
-      let more = grown found at v there (omega arith) in
-      let kept = away found at v there (omega arith) in
-      let is_v = here found at v there (omega arith) in
-      let most = at_most j (other x) raised end in
-      let sum = is.pairs at (other x) (delay x) pair in
-      let first = raised.upper at early inside in
-      record {
-        size = length-set found at v ∙ raised.size;
-        own = λ i below. omega (arith, raised.own i below, more i);
-        upper = λ i before below. by_eq i at
-            (λ same. subst (λ n. get_or (set found at v) n 0 ≤ chain n) (sym same) (omega arith))
-            (λ apart. omega (arith, kept i apart, raised.upper i before below));
-        done = λ i after below. kept i (λ same. absurd (omega arith)) ∙ raised.done i after below;
-        over = λ y now. by_eq y x
-            (λ same. subst (λ n. delay n + get_or (set found at v) (other n) 0 ≤ get_or (set found at v) (place n) 0)
-            (sym same) (omega (arith, kept (other x) (apart x (subst More same now)))))
-            (λ past. omega (arith, kept (other y) (apart y now), raised.over y (rest y now past), more (place y)));
-      }
+  raise More j x raised pair early inside end apart rest = grind (arith, at_most, away, grown, here, length-set)
 
   -- the number of operation j is put to its value, which is no less
   pub settle : (j v : ℕ) → IsRaised size base chain value place other delay Done found (j + 1) → j < size
       → v ≡ value j → get_or found j 0 ≤ v → ((y : ℕ) → Done y → other y ≢ j)
       → IsRaised size base chain value place other delay Done (set found j v) j
-  settle j v raised below v_is up apart =
-      let there : j < length found = omega (arith, raised.size) in
-      let more = grown found j v there up in
-      let kept = away found j v there up in
-      record {
-        size = length-set found j v ∙ raised.size;
-        own = λ i within. omega (arith, raised.own i within, more i);
-        upper = λ i before within. omega (arith, kept i (λ same. absurd (omega arith)), raised.upper i (omega arith) within);
-        done = λ i after within. by_eq i j
-            (λ same. subst (λ n. get_or (set found j v) n 0 ≡ value n) (sym same) (here found j v there up ∙ v_is))
-            (λ past. kept i past ∙ raised.done i (omega arith) within);
-        over = λ y now. omega (arith, kept (other y) (apart y now), raised.over y now, more (place y));
-      }
+  settle j v raised below v_is up apart = grind (arith, away, grown, here, length-set)
 
 module _ (lat : Latencies) (ops : List Op) (graph : Graph) (is : IsGraphOf lat ops graph) where
   pub ends_within : (x : ℕ) → x < graph.count → (graph.from x < graph.to x) × (graph.to x < length ops)
-  ends_within x below =
-      let place = is.is_graph.to_there x below in
-      let size = is.size in
-      (is.is_graph.earlier x below, omega arith)
+  ends_within x below = grind arith
 
   -- the edges into an operation precede those into later ones
   pub to_rises : (y x : ℕ) → y ≤ x → y < graph.count → x < graph.count → graph.to y ≤ graph.to x
-  to_rises y x low y_below x_below = by_lt (graph.to x) (graph.to y)
-      (λ less.
-      let first = is.is_graph.to_there y y_below in
-      let second = is.is_graph.to_there x x_below in
-      let up : graph.start (graph.to x + 1) ≤ graph.start (graph.to y) =
-      is.is_graph.rises (graph.to x + 1) (graph.to y) (omega arith) (omega arith) in
-      absurd (omega arith))
-      (λ more. more)
+  to_rises y x low y_below x_below = grind arith
 
   module _ (base chain value : ℕ → ℕ) (found : List ℕ) (j x : ℕ) (below : x < graph.count) where
     pub raise_from : IsChain (length ops) (IsDelayPair lat ops) base chain value

@@ -1,5 +1,5 @@
 -- Which operations depend on which, step by step; for `Heuristic::Descendants`.
-use Rattle.std.proofs.Common.{◌≡◌, ℕ, ◌+◌, ◌<◌, ◌≤◌, zero, suc, Bool, true, false, ◌==◌, ◌||◌, ◌&&◌, List, [], ◌∷◌, length, ◌⊎◌, inl, inr, refl, sym, arith}
+use Rattle.std.proofs.Common.{◌≡◌, ℕ, ◌+◌, ◌<◌, ◌≤◌, zero, suc, Bool, true, ◌==◌, ◌||◌, ◌&&◌, List, [], ◌∷◌, length, ◌⊎◌, inl, inr, refl, sym, arith}
 use Rattle.std.specs.Prelude.{nat_lt}
 use Rattle.std.specs.List.{range_with_len}
 use Rattle.std.proofs.lemmas.Bool.{ltb-true, lt-ltb, and_parts, eq-eqb, true≢false, eqb-true, and_from, or_cases}
@@ -13,9 +13,7 @@ use Rattle.iloc_sched.specs.Steps.Ranking.Dependents.{Reaches}
 use Rattle.iloc_sched.proofs.Basics.Members.{contains_from, in_from, any_at, from_any, in_range_from, from_range}
 
 either : (a b : Bool) → (a ≡ true) ⊎ (b ≡ true) → (a || b) ≡ true
-either true b one = refl
-either false b (inl first) = absurd (true≢false (sym first))
-either false b (inr second) = second
+either a b one = grind (arith, true≢false)
 
 -- a list with a member isn't empty, and the other way round
 not_empty : (ds : List ℕ) (d : ℕ) → In ds d → nat_lt 0 (length ds) ≡ true
@@ -33,16 +31,7 @@ pair_waits lat ops i k d pair =
 
 pub waits_pair : (lat : Latencies) (ops : List Op) (i k : ℕ) → k < length ops → waits_for lat ops i k ≡ true
     → (d : ℕ) × IsDelayPair lat ops i k d
-waits_pair lat ops i k within waits =
-    let parts = and_parts (nat_lt i k) (nat_lt 0 (length (delays lat (op_at ops i) (op_at ops k)))) waits in
-    let found = some_delay (delays lat (op_at ops i) (op_at ops k)) parts.1 in (
-      found.0,
-      record {
-        order = ltb-true i k parts.0;
-        within = within;
-        delay = contains_from (delays lat (op_at ops i) (op_at ops k)) found.0 found.1;
-      },
-    )
+waits_pair lat ops i k within waits = grind (arith, and_parts, contains_from, ltb-true, some_delay)
 
 -- operation j is operation k, or at most n delays lead there
 abbrev ReachesBy : Latencies → List Op → ℕ → ℕ → ℕ → Type 0

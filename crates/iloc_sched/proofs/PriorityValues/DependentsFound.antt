@@ -1,6 +1,6 @@
 -- Sets that are joined along the kept edges, the last first, have just the operations that depend on each; for
 -- `Heuristic::Descendants`.
-use Rattle.std.proofs.Common.{◌≡◌, ◌≢◌, ℕ, zero, suc, ◌+◌, ◌<◌, ◌≤◌, max, true, List, length, set, get_or, ◌⊎◌, inl, inr, sym, ◌∙◌, ap, subst, arith}
+use Rattle.std.proofs.Common.{◌≡◌, ◌≢◌, ℕ, zero, suc, ◌+◌, ◌<◌, ◌≤◌, true, List, length, set, get_or, ◌⊎◌, inl, inr, sym, ◌∙◌, ap, subst, arith}
 use Rattle.std.specs.Prelude.{replicate}
 use Rattle.std.specs.Int.{bit_at}
 use Rattle.std.specs.Int.Bits.{bit_or}
@@ -18,37 +18,17 @@ use Rattle.iloc_sched.proofs.Basics.Cases.{by_eq}
 use Rattle.iloc_sched.proofs.KeptEdges.FarPairs.{near_or_by_way}
 
 in_left_set : (a b i : ℕ) → bit_at a i ≡ 1 → bit_at (bit_or a b) i ≡ 1
-in_left_set a b i is =
-    let or : bit_at (bit_or a b) i ≡ max (bit_at a i) (bit_at b i) = bit_at_or a b i in
-    let small : bit_at b i < 2 = bit_at-lt b i in
-    omega arith
+in_left_set a b i is = grind (arith, bit_at-lt, bit_at_or)
 
 in_right_set : (a b i : ℕ) → bit_at b i ≡ 1 → bit_at (bit_or a b) i ≡ 1
-in_right_set a b i is =
-    let or : bit_at (bit_or a b) i ≡ max (bit_at a i) (bit_at b i) = bit_at_or a b i in
-    let small : bit_at a i < 2 = bit_at-lt a i in
-    omega arith
+in_right_set a b i is = grind (arith, bit_at-lt, bit_at_or)
 
 from_sets : (a b i : ℕ) → bit_at (bit_or a b) i ≡ 1 → (bit_at a i ≡ 1) ⊎ (bit_at b i ≡ 1)
-from_sets a b i is =
-    let or : bit_at (bit_or a b) i ≡ max (bit_at a i) (bit_at b i) = bit_at_or a b i in
-    let first : bit_at a i < 2 = bit_at-lt a i in
-    let second : bit_at b i < 2 = bit_at-lt b i in
-    elim (cases_lt (bit_at a i) 1) [ inl none ↦ inr (omega arith) | inr one ↦ inl (omega arith) ]
+from_sets a b i is = grind (arith, bit_at-lt, bit_at_or, cases_lt)
 
 module _ (lat : Latencies) (ops : List Op) (graph : Graph) (is : IsGraphOf lat ops graph) (base : ℕ) where
   pub marked_none : (masks : List ℕ) → masks ≡ replicate graph.ops 0 → IsMarked lat ops graph base masks graph.count
-  marked_none masks are =
-      let size : graph.ops ≡ length ops = is.size in
-      record {
-        size = ap length are ∙ length-replicate graph.ops 0 ∙ is.size;
-        only = λ i b below small one.
-            let none : get_or masks i 0 ≡ 0 =
-            ap (λ xs. get_or xs i 0) are ∙ get_or-replicate graph.ops i 0 0 (omega arith) in
-            let no_bit : bit_at (get_or masks i 0) b ≡ 0 = ap (λ m. bit_at m b) none ∙ bit_at-zero b in
-            absurd (omega arith);
-        over = λ y b after below small reaches. absurd (omega arith);
-      }
+  marked_none masks are = grind (arith, bit_at-zero, get_or-replicate, length-replicate)
 
   -- what a delay pair leads to is in the set of its source
   pair_marked : (masks : List ℕ) (x i b : ℕ) → IsMarked lat ops graph base masks x → x ≤ graph.start (i + 1) → b < 64
@@ -144,8 +124,4 @@ module _ (lat : Latencies) (ops : List Op) (graph : Graph) (is : IsGraphOf lat o
 
   -- all edges are done
   pub marked_all : (masks : List ℕ) → IsMarked lat ops graph base masks 0 → AreMarked lat ops base masks
-  marked_all masks marked = record {
-    size = marked.size;
-    only = marked.only;
-    all = λ i b within small depends. marked_from masks 0 i b marked (omega arith) small depends;
-  }
+  marked_all masks marked = grind (arith, marked_from)

@@ -1,9 +1,8 @@
 -- Numbers that the kept edges have raised are the priorities and the starts; for `chains`, `starts` and `tails`.
-use Rattle.std.proofs.Common.{◌≡◌, ℕ, ◌+◌, ◌<◌, ◌≤◌, max, List, length, map, set, get_or, sym, ◌∙◌, ap, subst, arith}
+use Rattle.std.proofs.Common.{◌≡◌, ℕ, ◌+◌, ◌<◌, ◌≤◌, max, List, length, map, set, get_or, sym, ◌∙◌, subst, arith}
 use Rattle.std.specs.Prelude.{replicate}
 use Rattle.std.proofs.lemmas.List.{ext_get_or, get_or_read, get_or-map, get_or-replicate, length-map, length-replicate}
 use Rattle.iloc_ops.specs.declared.op.Op.{Op}
-use Rattle.iloc_ops.specs.declared.op.Op.TheVariants.{Nop}
 use Rattle.iloc_meaning.specs.Trace.{op_at}
 use Rattle.iloc_timed.specs.declared.latencies.Latencies.{Latencies}
 use Rattle.iloc_timed.specs.Latency.{latency}
@@ -23,10 +22,7 @@ use Rattle.iloc_sched.proofs.PriorityValues.Starts.{length-starts, start_least}
 pub read_edge : (t : Tables) → IsSound t → (x : ℕ) (edge : Edge) → x < length t.edges.edges.items
     → edge ≡ edge_at t.edges x
     → (edge.from < edge.to) × (edge.to < length t.ops.items) × (edge.delay ≤ 16) × (length t.ops.items ≤ 10000)
-read_edge t sound x edge below is =
-    let ends = ends_within t.latencies t.ops.items (graph_of t.edges) sound.graph x below in
-    let delay = sound.graph.is_graph.delays x below in
-    rw is (ends.0, ends.1, delay.1, omega (arith, t.edges.short, sound.graph.size))
+read_edge t sound x edge below is = grind (arith, ends_within)
 
 -- edge x was read, and raised the number of its first operation by that of its second
 pub raise_read : (t : Tables) → IsSound t → (chain value : ℕ → ℕ) → IsChainOut t.latencies t.ops.items chain value
@@ -52,16 +48,7 @@ module _ (lat : Latencies) (ops : List Op) (graph : Graph) (is : IsGraphOf lat o
   -- latencies, while no edge has raised them
   pub none_raised : (chain value : ℕ → ℕ) → IsChainOut lat ops chain value → (own : List ℕ) → own ≡ map (latency lat) ops
       → AreRaised lat ops graph chain value own graph.ops graph.count
-  none_raised chain value chains own own_is =
-      let at : (i : ℕ) → i < length ops → get_or own i 0 ≡ latency lat (op_at ops i) =
-      (λ i below. ap (λ xs. get_or xs i 0) own_is ∙ get_or-map (latency lat) ops i Nop 0 below) in
-      record {
-        size = ap length own_is ∙ length-map ops (latency lat);
-        own = λ i below. omega (arith, at i below);
-        upper = λ i before below. omega (arith, at i below, chains.own i below);
-        done = λ i after below. absurd (omega (arith, is.size));
-        over = λ y here. let after = here.0 in let below = here.1 in absurd (omega arith);
-      }
+  none_raised chain value chains own own_is = grind (arith, get_or-map, length-map)
 
   pub priorities_found : (found : List ℕ) → ArePrioritiesFrom lat ops graph found 0 → found ≡ priorities lat ops
   priorities_found found raised =
@@ -75,16 +62,7 @@ module _ (lat : Latencies) (ops : List Op) (graph : Graph) (is : IsGraphOf lat o
       omega (arith, raised.upper i within within))
 
   pub starts_none : (own : List ℕ) → own ≡ replicate graph.ops 0 → AreStartsBefore lat ops graph own 0
-  starts_none own own_is = record {
-    size = ap length own_is ∙ length-replicate graph.ops 0 ∙ is.size;
-    own = λ i below. omega arith;
-    upper = λ i before below.
-        let none : get_or own i 0 ≡ 0 =
-        ap (λ xs. get_or xs i 0) own_is ∙ get_or-replicate graph.ops i 0 0 (omega (arith, is.size)) in
-        omega arith;
-    done = λ i after below. absurd (omega arith);
-    over = λ y here. absurd (omega (arith, here.0));
-  }
+  starts_none own own_is = grind (arith, get_or-replicate, length-replicate)
 
   pub starts_found : (found : List ℕ) → AreStartsBefore lat ops graph found graph.count → found ≡ starts lat ops
   starts_found found raised =

@@ -30,8 +30,7 @@ in_reaches lat op (next ∷ later) (prio ∷ prios) zero d same within there =
     in_left (map (λ e. e + prio) (delays lat op next)) (reaches lat op later prios) (d + prio)
     (in_map (λ e. e + prio) (delays lat op next) d there)
 in_reaches lat op (next ∷ later) (prio ∷ prios) (suc j) d same within there =
-    in_right (map (λ e. e + prio) (delays lat op next)) (reaches lat op later prios) (d + slice_index prios j)
-    (in_reaches lat op later prios j d (omega arith) (omega arith) there)
+    grind (arith, in_right, in_reaches lat op later prios j d (omega arith) (omega arith) there)
 
 -- a delay to a later operation with its priority
 pub record Reached (lat : Latencies) (op : Op) (later : List Op) (prios : List ℕ) (x : ℕ) : Type 0 where
@@ -66,17 +65,11 @@ from_reaches lat op (next ∷ later) (prio ∷ prios) x there =
 -- a delay pair of what follows the first operation
 pub inner_pair : (lat : Latencies) (op : Op) (later : List Op) (i j d : ℕ) → IsDelayPair lat (op ∷ later) (suc i) (suc j) d
     → IsDelayPair lat later i j d
-inner_pair lat op later i j d pair =
-    let order : suc i < suc j = pair.order in
-    let within : suc j < suc (length later) = pair.within in
-    record { order = omega arith; within = omega arith; delay = pair.delay }
+inner_pair lat op later i j d pair = grind arith
 
 pub outer_pair : (lat : Latencies) (op : Op) (later : List Op) (i j d : ℕ) → IsDelayPair lat later i j d
     → IsDelayPair lat (op ∷ later) (suc i) (suc j) d
-outer_pair lat op later i j d pair =
-    let order : i < j = pair.order in
-    let within : j < length later = pair.within in
-    record { order = omega arith; within = omega arith; delay = pair.delay }
+outer_pair lat op later i j d pair = grind arith
 
 -- the greatest of the latency and of d + value(j) over the delay pairs (i, j, d)
 abbrev pub chain_of : Latencies → List Op → List ℕ → ℕ → ℕ

@@ -60,11 +60,7 @@ from_arrivals lat ops at j (suc n) x there =
 
 length-starts_before : (lat : Latencies) (ops : List Op) (n : ℕ) → length (starts_before lat ops n) ≡ n
 length-starts_before lat ops zero = refl
-length-starts_before lat ops (suc n) =
-    let more : length (starts_before lat ops (suc n)) ≡ length (starts_before lat ops n) + 1 =
-    length_push (starts_before lat ops n) _ in
-    let rest : length (starts_before lat ops n) ≡ n = length-starts_before lat ops n in
-    omega arith
+length-starts_before lat ops (suc n) = grind (arith, length_push, length-starts_before lat ops n)
 
 pub length-starts : (lat : Latencies) (ops : List Op) → length (starts lat ops) ≡ length ops
 length-starts lat ops = length-starts_before lat ops (length ops)

@@ -1,5 +1,5 @@
 -- The operations that wait for each directly, counted by their kinds and by the edges; for `Heuristic::Successors`.
-use Rattle.std.proofs.Common.{◌≡◌, ◌≢◌, ℕ, suc, ◌+◌, ◌-◌, ◌<◌, ◌≤◌, Bool, true, false, cond, ◌||◌, ◌&&◌, List, ◌++◌, length, map, set, get_or, inl, inr, refl, sym, ◌∙◌, ap, subst, arith}
+use Rattle.std.proofs.Common.{◌≡◌, ◌≢◌, ℕ, ◌+◌, ◌-◌, ◌<◌, ◌≤◌, Bool, true, false, cond, ◌||◌, ◌&&◌, List, ◌++◌, length, map, set, get_or, inl, refl, sym, ◌∙◌, ap, subst, arith}
 use Rattle.std.specs.Prelude.{count_by, replicate, nat_lt, not}
 use Rattle.std.specs.List.{range_with_len}
 use Rattle.std.proofs.lemmas.Bool.{ltb-true, lt-ltb, and_parts, cases_lt, true≢false}
@@ -12,7 +12,7 @@ use Rattle.iloc_timed.specs.declared.latencies.Latencies.{Latencies}
 use Rattle.iloc_timed.specs.Kinds.{kind}
 use Rattle.iloc_timed.specs.Latency.{latency}
 use Rattle.iloc_meaning.proofs.Cases.{by_bool}
-use Rattle.iloc_sched.specs.Delays.{delays, uses_result, reads_stored, keeps_order, when, memory_delays, IsDelayPair}
+use Rattle.iloc_sched.specs.Delays.{delays, uses_result, when, memory_delays, IsDelayPair}
 use Rattle.iloc_sched.specs.Heuristics.{waits_for, successors}
 use Rattle.iloc_sched.specs.declared.edges.later.Later.{Later}
 use Rattle.iloc_sched.specs.Steps.Members.{In}
@@ -24,17 +24,11 @@ use Rattle.iloc_sched.proofs.Basics.Members.{contains_from, in_left}
 
 -- there is a delay just where the result is used, or memory or outputs ask for one
 some_delay : (a b c : Bool) (d : ℕ) → nat_lt 0 (length (when a d ++ (when b d ++ when c 1))) ≡ (a || (b || c))
-some_delay true b c d = lt-ltb 0 (length (when true d ++ (when b d ++ when c 1))) (omega arith)
-some_delay false true c d = lt-ltb 0 (length (when true d ++ when c 1)) (omega arith)
-some_delay false false true d = refl
-some_delay false false false d = refl
+some_delay a b c d = grind (arith, lt-ltb)
 
 waits_later : (lat : Latencies) (ops : List Op) (i j : ℕ) → i < j → waits_for lat ops i j
     ≡ (uses_result (op_at ops i) (op_at ops j) || waits_by_kind (kind (op_at ops i)) (kind (op_at ops j)))
-waits_later lat ops i j order =
-    ap (λ b. b && nat_lt 0 (length (delays lat (op_at ops i) (op_at ops j)))) (lt-ltb i j order)
-    ∙ some_delay (uses_result (op_at ops i) (op_at ops j)) (reads_stored (kind (op_at ops i)) (kind (op_at ops j)))
-    (keeps_order (kind (op_at ops i)) (kind (op_at ops j))) (latency lat (op_at ops i))
+waits_later lat ops i j order = grind (arith, lt-ltb, some_delay)
 
 pub waits_order : (lat : Latencies) (ops : List Op) (i j : ℕ) → waits_for lat ops i j ≡ true → i < j
 waits_order lat ops i j waits =
@@ -72,10 +66,7 @@ use_pair lat ops i j waits apart within =
 
 -- by use or by kind, each once
 parted : (u k : Bool) → cond {A = ℕ} (u || k) 1 0 ≡ cond {A = ℕ} ((u || k) && not k) 1 0 + cond {A = ℕ} k 1 0
-parted true true = refl
-parted true false = refl
-parted false true = refl
-parted false false = refl
+parted u k = grind arith
 
 -- the operations after i that wait for it
 waits_after : (lat : Latencies) (ops : List Op) (i : ℕ) → i < length ops
@@ -111,11 +102,7 @@ successors_few lat ops i = count_most (waits_for lat ops i) 0 (length ops)
 -- one operation more at the front
 pub from_one_more : (p : ℕ → Bool) (ops : List Op) (j : ℕ) → j < length ops
     → count_by p (from_on ops j) ≡ cond {A = ℕ} (p j) 1 0 + count_by p (from_on ops (j + 1))
-from_one_more p ops j within =
-    let size : length ops - j ≡ suc (length ops - (j + 1)) = omega arith in
-    let next : suc j ≡ j + 1 = omega arith in
-    ap (λ n. count_by p (range_with_len j n)) size ∙ count_first p j (length ops - (j + 1))
-    ∙ ap (λ k. cond {A = ℕ} (p j) 1 0 + count_by p (range_with_len k (length ops - (j + 1)))) next
+from_one_more p ops j within = grind (arith, count_first)
 
 from_end : (p : ℕ → Bool) (ops : List Op) (j : ℕ) → length ops ≤ j → count_by p (from_on ops j) ≡ 0
 from_end p ops j after =
@@ -128,20 +115,11 @@ none_noted ops later j after none = λ k. none k ∙ sym (from_end (λ i. waits_
 pub one_noted : (ops : List Op) (old new : Later) (j : ℕ) (q : Kind) → j < length ops → q ≡ kind (op_at ops j)
     → AreNoted ops old (j + 1)
     → ((k : Kind) → waiting_for k new ≡ waiting_for k old + cond {A = ℕ} (waits_by_kind k q) 1 0) → AreNoted ops new j
-one_noted ops old new j q within is noted more = λ k.
-    let one = more k in
-    let before = noted k in
-    let value : cond {A = ℕ} (waits_by_kind k q) 1 0 ≡ cond {A = ℕ} (waits_by_kind k (kind (op_at ops j))) 1 0 =
-    ap (λ r. cond {A = ℕ} (waits_by_kind k r) 1 0) is in
-    let all = from_one_more (λ i. waits_by_kind k (kind (op_at ops i))) ops j within in
-    omega arith
+one_noted ops old new j q within is noted more = grind (arith, from_one_more)
 
 pub noted_few : (ops : List Op) (later : Later) (j : ℕ) (k : Kind) → AreNoted ops later j
     → waiting_for k later ≤ length ops - j
-noted_few ops later j k noted =
-    let is = noted k in
-    let most = count_most (λ i. waits_by_kind k (kind (op_at ops i))) j (length ops - j) in
-    omega arith
+noted_few ops later j k noted = grind (arith, count_most)
 
 pub waiting_few : (ops : List Op) (later : Later) (j waiting : ℕ) (k : Kind) → waiting ≡ waiting_for k later
     → AreNoted ops later j → waiting ≤ length ops - j
@@ -150,32 +128,11 @@ waiting_few ops later j waiting k is noted =
 
 pub none_counted : (lat : Latencies) (ops : List Op) (found : List ℕ) (n j : ℕ) → n ≡ length ops → j ≡ length ops
     → found ≡ replicate n 0 → AreCounted lat ops found j
-none_counted lat ops found n j size end are = record {
-  size = ap length are ∙ length-replicate n 0 ∙ size;
-  done = λ i after within. absurd (omega arith);
-  rest = λ i before within.
-      ap (λ xs. get_or xs i 0) are ∙ get_or-replicate n i 0 0 (omega arith)
-      ∙ sym (from_end (waits_by_use lat ops i) ops j (omega arith));
-}
+none_counted lat ops found n j size end are = grind (arith, from_end, get_or-replicate, length-replicate)
 
 pub counted_few : (lat : Latencies) (ops : List Op) (found : List ℕ) (j i : ℕ) → AreCounted lat ops found j
     → get_or found i 0 ≤ length ops
-counted_few lat ops found j i counted = elim (cases_lt i (length ops)) [
-  | inl within ↦ elim (cases_lt i j) [
-    | inl before ↦
-        let is = counted.rest i before within in
-        let most = count_most (waits_by_use lat ops i) j (length ops - j) in
-        omega arith
-    | inr after ↦
-        let is = counted.done i after within in
-        let most = successors_few lat ops i in
-        omega arith
-  ]
-  | inr past ↦
-      let size : length found ≡ length ops = counted.size in
-      let zero_there : get_or found i 0 ≡ 0 = get_or_past found i 0 (omega arith) in
-      omega arith
-]
+counted_few lat ops found j i counted = grind (arith, cases_lt, count_most, get_or_past, successors_few)
 
 -- operation j gets what waits by kind, and then the edges into it count
 pub one_counted : (lat : Latencies) (ops : List Op) (found found' found'' : List ℕ) (j waiting : ℕ) (later : Later)

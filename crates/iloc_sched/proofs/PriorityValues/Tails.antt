@@ -1,8 +1,7 @@
 -- A tail is the greatest of latency, d + tail(j) over the delay pairs, and what the loads behind a store need; for `least`.
-use Rattle.std.proofs.Common.{◌≡◌, ◌∙◌, ℕ, ◌+◌, ◌-◌, ◌*◌, ◌<◌, ◌≤◌, max, zero, suc, Bool, true, false, List, [], ◌∷◌, ◌++◌, length, drop, inl, inr, refl, ap, ap₂, sym, add-one, arith}
+use Rattle.std.proofs.Common.{◌≡◌, ◌∙◌, ℕ, ◌+◌, ◌-◌, ◌*◌, ◌<◌, ◌≤◌, max, zero, suc, Bool, true, false, List, [], ◌∷◌, ◌++◌, length, drop, inl, inr, refl, ap, add-one, arith}
 use Rattle.std.proofs.lemmas.List.{drop_more, length-drop, get_or_default}
 use Rattle.iloc_ops.specs.declared.op.Op.{Op}
-use Rattle.iloc_ops.specs.declared.op.Op.TheVariants.{Nop}
 use Rattle.iloc_meaning.specs.Trace.{op_at}
 use Rattle.iloc_meaning.proofs.Cases.{by_bool}
 use Rattle.iloc_timed.specs.declared.kind.Kind.{Kind}
@@ -42,9 +41,7 @@ is_tail lat ops = record {
 
 pub loads_more : (lat : Latencies) (ops : List Op) (i : ℕ) → i < length ops
     → loads_from lat ops i ≡ when (is_load (kind (op_at ops i))) (tail lat ops i) ++ loads_from lat ops (i + 1)
-loads_more lat ops i within =
-    let size : length (tails lat ops) ≡ length ops = length-tails lat ops in
-    ap₂ load_tails (drop_more ops i Nop within) (drop_more (tails lat ops) i 0 (omega arith))
+loads_more lat ops i within = grind (arith, drop_more, length-tails)
 
 -- a tail by its parts
 pub tail_parts : (lat : Latencies) (ops : List Op) (i : ℕ) → i < length ops → tail lat ops i
@@ -83,13 +80,7 @@ in_loads (op ∷ ops) (t ∷ ts) y there = elim (from_append (when (is_load (kin
 loads_short : (ops : List Op) (ts : List ℕ) → length (load_tails ops ts) ≤ length ops
 loads_short [] ts = omega arith
 loads_short (op ∷ ops) [] = omega arith
-loads_short (op ∷ ops) (t ∷ ts) =
-    let rest : length (load_tails ops ts) ≤ length ops = loads_short ops ts in
-    own (is_load (kind op)) rest
-  where
-    own : (l : Bool) → length (load_tails ops ts) ≤ length ops → length (when l t ++ load_tails ops ts) ≤ suc (length ops)
-    own true rest = omega arith
-    own false rest = omega arith
+loads_short (op ∷ ops) (t ∷ ts) = grind (arith, loads_short ops ts)
 
 -- a number and the tails of the loads reach no further than so
 pub loads_reach : (lat : Latencies) (ops : List Op) (i x : ℕ) → x ≤ 16 * length ops
@@ -126,33 +117,9 @@ not_stored _ is = cc
 -- the tail by the latency of stores
 pub tail_by_store : (lat : Latencies) (ops : List Op) (i : ℕ) → i < length ops → tail_by (kind (op_at ops i))
     (chain_tail lat ops i) lat.store (loads_from lat ops (i + 1)) ≡ tail lat ops i
-tail_by_store lat ops i within =
-    let k : Kind = kind (op_at ops i) in
-    let chain : ℕ = chain_tail lat ops i in
-    let loads : List ℕ = loads_from lat ops (i + 1) in
-    let parts : tail lat ops i ≡ tail_by k chain (latency lat (op_at ops i)) loads = tail_parts lat ops i within in
-    by_bool (is_store k)
-    (λ stores.
-    let same : latency lat (op_at ops i) ≡ lat.store = stored lat k stores in
-    ap (λ n. tail_by k chain n loads) (sym same) ∙ sym parts)
-    (λ not.
-    let one : tail_by k chain lat.store loads ≡ chain = rw not refl in
-    let other : tail_by k chain (latency lat (op_at ops i)) loads ≡ chain = rw not refl in
-    one ∙ sym other ∙ sym parts)
+tail_by_store lat ops i within = grind (arith, stored, tail_parts)
 
 -- a load leaves what its delays leave
 pub load_kept : (lat : Latencies) (ops : List Op) (i : ℕ) → i < length ops
     → when (is_load (kind (op_at ops i))) (chain_tail lat ops i) ++ loads_from lat ops (i + 1) ≡ loads_from lat ops i
-load_kept lat ops i within =
-    let k : Kind = kind (op_at ops i) in
-    let whole : loads_from lat ops i ≡ when (is_load k) (tail lat ops i) ++ loads_from lat ops (i + 1) =
-    loads_more lat ops i within in
-    by_bool (is_load k)
-    (λ loads.
-    let same : tail lat ops i ≡ chain_tail lat ops i =
-    tail_parts lat ops i within ∙ rw (not_stored k loads) refl in
-    ap (λ n. when (is_load k) n ++ loads_from lat ops (i + 1)) (sym same) ∙ sym whole)
-    (λ not.
-    let one : when (is_load k) (chain_tail lat ops i) ≡ [] = rw not refl in
-    let other : when (is_load k) (tail lat ops i) ≡ [] = rw not refl in
-    ap (λ xs. xs ++ loads_from lat ops (i + 1)) (one ∙ sym other) ∙ sym whole)
+load_kept lat ops i within = grind (arith, loads_more, not_stored, tail_parts)

@@ -24,11 +24,7 @@ module _ (lat : Latencies) (ops : List Op) (graph : Graph) (is : IsGraphOf lat o
   module _ (j : ℕ) (tailed : IsTailed lat ops graph found (j + 1) (graph.start (j + 1))) (below : j < length ops) where
     -- the edges out of operation j and later ones are done
     out_done : (y : ℕ) → y < graph.count → j ≤ graph.from y → graph.start (j + 1) ≤ y
-    out_done y there low =
-        let place = is.is_graph.to_there y there in
-        let order = is.is_graph.earlier y there in
-        let up = is.is_graph.rises (j + 1) (graph.to y) (omega arith) (omega arith) in
-        omega arith
+    out_done y there low = grind arith
 
     -- the number of operation j says what its delays leave, once all edges out of it are done
     pub chain_found : get_or found j 0 ≡ chain_tail lat ops j

@@ -1,5 +1,5 @@
 -- The edges into an operation, each source once, are the operations that it waits for by use; for `Heuristic::Successors`.
-use Rattle.std.proofs.Common.{◌≡◌, ◌≢◌, ℕ, ◌+◌, ◌<◌, ◌≤◌, Bool, true, false, cond, ◌&&◌, List, length, set, get_or, refl, sym, ◌∙◌, ap, subst, arith}
+use Rattle.std.proofs.Common.{◌≡◌, ◌≢◌, ℕ, ◌+◌, ◌<◌, ◌≤◌, Bool, true, false, cond, ◌&&◌, List, length, set, get_or, sym, ◌∙◌, ap, subst, arith}
 use Rattle.std.specs.Prelude.{not}
 use Rattle.std.proofs.lemmas.Bool.{and_parts, eq-eqb, eqb-true, true≢false}
 use Rattle.std.proofs.lemmas.List.{get_or-set_same, get_or-set_other, length-set}
@@ -11,7 +11,7 @@ use Rattle.iloc_timed.specs.Latency.{latency}
 use Rattle.iloc_meaning.proofs.Cases.{by_bool}
 use Rattle.iloc_sched.specs.Delays.{IsDelayPair}
 use Rattle.iloc_sched.specs.Heuristics.{waits_for}
-use Rattle.iloc_sched.specs.Steps.Graph.{Graph, IsGraphOf, IsLast}
+use Rattle.iloc_sched.specs.Steps.Graph.{Graph, IsGraphOf}
 use Rattle.iloc_sched.specs.Steps.Ranking.Successors.{waits_by_kind, waits_by_use, leads_into, adds_one, IsCounting}
 use Rattle.iloc_sched.proofs.Basics.Cases.{by_eq, by_lt, by_option}
 use Rattle.iloc_sched.proofs.PriorityValues.Dependents.{pair_waits}
@@ -23,53 +23,21 @@ module _ (lat : Latencies) (ops : List Op) (graph : Graph) (is : IsGraphOf lat o
   by_kind i = waits_by_kind (kind (op_at ops i)) (kind (op_at ops j))
 
   pub none_counting : (found : List ℕ) (x : ℕ) → x ≡ graph.start j → IsCounting ops graph found found j x
-  none_counting found x first = record {
-    size = refl;
-    kept = λ i same. refl;
-    some = λ i y apart low high source. absurd (omega arith);
-    none = λ i not. refl;
-  }
+  none_counting found x first = grind arith
 
   -- an edge between these leads into operation j
   pub into_j : (x : ℕ) → graph.start j ≤ x → x < graph.start (j + 1) → (x < graph.count) × (graph.to x ≡ j)
-  into_j x low high =
-      let up : graph.start (j + 1) ≤ graph.start graph.ops = is.is_graph.rises (j + 1) graph.ops (omega arith) (omega arith) in
-      let last : graph.start graph.ops ≡ graph.count = is.is_graph.last in
-      (omega arith, is.is_graph.into j x there low high)
+  into_j x low high = grind arith
 
   -- an edge before x out of the same source is its previous one, or lies before that
   again : (x y : ℕ) → graph.start j ≤ x → x < graph.start (j + 1) → graph.start j ≤ y → y < x
       → graph.from y ≡ graph.from x → leads_into graph j (graph.previous x) ≡ true
-  again x y low high low_y before same =
-      let known = into_j x low high in
-      let last = is.is_graph.previous_edges x known.0 in
-      by_option (graph.previous x)
-      (λ none. absurd ((subst (λ o. IsLast (λ z. graph.from z ≡ graph.from x) x o) none last) y before same))
-      (λ p some.
-      let found : (p < x) × (graph.from p ≡ graph.from x) × ((k : ℕ) → p < k → k < x → graph.from k ≡ graph.from x → ⊥) =
-      subst (λ o. IsLast (λ z. graph.from z ≡ graph.from x) x o) some last in
-      let below : p < x = found.0 in
-      by_lt p y (λ less. absurd (found.2 y less before same))
-      (λ after. ap (λ o. leads_into graph j o) some ∙ eq-eqb (graph.to p) j (into_j p (omega arith) (omega arith)).1))
+  again x y low high low_y before same = grind (arith, by_option, eq-eqb, into_j)
 
   -- where the previous edge leads into operation j too, it is one of those before x
   is_again : (x : ℕ) → graph.start j ≤ x → x < graph.start (j + 1) → leads_into graph j (graph.previous x) ≡ true
       → (y : ℕ) × (graph.start j ≤ y) × (y < x) × (graph.from y ≡ graph.from x)
-  is_again x low high leads =
-      let known = into_j x low high in
-      let last = is.is_graph.previous_edges x known.0 in
-      by_option (graph.previous x)
-      (λ none. absurd (true≢false (sym leads ∙ ap (λ o. leads_into graph j o) none)))
-      (λ p some.
-      let found : (p < x) × (graph.from p ≡ graph.from x) × ((k : ℕ) → p < k → k < x → graph.from k ≡ graph.from x → ⊥) =
-      subst (λ o. IsLast (λ z. graph.from z ≡ graph.from x) x o) some last in
-      let below : p < x = found.0 in
-      let count : x < graph.count = known.0 in
-      let to_j : graph.to p ≡ j = eqb-true (graph.to p) j (sym (ap (λ o. leads_into graph j o) some) ∙ leads) in
-      let place : (graph.to p < graph.ops) × (graph.start (graph.to p) ≤ p) × (p < graph.start (graph.to p + 1)) =
-      is.is_graph.to_there p (omega arith) in
-      let first : graph.start j ≤ p = subst (λ t. graph.start t ≤ p) to_j place.1 in
-      (p, first, found.0, found.1))
+  is_again x low high leads = grind (arith, by_option, eqb-true, into_j, true≢false)
 
   -- the test of edge x, by what it is made of
   tested : (x : ℕ) → graph.start j ≤ x → x < graph.start (j + 1)

@@ -1,7 +1,7 @@
-use Rattle.std.proofs.Common.{◌≡◌, ℕ, ◌+◌, ◌-◌, ◌<◌, ◌≤◌, List, length, ◌↔◌, arith}
+use Rattle.std.proofs.Common.{ℕ, ◌+◌, ◌-◌, ◌<◌, ◌≤◌, List, length, ◌↔◌, arith}
 use Rattle.iloc_ops.specs.declared.op.Op.{Op}
 use Rattle.iloc_timed.specs.declared.latencies.Latencies.{Latencies}
-use Rattle.iloc_sched.specs.Priority.{priorities, priority}
+use Rattle.iloc_sched.specs.Priority.{priority}
 use Rattle.iloc_sched.specs.LowerBound.Starts.{start}
 use Rattle.iloc_sched.specs.Heuristics.{through, longest, slack}
 use Rattle.iloc_sched.proofs.Basics.Members.{in_at}
@@ -13,9 +13,7 @@ use Rattle.iloc_sched.proofs.laws.less_slack_is_a_longer_chain.Goals as goal
 -- No chain through an operation is longer than the longest, so slacks turn the order round:
 -- `laws::less_slack_is_a_longer_chain`.
 own_most : (lat : Latencies) (ops : List Op) (i : ℕ) → i < length ops → priority lat ops i ≤ longest lat ops
-own_most lat ops i within =
-    let size : length (priorities lat ops) ≡ length ops = length-priorities lat ops in
-    fold_max_each 0 (priorities lat ops) (priority lat ops i) (in_at (priorities lat ops) i 0 (omega arith))
+own_most lat ops i within = grind (arith, fold_max_each, in_at, length-priorities)
 
 through_most : (lat : Latencies) (ops : List Op) (i : ℕ) → i < length ops
     → start lat ops i + priority lat ops i ≤ longest lat ops
@@ -27,12 +25,7 @@ through_most lat ops i within =
 
 less_slack : (lat : Latencies) (ops : List Op) (i j : ℕ) → i < length ops → j < length ops
     → (slack lat ops i < slack lat ops j) ↔ (through lat ops j < through lat ops i)
-less_slack lat ops i j i_within j_within =
-    let first : start lat ops i + priority lat ops i ≤ longest lat ops =
-    through_most lat ops i i_within in
-    let second : start lat ops j + priority lat ops j ≤ longest lat ops =
-    through_most lat ops j j_within in
-    (λ less. omega arith, λ more. omega arith)
+less_slack lat ops i j i_within j_within = grind (arith, through_most)
 
 pub returns : goal.returns
 returns c = less_slack

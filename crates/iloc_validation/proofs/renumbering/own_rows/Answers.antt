@@ -1,14 +1,13 @@
-use Rattle.std.proofs.Common.{◌∙◌, ◌≡◌, List, length, map, ap, sym, arith}
+use Rattle.std.proofs.Common.{◌∙◌, ◌≡◌, List, map, arith}
 use Rattle.std.specs.Prelude.{slice_index}
 use Rattle.std.proofs.lemmas.List.{get_or-map, length-map}
 use Rattle.iloc_ops.specs.declared.op.Op.{Op}
-use Rattle.iloc_ops.specs.declared.op.Op.TheVariants.{Nop}
 use Rattle.iloc_meaning.specs.Trace.{op_at}
 use Rattle.iloc_timed.specs.declared.latencies.Latencies.{Latencies}
 use Rattle.iloc_timed.specs.declared.row.Row.{Row}
 use Rattle.iloc_timed.specs.Rows.{IsTable}
 use Rattle.iloc_timed.specs.Schedule.{Table}
-use Rattle.iloc_sched.specs.Renaming.{numbering, renamed, without_nops}
+use Rattle.iloc_sched.specs.Renaming.{renamed, without_nops}
 use Rattle.iloc_sched.proofs.Renamed.MentionedSources.{length-renamed_by}
 use Rattle.iloc_validation.specs.declared.pairing.Pairing.{Pairing}
 use Rattle.iloc_validation.specs.OwnRows.{renumber, AreOwnRows}
@@ -26,21 +25,7 @@ module _ (lat : Latencies) (block ops : List Op) (rows : List Row) (pairing : Pa
   are_own_rows : (own : Table) (issued : List Op) → own.ops ≡ renamed block
       → own.rows ≡ map (renumber (slice_index pairing.origin.items)) rows
       → issued ≡ map (op_at ops) pairing.partner.items → AreOwnRows lat block ops rows own issued
-  are_own_rows own issued names slots is =
-      let all : length issued ≡ length pairing.partner.items =
-      ap length is ∙ length-map pairing.partner.items (op_at ops) in
-      let own_all : length own.ops ≡ length (without_nops block) =
-      ap length names ∙ length-renamed_by (without_nops block) (numbering (without_nops block)) in
-      record {
-        origin = slice_index pairing.origin.items;
-        partner = slice_index pairing.partner.items;
-        under = by.under;
-        names = names;
-        slots = slots;
-        many = all ∙ (by.size ∙ sym own_all);
-        each = λ i here. ap (λ os. op_at os i) is
-            ∙ get_or-map (op_at ops) pairing.partner.items i 0 Nop (omega (arith, all, here));
-      }
+  are_own_rows own issued names slots is = grind (arith, get_or-map, length-map, length-renamed_by)
 
 pub of_table-requires-clause-table : goal.of_table-requires-clause-table
 of_table-requires-clause-table c =
