@@ -6,6 +6,7 @@ pub mod Getters
 pub mod Leaves
 pub mod Matches
 pub mod Numbers
+pub mod Priorities
 pub mod Rows
 pub mod Stops
 pub mod Uses

@@ -1,5 +1,5 @@
 -- Up to four digits at the front, which are read at once, and the digits in a front of the bytes.
-use Rattle.std.proofs.Common.{◌≡◌, ◌∙◌, ◌≤◌, ◌<◌, ◌+◌, ◌-◌, ◌*◌, ℕ, zero, suc, Bool, true, false, cond, ◌&&◌, if◌then◌else◌, List, [], ◌∷◌, length, take, drop, length-drop, get_or, refl, sym, ap, ◌⊎◌, inl, inr, Some, nat_lt, arith}
+use Rattle.std.proofs.Common.{◌≡◌, ◌∙◌, ◌≤◌, ◌<◌, ◌+◌, ◌-◌, ◌*◌, ℕ, zero, suc, Bool, true, false, cond, ◌&&◌, if◌then◌else◌, List, [], ◌∷◌, length, take, drop, length-drop, get_or, refl, sym, ap, ◌⊎◌, inl, inr, Some, None, nat_lt, arith}
 use Rattle.std.specs.Char.{is_ascii_digit}
 use Rattle.std.specs.Int.{from_bool}
 use Rattle.std.proofs.lemmas.List.{length-take, take_all}
@@ -34,14 +34,23 @@ passed : (b c d : ℕ) (more : List ℕ) (p q r s : ℕ) → DigitIn b q → Dig
     → digits_after p (b ∷ c ∷ d ∷ more) ≡ digits_after (value_of p q r s x y z) (drop (count_of x y z) (b ∷ c ∷ d ∷ more))
 passed b c d more p q r s db dc dd low false y z eq er es = refl
 passed b c d more p q r s db dc dd low true false z eq er es = one_more p b q (c ∷ d ∷ more) (omega (arith, low)) db eq
-passed b c d more p q r s db dc dd low true true false eq er es = grind (arith, ltb-true, one_more)
-passed b c d more p q r s db dc dd low true true true eq er es = grind (arith, ltb-true, one_more)
+passed b c d more p q r s db dc dd low true true false eq er es =
+    one_more p b q (c ∷ d ∷ more) (omega (arith, low)) db eq
+    ∙ one_more (p * 10 + q) c r (d ∷ more) (omega (arith, low, ltb-true q 10 eq)) dc er
+passed b c d more p q r s db dc dd low true true true eq er es =
+    one_more p b q (c ∷ d ∷ more) (omega (arith, low)) db eq
+    ∙ one_more (p * 10 + q) c r (d ∷ more) (omega (arith, low, ltb-true q 10 eq)) dc er
+    ∙ one_more ((p * 10 + q) * 10 + r) d s more (omega (arith, low, ltb-true q 10 eq, ltb-true r 10 er)) dd es
 
 ended : (b c d e : ℕ) (more : List ℕ) (v q r s t : ℕ) → DigitIn b q → DigitIn c r → DigitIn d s → DigitIn e t
     → (x y z w : Bool) → nat_lt q 10 ≡ x → nat_lt r 10 ≡ y → nat_lt s 10 ≡ z → nat_lt t 10 ≡ w
     → (((x && y) && z) && w) ≡ false
     → digits_after v (drop (count_of x y z) (b ∷ c ∷ d ∷ e ∷ more)) ≡ (v, drop (count_of x y z) (b ∷ c ∷ d ∷ e ∷ more))
-ended b c d e more v q r s t db dc dd de x y z w eq er es et h = grind (arith, no_more)
+ended b c d e more v q r s t db dc dd de false y z w eq er es et h = no_more v b q (c ∷ d ∷ e ∷ more) db eq
+ended b c d e more v q r s t db dc dd de true false z w eq er es et h = no_more v c r (d ∷ e ∷ more) dc er
+ended b c d e more v q r s t db dc dd de true true false w eq er es et h = no_more v d s (e ∷ more) dd es
+ended b c d e more v q r s t db dc dd de true true true false eq er es et h = no_more v e t more de et
+ended b c d e more v q r s t db dc dd de true true true true eq er es et h = cc
 
 first_one : (a p : ℕ) (rest : List ℕ) → DigitIn a p → nat_lt p 10 ≡ true → number_at (a ∷ rest) ≡ Some (digits_after p rest)
 first_one a p rest digit e =
@@ -53,13 +62,21 @@ rest_of bytes q r s = drop (1 + from_bool (nat_lt q 10) + from_bool (nat_lt q 10
 
 behind : (a : ℕ) (rest : List ℕ) (x y z : Bool)
     → drop (1 + from_bool x + from_bool (x && y) + from_bool ((x && y) && z)) (a ∷ rest) ≡ drop (count_of x y z) rest
+behind a rest false y z = refl
+behind a rest true false z = refl
+behind a rest true true false = refl
 behind a rest true true true = refl
-behind a rest _ _ _ = refl
 
 pub four_passed : (bytes : List ℕ) (p q r s : ℕ) → 5 ≤ length bytes → DigitIn (get_or bytes 0 0) p
     → DigitIn (get_or bytes 1 0) q → DigitIn (get_or bytes 2 0) r → DigitIn (get_or bytes 3 0) s → nat_lt p 10 ≡ true
     → number_at bytes ≡ Some (digits_after (value_of p q r s (nat_lt q 10) (nat_lt r 10) (nat_lt s 10)) (rest_of bytes q r s))
-four_passed (a ∷ b ∷ c ∷ d ∷ more) p q r s long da db dc dd first = grind (arith, behind, first_one, ltb-true, passed)
+four_passed (a ∷ b ∷ c ∷ d ∷ more) p q r s long da db dc dd first =
+    let x = nat_lt q 10 in
+    let y = nat_lt r 10 in
+    let z = nat_lt s 10 in
+    first_one a p (b ∷ c ∷ d ∷ more) da first
+    ∙ ap (λ found. Some found) (passed b c d more p q r s db dc dd (ltb-true p 10 first) x y z refl refl refl)
+    ∙ ap (λ rest. Some (digits_after (value_of p q r s x y z) rest)) (sym (behind a (b ∷ c ∷ d ∷ more) x y z))
 four_passed _ p q r s long da db dc dd first = absurd (omega (arith, long))
 
 pub four_end : (bytes : List ℕ) (v q r s t : ℕ) → 5 ≤ length bytes → DigitIn (get_or bytes 1 0) q
@@ -79,7 +96,12 @@ four_end _ v q r s t long db dc dd de h = absurd (omega (arith, long))
 
 left_shorter : (v : ℕ) (bytes : List ℕ) → length (digits_after v bytes).1 ≤ length bytes
 left_shorter v [] = omega arith
-left_shorter v (c ∷ cs) = grind (arith, left_shorter (capped (v * 10 + (c - 48))) cs)
+left_shorter v (c ∷ cs) = by (is_ascii_digit c) (left_shorter (capped (v * 10 + (c - 48))) cs)
+  where
+    by : (b : Bool) → length (digits_after (capped (v * 10 + (c - 48))) cs).1 ≤ length cs
+        → length (cond b (digits_after (capped (v * 10 + (c - 48))) cs) (v, c ∷ cs)).1 ≤ length (c ∷ cs)
+    by true h = omega (arith, h)
+    by false h = omega arith
 
 -- the digits that end within a front of the bytes end there in the bytes too
 ended_in_front : (n k v w : ℕ) (bytes : List ℕ) → k < n → digits_after v (take n bytes) ≡ (w, drop k (take n bytes))
@@ -106,7 +128,14 @@ ended_in_front (suc n) (suc k) v w (c ∷ cs) h e =
 
 counted : (k w : ℕ) (bytes : List ℕ) → 0 < k → k ≤ length bytes → digits_after 0 bytes ≡ (w, drop k bytes)
     → number_at bytes ≡ Some (w, drop k bytes)
-counted k w bytes some inside e = grind (arith, length-drop)
+counted k w [] some inside e = absurd (omega (arith, some, inside))
+counted k w (c ∷ cs) some inside e = by (is_ascii_digit c) e
+  where
+    by : (b : Bool) → cond b (digits_after (capped (0 * 10 + (c - 48))) cs) (0, c ∷ cs) ≡ (w, drop k (c ∷ cs))
+        → cond b (Some (cond b (digits_after (capped (0 * 10 + (c - 48))) cs) (0, c ∷ cs))) None
+        ≡ Some (w, drop k (c ∷ cs))
+    by true same = ap (λ found. Some found) same
+    by false same = absurd (omega (arith, some, inside, length-drop k (c ∷ cs), ap (λ found. length found.1) same))
 
 -- where the front has one byte more than these digits, if that many are there, they are the number
 pub number_in_front : (n k w : ℕ) (bytes : List ℕ) → 0 < k → k ≤ length (take n bytes) → k < n ⊎ length bytes ≤ n

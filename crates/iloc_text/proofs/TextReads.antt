@@ -1,5 +1,5 @@
 -- What a reader has read of a text that comes piece by piece, piece after piece.
-use Rattle.std.proofs.Common.{◌≡◌, ◌≢◌, ◌∙◌, ℕ, ◌+◌, ◌-◌, ◌<◌, ◌≤◌, ◌^◌, ◌==◌, min, true, List, [], ◌∷◌, ◌++◌, length, take, drop, get_or, sym, ap, ap₂, subst, subst₂, Option, Some, None, is_some, false, refl, Result, Ok, Err, IfErr, append_assoc, append-nil, take-append-drop, ◌⊎◌, inl, inr, arith}
+use Rattle.std.proofs.Common.{◌≡◌, ◌≢◌, ◌∙◌, ℕ, suc, ◌+◌, ◌-◌, ◌<◌, ◌≤◌, ◌^◌, ◌==◌, min, true, List, [], ◌∷◌, ◌++◌, length, take, drop, get_or, sym, ap, ap₂, subst, subst₂, Option, Some, None, is_some, false, refl, Result, Ok, Err, IfErr, append_assoc, append-nil, take-append-drop, ◌⊎◌, inl, inr, arith}
 use Rattle.std.proofs.Math.Seq.{drop-cons}
 use Rattle.std.proofs.lemmas.Bool.Decides.{nat_tests}
 use Rattle.iloc_ops.specs.Limits.{MAX_INPUT}
@@ -26,7 +26,13 @@ Goes text blocks n rest = (more : List ℕ)
 lines_behind : (text rest piece front back : List ℕ) (blocks : List Block) (n : ℕ) → Goes text blocks n rest
     → piece ≡ front ++ 10 ∷ back → (more : List ℕ) → answer_from [] 1 (lines_of ((text ++ piece) ++ more))
     ≡ answer_from blocks n (lines_of (rest ++ front) ++ lines_of (back ++ more))
-lines_behind text rest piece front back blocks n h e more = grind (arith, append_assoc, lines_of_both)
+lines_behind text rest piece front back blocks n h e more =
+    ap (λ t. answer_from [] 1 (lines_of t)) (append_assoc text piece more)
+    ∙ h (piece ++ more)
+    ∙ ap (λ t. answer_from blocks n (lines_of t))
+    (ap (λ p. rest ++ (p ++ more)) e ∙ ap (λ t. rest ++ t) (append_assoc front (10 ∷ back) more)
+    ∙ sym (append_assoc rest front (10 ∷ (back ++ more))))
+    ∙ ap (answer_from blocks n) (lines_of_both (rest ++ front) (back ++ more))
 
 pub read_further : (text rest piece front back : List ℕ) (blocks out : List Block) (n : ℕ) → Goes text blocks n rest
     → piece ≡ front ++ 10 ∷ back → answer_from blocks n (lines_of (rest ++ front)) ≡ Ok out
@@ -59,7 +65,9 @@ pub err_further : {A : Type 0} (text rest piece front back : List ℕ) (blocks :
     (r : Result A ReadFault) → Goes text blocks n rest → piece ≡ front ++ 10 ∷ back
     → (fault ≢ NoMemory → answer_from blocks n (lines_of (rest ++ front)) ≡ Err fault) → r ≡ Err fault
     → IfErr r (λ f. f ≢ NoMemory → HasFault (text ++ piece) f)
-err_further text rest piece front back blocks n fault r h e bad is = grind (arith, fault_further)
+err_further text rest piece front back blocks n fault r h e bad is =
+    subst (λ x. IfErr x (λ f. f ≢ NoMemory → HasFault (text ++ piece) f)) (sym is)
+    (λ memory. fault_further text rest piece front back blocks n fault h e (bad memory))
 
 -- Readers
 
@@ -72,7 +80,12 @@ taken_as took start a b blocks taker opened = subst₂ (λ t o. HasTaken took st
 pub goes_as : {T : Type 0} (took : T → List Block → T → Type 0) (start : T) (a b : TextReader T) (text : List ℕ)
     → b.taker ≡ a.taker → b.open_block ≡ a.open_block → b.number ≡ a.number → b.rest.items ≡ a.rest.items
     → GoesOn took start a text → GoesOn took start b text
-goes_as took start a b text taker opened number rest goes = grind (arith, taken_as)
+goes_as took start a b text taker opened number rest goes = record {
+  blocks = goes.blocks;
+  taken = taken_as took start a b goes.blocks taker opened goes.taken;
+  answer = λ more. goes.answer more
+      ∙ ap₂ (λ n r. answer_from goes.blocks (n + 1) (lines_of (r ++ more))) (sym number) (sym rest);
+}
 
 -- a reader that has read what another has, and the piece behind it
 pub goes_further : {T : Type 0} (took : T → List Block → T → Type 0) (start : T) (a b : TextReader T)
@@ -119,7 +132,15 @@ refused_at_end text fault short h = refused text _ fault (answer_begins text sho
 -- a piece with a line end at this place
 pub split_at : (piece : List ℕ) (end : ℕ) → end < length piece → (get_or piece end 0 == 10) ≡ true
     → piece ≡ take end piece ++ 10 ∷ drop (end + 1) piece
-split_at piece end inside is = grind (arith, drop-cons, nat_tests, take-append-drop)
+split_at piece end inside is = sym (take-append-drop end piece)
+    ∙ ap (λ d. take end piece ++ d)
+    (drop-cons piece end 0 inside ∙ ap (λ c. c ∷ drop (suc end) piece) ten ∙ ap (λ n. 10 ∷ drop n piece) one_more)
+  where
+    ten : get_or piece end 0 ≡ 10
+    ten = grind (arith, nat_tests)
+
+    one_more : suc end ≡ end + 1
+    one_more = omega arith
 
 -- a count that stops at 2^64 - 1 tells a short text
 pub short_by_count : (n m : ℕ) → n ≡ min m (2 ^ 64 - 1) → n ≤ MAX_INPUT → m ≤ MAX_INPUT

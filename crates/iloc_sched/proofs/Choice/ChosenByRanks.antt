@@ -2,7 +2,6 @@
 use Rattle.std.proofs.Common.{◌≡◌, ◌<◌, ◌≤◌, ◌≢◌, ℕ, ◌+◌, ◌==◌, ◌&&◌, ◌||◌, not, Bool, true, false, if◌then◌else◌, List, length, Option, Some, None, refl, sym, ◌∙◌, ap, subst, arith}
 use Rattle.std.proofs.lemmas.Bool.Decides.{nat_tests}
 use Rattle.std.specs.Prelude.{filter}
-use Rattle.std.proofs.lemmas.Bool.{and_from, and_parts, not-true}
 use Rattle.iloc_meaning.specs.Trace.{op_at}
 use Rattle.iloc_timed.specs.declared.kind.Kind.{Kind}
 use Rattle.iloc_timed.specs.declared.kind.Kind.TheVariants as K
@@ -33,20 +32,61 @@ use Rattle.iloc_sched.proofs.Choice.IssuedChoice.{issued_at}
 
 beside_by_class : (a b : Kind) → may_stand_beside a b ≡ not (excludes (class_of a) (class_of b))
 beside_by_class K.Load K.Load = refl
-beside_by_class _ K.Load = refl
-beside_by_class _ _ = refl
+beside_by_class K.Load K.Store = refl
+beside_by_class K.Load K.Mult = refl
+beside_by_class K.Load K.Output = refl
+beside_by_class K.Load K.Other = refl
+beside_by_class K.Store K.Load = refl
+beside_by_class K.Store K.Store = refl
+beside_by_class K.Store K.Mult = refl
+beside_by_class K.Store K.Output = refl
+beside_by_class K.Store K.Other = refl
+beside_by_class K.Mult K.Load = refl
+beside_by_class K.Mult K.Store = refl
+beside_by_class K.Mult K.Mult = refl
+beside_by_class K.Mult K.Output = refl
+beside_by_class K.Mult K.Other = refl
+beside_by_class K.Output K.Load = refl
+beside_by_class K.Output K.Store = refl
+beside_by_class K.Output K.Mult = refl
+beside_by_class K.Output K.Output = refl
+beside_by_class K.Output K.Other = refl
+beside_by_class K.Other K.Load = refl
+beside_by_class K.Other K.Store = refl
+beside_by_class K.Other K.Mult = refl
+beside_by_class K.Other K.Output = refl
+beside_by_class K.Other K.Other = refl
 
 mult_by_class : (a : Kind) → is_mult a ≡ is_product_class (class_of a)
 mult_by_class K.Load = refl
-mult_by_class _ = refl
+mult_by_class K.Store = refl
+mult_by_class K.Mult = refl
+mult_by_class K.Output = refl
+mult_by_class K.Other = refl
 
 memory_by_class : (a : Kind) → is_memory a ≡ is_memory_class (class_of a)
 memory_by_class K.Load = refl
-memory_by_class _ = refl
+memory_by_class K.Store = refl
+memory_by_class K.Mult = refl
+memory_by_class K.Output = refl
+memory_by_class K.Other = refl
+
+-- what keeps none out of a row that is empty
+open_alone : (b : Bool) → not b ≡ true → b ≡ false
+open_alone true is = cc
+open_alone false is = refl
 
 apart_numbers : (a b : ℕ) → a ≢ b → not (a == b) ≡ true
 apart_numbers a b apart = by_bool (a == b) (λ t. let same : a ≡ b = grind (arith, nat_tests) in absurd (apart same))
     (λ f. rw f refl)
+
+both_true : (a b : Bool) → a ≡ true → b ≡ true → (a && b) ≡ true
+both_true true b first second = second
+both_true false b first second = cc
+
+from_both : (a b : Bool) → (a && b) ≡ true → (a ≡ true) × (b ≡ true)
+from_both true b both = (refl, both)
+from_both false b both = cc
 
 not_equal : (b : Bool) → b ≡ true → not b ≡ true → ⊥
 not_equal true is other = cc
@@ -69,14 +109,14 @@ module _ (p : Plan) (w : Waiting) (f : ℕ) (under : IsUnderWay p w f) (k : Clas
   pub opens : has w.calendar 32 (rank_of p j) ≡ true → excludes k (class_at p.tables.now.ops.items j) ≡ false → IsOpen p w k j
   opens held free = (
     there,
-    and_from _ _ held (ap not (under.calendar.kept.each k j there ∙ free)),
+    both_true _ _ held (ap not (under.calendar.kept.each k j there ∙ free)),
   )
 
   pub open_ready : IsOpen p w k j → has w.calendar 32 (rank_of p j) ≡ true
-  open_ready is = (and_parts _ _ is.1).0
+  open_ready is = (from_both _ _ is.1).0
 
   pub open_free : IsOpen p w k j → excludes k (class_at p.tables.now.ops.items j) ≡ false
-  open_free is = sym (under.calendar.kept.each k j there) ∙ not-true _ (and_parts _ _ is.1).1
+  open_free is = sym (under.calendar.kept.each k j there) ∙ open_alone _ (from_both _ _ is.1).1
 
 module _ (p : Plan) (w : Waiting) (rows : List Row) (plan : IsPlan p)
     (under : IsUnderWay p w (length rows + 1))
@@ -147,13 +187,13 @@ module _ (p : Plan) (w : Waiting) (rows : List Row) (plan : IsPlan p)
         let found : In all_ready j × (beside j ≡ true) = from_filter beside all_ready j held in
         let tests : (not (a.number == j) ≡ true)
         × (may_stand_beside (kind (op_at p.tables.now.ops.items a.number)) (kind (op_at p.tables.now.ops.items j)) ≡ true) =
-        and_parts _ _ found.1 in
+        from_both _ _ found.1 in
         let other : not (a.number == j) ≡ true = tests.0 in
         let there = ready_there j found.0 in
         opens p w1 (length rows + 1) issues.under_way a.class j there
         (issues.ready j there (λ same. let equal : (a.number == j) ≡ true = grind (arith, nat_tests) in not_equal (a.number == j) equal other)
         ∙ ready_queued j found.0)
-        (not-true (excludes a.class (class_at p.tables.now.ops.items j)) (sym (open_beside j) ∙ tests.1))
+        (open_alone (excludes a.class (class_at p.tables.now.ops.items j)) (sym (open_beside j) ∙ tests.1))
 
     -- who is open in it is ready and can go beside a
     open_left : (j : ℕ) → IsOpen p w1 a.class j → In (filter beside all_ready) j
@@ -162,7 +202,7 @@ module _ (p : Plan) (w : Waiting) (rows : List Row) (plan : IsPlan p)
         in_filter beside all_ready j
         (queued_ready j is.0 (sym (issues.ready j is.0 (λ same. apart (sym same)))
         ∙ open_ready p w1 (length rows + 1) issues.under_way a.class j is.0 is))
-        (and_from _ _ (apart_numbers a.number j apart)
+        (both_true _ _ (apart_numbers a.number j apart)
         (open_beside j ∙ ap not (open_free p w1 (length rows + 1) issues.under_way a.class j is.0 is)))
 
     pub chosen_second : (b : Option Choice) → IsBest p w1 a.class b
