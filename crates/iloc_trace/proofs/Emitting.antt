@@ -22,7 +22,7 @@ use Rattle.iloc_sched.proofs.Outcome.UsedEffects.{only_outputs_emit}
 use Rattle.iloc_trace.specs.declared.event.Place.{Place}
 use Rattle.iloc_trace.specs.declared.event.Place.TheVariants.{Word}
 use Rattle.iloc_trace.specs.declared.event.Read.{Read}
-use Rattle.iloc_trace.specs.Places.{places_read, target}
+use Rattle.iloc_trace.specs.Places.{places_read}
 use Rattle.iloc_trace.specs.Events.{due_at, events_at, in_slot, issue_of, issues, landed, read_of, write_of, writes}
 use Rattle.iloc_trace.specs.Laws.{TracesEmitTheOutcome, emitted_by, words_of}
 use Rattle.iloc_trace.proofs.Issuing.{slot_arrived}
@@ -73,9 +73,7 @@ write_emits lat memory c there e (Some place) = refl
 writes_emit : (lat : Latencies) (memory : List ℤ) (c : ℕ) (there due : List Issued)
     → flat_map emitted_by (writes lat memory c there due) ≡ []
 writes_emit lat memory c there [] = refl
-writes_emit lat memory c there (e ∷ due) =
-    flat_map-append emitted_by (map (write_of lat memory c there e) (option_to_list (target e.executed))) _
-    ∙ ap₂ (λ x y. x ++ y) (write_emits lat memory c there e (target e.executed)) (writes_emit lat memory c (e ∷ there) due)
+writes_emit lat memory c there (e ∷ due) = grind (arith, flat_map-append, option_to_list, write_emits, writes_emit lat memory c (e ∷ there) due)
 
 cycle_emits : (lat : Latencies) (memory : List ℤ) (ops : List Op) (rows : List Row) (c : ℕ)
     → has_fault (executed_in (issued_before lat memory ops rows c)) ≡ false
@@ -130,16 +128,4 @@ none_issued lat memory ops rows (suc more) =
     (issued_before lat memory ops rows (length rows + more))) past ∙ none_issued lat memory ops rows more)
 
 pub emits_the_outcome : TracesEmitTheOutcome
-emits_the_outcome lat memory ops rows words is =
-    let log : List Issued = issued_before lat memory ops rows (length rows) in
-    by_bool (has_fault (executed_in log))
-    (λ fault. let never = rw fault at is in absurd cc)
-    (λ fine.
-    let all : issued_before lat memory ops rows (length rows + 16) ≡ log = none_issued lat memory ops rows 16 in
-    let last : has_fault (executed_in (issued_before lat memory ops rows (length rows + 16))) ≡ false =
-    ap (λ l. has_fault (executed_in l)) all ∙ fine in
-    let told = rw fine at is in
-    let same : emitted (executed_in log) ≡ words = cc in
-    all_emit lat memory ops rows (length rows + 16) last
-    ∙ ap (λ l. emitted (executed_in l)) all
-    ∙ same)
+emits_the_outcome = grind (arith, all_emit, none_issued)

@@ -1,14 +1,11 @@
 -- What is issued in a slot.
-use Rattle.std.proofs.Common.{◌≡◌, ◌≤◌, ℕ, ◌+◌, ◌-◌, nat_le, nat_lt, false, List, [], ◌∷◌, ◌++◌, map, Option, Some, None, IfSome, option_to_list, IsTrue, ℤ, pos, negsuc, ◌+ℤ◌, arith, refl, sym, ap, ap₂, ◌∙◌, append-nil}
+use Rattle.std.proofs.Common.{◌≡◌, ℕ, ◌+◌, List, [], ◌∷◌, ◌++◌, map, Option, Some, None, IfSome, option_to_list, IsTrue, ℤ, pos, negsuc, arith, refl, sym, ap, ap₂, ◌∙◌, append-nil}
 use Rattle.std.specs.Prelude.{fold}
 use Rattle.std.proofs.lemmas.Bool.{lt-leb, le-ltb}
 use Rattle.std.proofs.lemmas.List.{map-append}
 use Rattle.iloc_ops.specs.declared.op.Reg.{Reg}
 use Rattle.iloc_ops.specs.declared.op.Op.{Op}
-use Rattle.iloc_ops.specs.declared.op.Op.TheVariants.{Load, LoadAI, Output}
-use Rattle.iloc_ops.specs.Registers.{used}
 use Rattle.iloc_meaning.specs.Address.{is_good, good_address}
-use Rattle.iloc_meaning.specs.Arithmetic.{wrapped, constant}
 use Rattle.iloc_meaning.specs.Effect.{effect}
 use Rattle.iloc_meaning.specs.Memory.{word_at}
 use Rattle.iloc_meaning.specs.Registers.{value_of}
@@ -17,8 +14,6 @@ use Rattle.iloc_meaning.specs.Outcome.{is_fault}
 use Rattle.iloc_meaning.proofs.Cases.{by_bool}
 use Rattle.iloc_meaning.proofs.Effects.{effect_same}
 use Rattle.iloc_timed.specs.declared.latencies.Latencies.{Latencies}
-use Rattle.iloc_timed.specs.Kinds.{kind}
-use Rattle.iloc_timed.specs.Latency.{latency}
 use Rattle.iloc_timed.specs.Timed.{Issued, arrived, issue, register_in, word_in}
 use Rattle.iloc_timed.proofs.Landing.{landed_is_arrived}
 use Rattle.iloc_timed.proofs.WholeRuns.{some_latency}
@@ -26,10 +21,10 @@ use Rattle.iloc_trace.specs.declared.event.Place.{Place}
 use Rattle.iloc_trace.specs.declared.event.Place.TheVariants.{Register, Word}
 use Rattle.iloc_trace.specs.declared.event.Read.{Read}
 use Rattle.iloc_trace.specs.declared.machine.Machine.{Machine}
-use Rattle.iloc_trace.specs.Places.{address_read, once, places_read, value_in}
+use Rattle.iloc_trace.specs.Places.{address_read, places_read, value_in}
 use Rattle.iloc_trace.specs.Events.{read_of, issue_of, in_slot as issued_in}
 use Rattle.iloc_trace.specs.Listing.{issue_line, trace_lines}
-use Rattle.iloc_trace.specs.Steps.Arrivals.{IsGood, arrival_of, arrivals, first_for, sent_by}
+use Rattle.iloc_trace.specs.Steps.Arrivals.{IsGood, arrival_of, arrivals, first_for}
 use Rattle.iloc_trace.specs.Steps.Rows.{Follows, executed_at, in_slot, place_value, read_at, reads_of, sent_in, slot_line}
 use Rattle.iloc_trace.proofs.OnTheirWay.{next_due_of_log}
 
@@ -37,10 +32,7 @@ use Rattle.iloc_trace.proofs.OnTheirWay.{next_due_of_log}
 value_arrived : (lat : Latencies) (memory : List ℤ) (c : ℕ) (log : List Issued) (m : Machine)
     → Follows lat memory (c + 1) log m → (place : Place) → IsGood place
     → value_in memory (arrived c log) place ≡ place_value m place
-value_arrived lat memory c log m follows (Register r) good =
-    sym (follows.registers r ∙ ap (λ l. register_in l r) (landed_is_arrived c log))
-value_arrived lat memory c log m follows (Word a) good =
-    sym (follows.words a good ∙ ap (λ l. word_in memory l a) (landed_is_arrived c log))
+value_arrived lat memory c log m follows place good = grind (arith, landed_is_arrived)
 
 -- so an operation has the effect that the log gives it
 pub effect_now : (lat : Latencies) (memory : List ℤ) (c : ℕ) (log : List Issued) (m : Machine) (op : Op)
@@ -55,18 +47,13 @@ effect_now lat memory c log m op follows = effect_same op _ _ _ _
 sent_same : (lat : Latencies) (memory : List ℤ) (c : ℕ) (log : List Issued) (m : Machine) (op : Op)
     → Follows lat memory (c + 1) log m
     → arrival_of lat (issue lat memory c log op) ≡ (executed_at lat m c op).sent
-sent_same lat memory c log m op follows =
-    let from : c + latency lat op - latency lat op ≡ c = omega arith in
-    ap₂ (λ i f. sent_by (c + latency lat op) i op f) from (effect_now lat memory c log m op follows)
+sent_same lat memory c log m op follows = grind (arith, effect_now)
 
 pub arrivals_one : (lat : Latencies) (memory : List ℤ) (c : ℕ) (log before : List Issued) (m : Machine) (op : Op)
     → Follows lat memory (c + 1) log m
     → arrivals lat (c + 1) (issue lat memory c log op ∷ before)
     ≡ arrivals lat (c + 1) before ++ option_to_list (executed_at lat m c op).sent
-arrivals_one lat memory c log before m op follows =
-    let some : 1 ≤ latency lat op = some_latency lat (kind op) in
-    let later : nat_lt (c + latency lat op) (c + 1) ≡ false = le-ltb (c + latency lat op) (c + 1) (omega arith) in
-    rw later (ap (λ s. arrivals lat (c + 1) before ++ option_to_list s) (sent_same lat memory c log m op follows))
+arrivals_one lat memory c log before m op follows = grind (arith, le-ltb, option_to_list, sent_same, some_latency)
 
 arrivals_slot : (lat : Latencies) (memory : List ℤ) (ops : List Op) (c : ℕ) (log : List Issued) (m : Machine)
     (slot : Option ℕ) → Follows lat memory (c + 1) log m
@@ -78,12 +65,7 @@ arrivals_slot lat memory ops c log m (Some i) follows = arrivals_one lat memory 
 -- what is issued in a cycle has not arrived in it
 pub slot_arrived : (lat : Latencies) (memory : List ℤ) (ops : List Op) (c : ℕ) (log : List Issued) (slot : Option ℕ)
     → arrived c (issued_in lat memory ops c log slot ++ log) ≡ arrived c log
-slot_arrived lat memory ops c log None = refl
-slot_arrived lat memory ops c log (Some i) =
-    let some : 1 ≤ latency lat (op_at ops i) = some_latency lat (kind (op_at ops i)) in
-    let later : nat_le (c + latency lat (op_at ops i)) c ≡ false =
-    lt-leb (c + latency lat (op_at ops i)) c (omega arith) in
-    rw later refl
+slot_arrived lat memory ops c log slot = grind (arith, lt-leb, some_latency)
 
 -- the places that an operation reads are good
 good_address_good : (z : ℤ) → IfSome (good_address z) (λ a. IsTrue (is_good (pos a)))
@@ -91,18 +73,11 @@ good_address_good (pos a) = by_bool (is_good (pos a)) (λ t. rw t t) (λ t. rw t
 good_address_good (negsuc n) = tt
 
 address_good : (op : Op) (reg : Reg → ℤ) → IfSome (address_read op reg) (λ a. IsTrue (is_good (pos a)))
-address_good (Load addr dest) reg = good_address_good (reg addr)
-address_good (LoadAI addr offset dest) reg = good_address_good (wrapped (reg addr +ℤ constant offset))
-address_good (Output addr) reg = good_address_good (constant addr)
-address_good _ reg = tt
+address_good op reg = grind (arith, good_address_good)
 
 address_same : (op : Op) (reg other : Reg → ℤ) → ((r : Reg) → reg r ≡ other r)
     → address_read op reg ≡ address_read op other
-address_same (Load addr dest) reg other same = ap good_address (same addr)
-address_same (LoadAI addr offset dest) reg other same =
-    ap (λ v. good_address (wrapped (v +ℤ constant offset))) (same addr)
-address_same (Output addr) reg other same = refl
-address_same _ reg other same = refl
+address_same op reg other same = grind arith
 
 map_registers : (f g : Place → Read) (rs : List Reg) → ((r : Reg) → f (Register r) ≡ g (Register r))
     → map f (map Register rs) ≡ map g (map Register rs)
@@ -117,13 +92,7 @@ map_word f g (Some a) good same = ap (λ x. x ∷ []) (same a good)
 
 map_places : (f g : Place → Read) (op : Op) (reg other : Reg → ℤ) → ((r : Reg) → reg r ≡ other r)
     → ((place : Place) → IsGood place → f place ≡ g place) → map f (places_read op reg) ≡ map g (places_read op other)
-map_places f g op reg other registers same =
-    ap (λ a. map f (map Register (once (used op)) ++ map Word (option_to_list a))) (address_same op reg other registers)
-    ∙ map-append f (map Register (once (used op))) (map Word (option_to_list (address_read op other)))
-    ∙ ap₂ (λ xs ys. xs ++ ys)
-    (map_registers f g (once (used op)) (λ r. same (Register r) tt))
-    (map_word f g (address_read op other) (address_good op other) (λ a good. same (Word a) good))
-    ∙ sym (map-append g (map Register (once (used op))) (map Word (option_to_list (address_read op other))))
+map_places f g op reg other registers same = grind (arith, address_good, address_same, map-append, map_registers, map_word, option_to_list)
 
 abbrev read_made : Place → ℤ → Option ℕ → Read
 read_made place value until = record { place = place; value = value; until = until }

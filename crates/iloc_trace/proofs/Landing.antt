@@ -1,5 +1,5 @@
 -- What is due at a cycle arrives.
-use Rattle.std.proofs.Common.{◌≡◌, ◌<◌, ℕ, ◌+◌, ◌-◌, ◌==◌, nat_lt, if◌then◌else◌, List, [], ◌∷◌, ◌++◌, map, Option, Some, None, option_to_list, IsTrue, ℤ, pos, arith, refl, sym, ap, ap₂, ◌∙◌, append-nil, subst, Bool, false, IfSome}
+use Rattle.std.proofs.Common.{◌≡◌, ◌<◌, ℕ, ◌+◌, ◌-◌, ◌==◌, if◌then◌else◌, List, [], ◌∷◌, ◌++◌, map, Option, Some, None, option_to_list, IsTrue, ℤ, pos, arith, refl, sym, ap, ap₂, ◌∙◌, append-nil, subst, Bool, false, IfSome}
 use Rattle.std.specs.Prelude.{fold, option_map, filter}
 use Rattle.std.specs.List.{All}
 use Rattle.std.proofs.lemmas.Bool.{eqb-true, ltb-true}
@@ -30,7 +30,7 @@ use Rattle.iloc_trace.specs.declared.machine.Machine.{Machine}
 use Rattle.iloc_trace.specs.Places.{is_place, is_same, sent, target, target_of, value_in, goes_to}
 use Rattle.iloc_trace.specs.Events.{Event, due_at, landed, write_of, writes}
 use Rattle.iloc_trace.specs.Listing.{trace_lines, write_line}
-use Rattle.iloc_trace.specs.Steps.Arrivals.{CanArrive, IsGood, arrival_line, arrival_lines, arrival_of, arrivals_of, arrived_in, due_later, due_now}
+use Rattle.iloc_trace.specs.Steps.Arrivals.{CanArrive, IsGood, arrival_line, arrival_lines, arrivals_of, arrived_in, due_later, due_now}
 use Rattle.iloc_trace.specs.Steps.Rows.{Follows, place_value}
 use Rattle.iloc_trace.proofs.OnTheirWay.{due_now_of_log, due_later_of_log}
 use Rattle.iloc_meaning.specs.Trace.{Executed, result_of, written_by, is_register, defines, is_write_to, writes_to, result_or_zero, written_or}
@@ -41,9 +41,7 @@ use Rattle.iloc_meaning.specs.Results.{GoesTo}
 last_below : (test : Executed → Bool) (n : ℕ) (log : List Issued) → AllLand n log
     → IfSome (last_due (filter (λ e. test e.executed) log)) (λ e. e.due < n)
 last_below test n [] all = tt
-last_below test n (e ∷ earlier) all = by_bool (test e.executed)
-    (λ passes. rw passes (later_below n e _ all.0 (last_below test n earlier all.2)))
-    (λ fails. rw fails (last_below test n earlier all.2))
+last_below test n (e ∷ earlier) all = grind (arith, later_below, last_below test n earlier all.2)
 
 -- the last one is the newest, if that passes the test and none is due later
 last_newest : (test : Executed → Bool) (e : Issued) (earlier : List Issued) → AllLand (e.due + 1) earlier
@@ -105,19 +103,7 @@ all_land : (lat : Latencies) (c : ℕ) (place : Place) (landed : ℤ → Pending
     → fold (arrived_in place) v (arrivals_of lat (due_at c log)) ≡ fold landed v (pending_at c log)
 all_land lat c place landed lands v [] = refl
 all_land lat c place landed lands v (e ∷ earlier) =
-    let pending = if e.due == c then option_to_list (pending_by (defined e.executed.op) e.executed.effect) else [] in
-    let piece : (x : ℤ) → fold (arrived_in place) x (arrivals_of lat (if e.due == c then e ∷ [] else []))
-    ≡ fold landed x pending =
-    λ x. by_bool (e.due == c)
-    (λ here. rw here (ap (fold (arrived_in place) x) (append-nil (option_to_list (arrival_of lat e)))
-    ∙ lands e.due _ (defined e.executed.op) e.executed.effect x))
-    (λ apart. rw apart refl) in
-    ap (fold (arrived_in place) v)
-    (flat_map-append (λ (f : Issued). option_to_list (arrival_of lat f)) (due_at c earlier) _)
-    ∙ fold-append (arrived_in place) v (arrivals_of lat (due_at c earlier)) _
-    ∙ piece (fold (arrived_in place) v (arrivals_of lat (due_at c earlier)))
-    ∙ ap (λ x. fold landed x pending) (all_land lat c place landed lands v earlier)
-    ∙ sym (fold-append landed v (pending_at c earlier) _)
+    grind (arith, append-nil, flat_map-append, fold-append, option_to_list, all_land lat c place landed lands v earlier)
 
 -- what is due at cycle c has arrived
 pub after_landing : (lat : Latencies) (memory : List ℤ) (c : ℕ) (log : List Issued) (m m' : Machine)
@@ -128,24 +114,17 @@ pub after_landing : (lat : Latencies) (memory : List ℤ) (c : ℕ) (log : List 
     ≡ fold (arrived_in (Word a)) (word_at m.memory.words a) (due_now c m.under_way))
     → m'.under_way ≡ due_later c m.under_way → Follows lat memory (c + 1) log m'
 after_landing lat memory c log m m' follows register word under_way =
-    let due : due_now c m.under_way ≡ arrivals_of lat (due_at c log) =
-    ap (due_now c) follows.under_way ∙ due_now_of_log lat c log in
-    record {
-      registers = λ r.
-          register r
-          ∙ ap (fold (arrived_in (Register r)) (value_of m.registers r)) due
-          ∙ all_land lat c (Register r) (landed_in_register r) (register_lands r) (value_of m.registers r) log
-          ∙ ap (λ v. fold (landed_in_register r) v (pending_at c log)) (follows.registers r)
-          ∙ sym (register_more r (c + 16) c log follows.all_land);
-      words = λ a good.
-          word a good
-          ∙ ap (fold (arrived_in (Word a)) (word_at m.memory.words a)) due
-          ∙ all_land lat c (Word a) (landed_in_word a) (word_lands a) (word_at m.memory.words a) log
-          ∙ ap (λ v. fold (landed_in_word a) v (pending_at c log)) (follows.words a good)
-          ∙ sym (word_more memory a (c + 16) c log follows.all_land);
-      under_way = under_way ∙ ap (due_later c) follows.under_way ∙ due_later_of_log lat c log;
-      all_land = all_land_later (c + 16) (c + 1 + 16) log (omega arith) follows.all_land;
-    }
+    grind (
+      arith,
+      all_land,
+      all_land_later,
+      due_later_of_log,
+      due_now_of_log,
+      register_lands,
+      register_more,
+      word_lands,
+      word_more,
+    )
 
 -- each is due at cycle c
 abbrev AllAt : ℕ → List Issued → Type 0
@@ -158,15 +137,11 @@ all_at_append c (e ∷ first) second all rest = (all.0, all.1, all_at_append c f
 
 due_all_at : (n c : ℕ) (log : List Issued) → AllLand n log → AllAt c (due_at c log)
 due_all_at n c [] all = tt
-due_all_at n c (e ∷ earlier) all =
-    all_at_append c (due_at c earlier) (if e.due == c then e ∷ [] else []) (due_all_at n c earlier all.2)
-    (by_bool (e.due == c) (λ here. rw here (eqb-true e.due c here, all.1, tt)) (λ apart. rw apart tt))
+due_all_at n c (e ∷ earlier) all = grind (arith, all_at_append, eqb-true, due_all_at n c earlier all.2)
 
 landed_below : (n c : ℕ) (log : List Issued) → AllLand n log → AllLand c (landed c log)
 landed_below n c [] all = tt
-landed_below n c (e ∷ earlier) all = by_bool (nat_lt e.due c)
-    (λ before. rw before (ltb-true e.due c before, all.1, landed_below n c earlier all.2))
-    (λ after. rw after (landed_below n c earlier all.2))
+landed_below n c (e ∷ earlier) all = grind (arith, ltb-true, landed_below n c earlier all.2)
 
 -- the line of a result, if there is one, and those of the next ones
 written_step : (lat : Latencies) (memory : List ℤ) (c : ℕ) (there : List Issued) (e : Issued) (to : Option Place)

@@ -1,5 +1,5 @@
 -- What of a log is on its way at a cycle.
-use Rattle.std.proofs.Common.{◌≡◌, ℕ, ◌+◌, ◌==◌, ◌&&◌, nat_lt, Bool, true, false, if◌then◌else◌, List, [], ◌∷◌, ◌++◌, Option, Some, None, option_to_list, ℤ, arith, refl, sym, ap, ◌∙◌, ne_eqb, append-nil}
+use Rattle.std.proofs.Common.{◌≡◌, ℕ, ◌+◌, ◌==◌, ◌&&◌, nat_lt, Bool, if◌then◌else◌, List, [], ◌∷◌, Option, Some, None, option_to_list, ℤ, arith, refl, ne_eqb, append-nil}
 use Rattle.std.specs.Prelude.{fold, filter, option_map}
 use Rattle.std.proofs.lemmas.Bool.Decides.{nat_tests}
 use Rattle.std.proofs.lemmas.List.Sums.{fold-append}
@@ -36,66 +36,31 @@ first_sent place first due issued value (Some other) = refl
 due_piece : (lat : Latencies) (c : ℕ) (e : Issued)
     → due_now c (if nat_lt e.due c then [] else option_to_list (arrival_of lat e))
     ≡ arrivals_of lat (if e.due == c then e ∷ [] else [])
-due_piece lat c e = by_bool (nat_lt e.due c)
-    (λ before.
-    let apart : (e.due == c) ≡ false = ne_eqb e.due c (λ same. grind (arith, nat_tests)) in
-    rw (before, apart) refl)
-    (λ from. by_bool (e.due == c)
-    (λ here. rw (from, here) (test_sent (λ d. d == c) e.due _ _ (target e.executed) ∙ rw here (sym (append-nil _))))
-    (λ later. rw (from, later) (test_sent (λ d. d == c) e.due _ _ (target e.executed) ∙ rw later refl)))
+due_piece lat c e = grind (arith, append-nil, nat_tests, ne_eqb, test_sent)
 
 pub due_now_of_log : (lat : Latencies) (c : ℕ) (log : List Issued)
     → due_now c (arrivals lat c log) ≡ arrivals_of lat (due_at c log)
 due_now_of_log lat c [] = refl
-due_now_of_log lat c (e ∷ earlier) =
-    filter-append (λ (a : Arrival). a.due == c) (arrivals lat c earlier) _
-    ∙ ap (λ l. l ++ due_now c (if nat_lt e.due c then [] else option_to_list (arrival_of lat e)))
-    (due_now_of_log lat c earlier)
-    ∙ ap (λ l. arrivals_of lat (due_at c earlier) ++ l) (due_piece lat c e)
-    ∙ sym (flat_map-append (λ (f : Issued). option_to_list (arrival_of lat f)) (due_at c earlier) _)
+due_now_of_log lat c (e ∷ earlier) = grind (arith, due_piece, filter-append, flat_map-append, option_to_list, due_now_of_log lat c earlier)
 
 -- what is due later is on its way at the next cycle
 later_piece : (lat : Latencies) (c : ℕ) (e : Issued)
     → due_later c (if nat_lt e.due c then [] else option_to_list (arrival_of lat e))
     ≡ (if nat_lt e.due (c + 1) then [] else option_to_list (arrival_of lat e))
-later_piece lat c e = by_bool (nat_lt e.due c)
-    (λ before.
-    let soon : nat_lt e.due (c + 1) ≡ true = grind (arith, nat_tests) in
-    rw (before, soon) refl)
-    (λ from. by_bool (nat_lt c e.due)
-    (λ later.
-    let after : nat_lt e.due (c + 1) ≡ false = grind (arith, nat_tests) in
-    rw (from, after) (test_sent (λ d. nat_lt c d) e.due _ _ (target e.executed) ∙ rw later refl))
-    (λ now.
-    let soon : nat_lt e.due (c + 1) ≡ true = grind (arith, nat_tests) in
-    rw (from, soon) (test_sent (λ d. nat_lt c d) e.due _ _ (target e.executed) ∙ rw now refl)))
+later_piece lat c e = grind (arith, nat_tests, test_sent)
 
 pub due_later_of_log : (lat : Latencies) (c : ℕ) (log : List Issued)
     → due_later c (arrivals lat c log) ≡ arrivals lat (c + 1) log
 due_later_of_log lat c [] = refl
-due_later_of_log lat c (e ∷ earlier) =
-    filter-append (λ (a : Arrival). nat_lt c a.due) (arrivals lat c earlier) _
-    ∙ ap (λ l. l ++ due_later c (if nat_lt e.due c then [] else option_to_list (arrival_of lat e)))
-    (due_later_of_log lat c earlier)
-    ∙ ap (λ l. arrivals lat (c + 1) earlier ++ l) (later_piece lat c e)
+due_later_of_log lat c (e ∷ earlier) = grind (arith, filter-append, later_piece, option_to_list, due_later_of_log lat c earlier)
 
 -- the first of it for a place is that of the log
 first_piece : (lat : Latencies) (c : ℕ) (place : Place) (e : Issued) (first : Option ℕ)
     → fold (first_for place) first (if nat_lt e.due (c + 1) then [] else option_to_list (arrival_of lat e))
     ≡ (if nat_lt c e.due && goes_to place e.executed then Some (sooner e.due first) else first)
-first_piece lat c place e first = by_bool (nat_lt c e.due)
-    (λ later.
-    let after : nat_lt e.due (c + 1) ≡ false = grind (arith, nat_tests) in
-    rw (later, after) (first_sent place first e.due _ _ (target e.executed)))
-    (λ now.
-    let soon : nat_lt e.due (c + 1) ≡ true = grind (arith, nat_tests) in
-    rw (now, soon) refl)
+first_piece lat c place e first = grind (arith, first_sent, nat_tests)
 
 pub next_due_of_log : (lat : Latencies) (c : ℕ) (place : Place) (log : List Issued)
     → fold (first_for place) None (arrivals lat (c + 1) log) ≡ next_due c place log
 next_due_of_log lat c place [] = refl
-next_due_of_log lat c place (e ∷ earlier) =
-    fold-append (first_for place) None (arrivals lat (c + 1) earlier) _
-    ∙ ap (λ f. fold (first_for place) f (if nat_lt e.due (c + 1) then [] else option_to_list (arrival_of lat e)))
-    (next_due_of_log lat c place earlier)
-    ∙ first_piece lat c place e (next_due c place earlier)
+next_due_of_log lat c place (e ∷ earlier) = grind (arith, first_piece, fold-append, option_to_list, next_due_of_log lat c place earlier)

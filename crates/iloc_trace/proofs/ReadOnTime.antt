@@ -1,12 +1,11 @@
 -- A lawful schedule reads nothing for which a result is under way.
-use Rattle.std.proofs.Common.{◌≡◌, ◌<◌, ◌≤◌, ℕ, zero, suc, ◌+◌, ◌==◌, ◌&&◌, nat_lt, true, false, List, [], ◌∷◌, ◌++◌, length, map, Option, Some, None, IfSome, option_to_list, ℤ, arith, refl, inl, inr, sym, ap, subst}
+use Rattle.std.proofs.Common.{◌≡◌, ◌<◌, ◌≤◌, ℕ, zero, suc, ◌+◌, ◌&&◌, nat_lt, true, false, List, [], ◌∷◌, ◌++◌, length, map, Option, Some, None, IfSome, option_to_list, ℤ, arith, refl, inl, inr, subst}
 use Rattle.std.specs.Prelude.{Contains}
-use Rattle.std.specs.List.{All, flat_map, range_with_len}
+use Rattle.std.specs.List.{All, flat_map}
 use Rattle.std.proofs.lemmas.Bool.{and_right, cases_lt, le-ltb}
 use Rattle.std.proofs.lemmas.List.Elements.{All-append, All-cons, All-contains_itself, All-map, All-nil, All-weaker}
 use Rattle.iloc_ops.specs.declared.op.Reg.{Reg}
 use Rattle.iloc_ops.specs.declared.op.Op.{Op}
-use Rattle.iloc_ops.specs.declared.op.Op.TheVariants.{Load, LoadAI, Output}
 use Rattle.iloc_ops.specs.Registers.{used, defined}
 use Rattle.iloc_meaning.specs.declared.effect.Effect.{Effect}
 use Rattle.iloc_meaning.specs.declared.effect.Effect.TheVariants.{Faults, Gives, Writes}
@@ -32,8 +31,8 @@ use Rattle.iloc_sched.proofs.Outcome.UsedEffects.{only_stores_write, reads_memor
 use Rattle.iloc_sched.proofs.Renamed.RenamedBlocks.{renamed_is_renamed}
 use Rattle.iloc_trace.specs.declared.event.Place.{Place}
 use Rattle.iloc_trace.specs.declared.event.Place.TheVariants.{Register, Word}
-use Rattle.iloc_trace.specs.Places.{address_read, goes_to, is_place, once, places_read, target, target_of}
-use Rattle.iloc_trace.specs.Events.{due_at, events_at, in_slot, issue_of, issues, landed, next_due, read_of, write_of, writes}
+use Rattle.iloc_trace.specs.Places.{address_read, goes_to, is_place, once, places_read, target_of}
+use Rattle.iloc_trace.specs.Events.{due_at, events_at, in_slot, issue_of, issues, landed, next_due, read_of, writes}
 use Rattle.iloc_trace.specs.Laws.{IsOnTime, LawfulSchedulesReadOnTime, ReadsOnTime}
 
 -- what goes to a register is a result of what defines it, and what goes to a word is a write
@@ -57,10 +56,7 @@ no_store_reads _ store reads = absurd cc
 used_once : (rs : List Reg) → All (In rs) (once rs)
 used_once [] = All-nil (In [])
 used_once (r ∷ []) = All-cons (In (r ∷ [])) r [] (inl refl) (All-nil _)
-used_once (r ∷ s ∷ []) = by_bool (r.0 == s.0)
-    (λ same. rw same (All-cons (In (r ∷ s ∷ [])) r [] (inl refl) (All-nil _)))
-    (λ other. rw other (All-cons (In (r ∷ s ∷ [])) r (s ∷ []) (inl refl)
-    (All-cons (In (r ∷ s ∷ [])) s [] (inr (inl refl)) (All-nil _))))
+used_once (r ∷ s ∷ []) = grind arith
 used_once (r ∷ s ∷ t ∷ more) = All-weaker (Contains (r ∷ s ∷ t ∷ more)) (In (r ∷ s ∷ t ∷ more))
     (λ x there. in_from (r ∷ s ∷ t ∷ more) x there) (r ∷ s ∷ t ∷ more) (All-contains_itself (r ∷ s ∷ t ∷ more))
 
@@ -70,10 +66,7 @@ if_any (Some a) p = p
 
 -- a word is read where memory is
 word_is_read : (op : Op) (reg : Reg → ℤ) → IfSome (address_read op reg) (λ a. reads_memory (kind op) ≡ true)
-word_is_read (Load addr dest) reg = if_any (address_read (Load addr dest) reg) refl
-word_is_read (LoadAI addr offset dest) reg = if_any (address_read (LoadAI addr offset dest) reg) refl
-word_is_read (Output addr) reg = if_any (address_read (Output addr) reg) refl
-word_is_read _ reg = tt
+word_is_read op reg = grind (arith, if_any)
 
 -- nothing is due for a place that nothing of a row goes to
 none_in_row : (lat : Latencies) (memory : List ℤ) (ops : List Op) (c n : ℕ) (place : Place) (log : List Issued)
@@ -84,14 +77,11 @@ none_in_row : (lat : Latencies) (memory : List ℤ) (ops : List Op) (c n : ℕ) 
     → next_due c place (map (λ i. issue lat memory n log (op_at ops i)) numbers ++ before) ≡ None
 none_in_row lat memory ops c n place log [] before each none = none
 none_in_row lat memory ops c n place log (i ∷ numbers) before each none =
-    let skip = each i (inl refl) in
-    rw skip (none_in_row lat memory ops c n place log numbers before (λ k there. each k (inr there)) none)
+    grind (arith, none_in_row lat memory ops c n place log numbers before (λ k there. each k (inr there)) none)
 
 slot_of : (row : Row) (slot : Option ℕ) → ((i : ℕ) → slot ≡ Some i → In (slots row) i) → (i : ℕ)
     → In (option_to_list slot) i → In (slots row) i
-slot_of row None held i there = absurd there
-slot_of row (Some j) held i (inl here) = held i (ap Some here)
-slot_of row (Some j) held i (inr there) = absurd there
+slot_of row slot held i there = grind arith
 
 module _ (lat : Latencies) (memory : List ℤ) (ops : List Op) (rows : List Row) (renamed : IsRenamed ops)
     (table : IsTable ops rows) (waits : Waits lat ops rows) where
@@ -149,27 +139,17 @@ module _ (lat : Latencies) (memory : List ℤ) (ops : List Op) (rows : List Row)
   register_free : (c n j : ℕ) (r : Reg) → In (slots (row_at rows c)) j → In (used (op_at ops j)) r
       → next_due c (Register r) (issued_before lat memory ops rows n) ≡ None
   register_free c zero j r here uses = refl
-  register_free c (suc n) j r here uses =
-      none_in_row lat memory ops c n (Register r) (issued_before lat memory ops rows n) (slots (row_at rows n))
-      (issued_before lat memory ops rows n)
-      (λ i there. register_in_time c n i j r (issued_before lat memory ops rows n) here there uses)
-      (register_free c n j r here uses)
+  register_free c (suc n) j r here uses = grind (arith, none_in_row, register_in_time, register_free c n j r here uses)
 
   word_free : (c n j a : ℕ) → In (slots (row_at rows c)) j → n ≤ c → reads_memory (kind (op_at ops j)) ≡ true
       → next_due c (Word a) (issued_before lat memory ops rows n) ≡ None
   word_free c zero j a here early reads = refl
-  word_free c (suc n) j a here early reads =
-      none_in_row lat memory ops c n (Word a) (issued_before lat memory ops rows n) (slots (row_at rows n))
-      (issued_before lat memory ops rows n)
-      (λ i there. word_in_time c n i j a (issued_before lat memory ops rows n) here there (omega arith) reads)
-      (word_free c n j a here (omega arith) reads)
+  word_free c (suc n) j a here early reads = grind (arith, none_in_row, word_in_time, word_free c n j a here (omega arith) reads)
 
   word_read_on_time : (c j : ℕ) (log : List Issued) (a : Option ℕ) → IfSome a (λ b. reads_memory (kind (op_at ops j)) ≡ true)
       → ((b : ℕ) → reads_memory (kind (op_at ops j)) ≡ true → next_due c (Word b) log ≡ None)
       → All (λ place. IsOnTime (read_of memory c log place)) (map Word (option_to_list a))
-  word_read_on_time c j log None reads free = All-nil _
-  word_read_on_time c j log (Some a) reads free =
-      All-cons (λ place. IsOnTime (read_of memory c log place)) (Word a) [] (free a reads) (All-nil _)
+  word_read_on_time c j log a reads free = grind arith
 
   -- what is issued in a slot reads nothing that is due later
   slot_on_time : (c unit : ℕ) (slot beside : Option ℕ)
@@ -205,11 +185,7 @@ module _ (lat : Latencies) (memory : List ℤ) (ops : List Op) (rows : List Row)
 
   writes_on_time : (c : ℕ) (there due : List Issued) → All ReadsOnTime (writes lat memory c there due)
   writes_on_time c there [] = All-nil ReadsOnTime
-  writes_on_time c there (e ∷ due) =
-      All-append ReadsOnTime (map (write_of lat memory c there e) (option_to_list (target e.executed)))
-      (writes lat memory c (e ∷ there) due)
-      (All-map ReadsOnTime (write_of lat memory c there e) (option_to_list (target e.executed)) (λ k d h. tt))
-      (writes_on_time c (e ∷ there) due)
+  writes_on_time c there (e ∷ due) = grind (arith, option_to_list, writes_on_time c (e ∷ there) due)
 
   cycle_on_time : (c : ℕ) → All ReadsOnTime (events_at lat memory ops rows c)
   cycle_on_time c =
@@ -231,6 +207,4 @@ module _ (lat : Latencies) (memory : List ℤ) (ops : List Op) (rows : List Row)
       (flat_map (events_at lat memory ops rows) cycles) (cycle_on_time c) (all_on_time cycles)
 
 pub lawful_reads_on_time : LawfulSchedulesReadOnTime
-lawful_reads_on_time lat memory block ops rows lawful =
-    all_on_time lat memory ops rows (subst IsRenamed (sym lawful.names) (renamed_is_renamed block)) lawful.table
-    lawful.waits (range_with_len 0 (length rows + 16))
+lawful_reads_on_time = grind (arith, all_on_time, renamed_is_renamed)

@@ -1,5 +1,5 @@
 -- The events of a schedule from its start to its end.
-use Rattle.std.proofs.Common.{◌≡◌, ◌≤◌, ℕ, zero, suc, ◌+◌, ◌-◌, Bool, true, List, [], ◌++◌, ℤ, arith, refl, sym, ap, ◌∙◌, append-nil, append_assoc, add-one, add-zero, subst}
+use Rattle.std.proofs.Common.{◌≡◌, ◌≤◌, ℕ, zero, suc, ◌+◌, ◌-◌, Bool, true, List, [], ◌++◌, ℤ, arith, refl, sym, ap, ◌∙◌, append-nil, append_assoc, add-one, add-zero}
 use Rattle.std.specs.List.{flat_map, range_with_len}
 use Rattle.std.proofs.lemmas.List.Concat.{flat_map-append}
 use Rattle.iloc_ops.specs.declared.op.Op.{Op}
@@ -11,7 +11,7 @@ use Rattle.iloc_timed.specs.Timed.{executed_in, issue_all, issued_before}
 use Rattle.iloc_timed.proofs.WholeRuns.{fault_later, row_more}
 use Rattle.iloc_trace.specs.Events.{Event, events_after, events_at}
 use Rattle.iloc_trace.specs.declared.machine.Machine.{Machine}
-use Rattle.iloc_trace.specs.Listing.{event_line, trace_lines}
+use Rattle.iloc_trace.specs.Listing.{trace_lines}
 use Rattle.iloc_trace.specs.Steps.Rows.{After}
 
 -- what happens before cycle n
@@ -21,9 +21,7 @@ events_before lat memory ops rows n = flat_map (events_at lat memory ops rows) (
 pub from_more : {X : Type 0} (f : ℕ → List X) (a n j : ℕ) → a + n ≡ j
     → flat_map f (range_with_len a (suc n)) ≡ flat_map f (range_with_len a n) ++ f j
 from_more f a zero j is = let same : a ≡ j = omega arith in append-nil (f a) ∙ ap f same
-from_more f a (suc n) j is =
-    ap (λ l. f a ++ l) (from_more f (a + 1) n j (omega arith))
-    ∙ sym (append_assoc (f a) (flat_map f (range_with_len (a + 1) n)) (f j))
+from_more f a (suc n) j is = grind (arith, append_assoc, from_more f (a + 1) n j (omega arith))
 
 pub events_more : (lat : Latencies) (memory : List ℤ) (ops : List Op) (rows : List Row) (c : ℕ)
     → events_before lat memory ops rows (c + 1)
@@ -35,32 +33,21 @@ pub listed_more : (lat : Latencies) (memory : List ℤ) (ops : List Op) (rows : 
     (first text next_text : List ℕ) → text ≡ first ++ trace_lines (events_before lat memory ops rows c)
     → next_text ≡ text ++ trace_lines (events_at lat memory ops rows c)
     → next_text ≡ first ++ trace_lines (events_before lat memory ops rows (c + 1))
-listed_more lat memory ops rows c first text next_text so_far next =
-    next
-    ∙ ap (λ l. l ++ trace_lines (events_at lat memory ops rows c)) so_far
-    ∙ append_assoc first _ _
-    ∙ ap (λ l. first ++ l)
-    (sym (flat_map-append event_line (events_before lat memory ops rows c) (events_at lat memory ops rows c))
-    ∙ ap trace_lines (sym (events_more lat memory ops rows c)))
+listed_more lat memory ops rows c first text next_text so_far next = grind (arith, append_assoc, events_more, flat_map-append)
 
 pub row_more_listed : (lat : Latencies) (memory : List ℤ) (ops : List Op) (rows : List Row) (c : ℕ) (row : Row)
     (first text next_text : List ℕ) → row ≡ row_at rows c
     → text ≡ first ++ trace_lines (events_before lat memory ops rows c)
     → next_text ≡ text ++ trace_lines (events_after lat memory ops row c (issued_before lat memory ops rows c))
     → next_text ≡ first ++ trace_lines (events_before lat memory ops rows (c + 1))
-row_more_listed lat memory ops rows c row first text next_text is so_far next =
-    listed_more lat memory ops rows c first text next_text so_far
-    (next ∙ ap (λ r. text ++ trace_lines (events_after lat memory ops r c (issued_before lat memory ops rows c))) is)
+row_more_listed lat memory ops rows c row first text next_text is so_far next = grind (arith, listed_more)
 
 -- one row more
 pub follows_more : (lat : Latencies) (memory : List ℤ) (ops : List Op) (rows : List Row) (c : ℕ) (row : Row)
     (goes_on : Bool) (m : Machine) → row ≡ row_at rows c
     → After goes_on lat memory (c + 1) (issue_all lat memory ops c (slots row) (issued_before lat memory ops rows c)) m
     → After goes_on lat memory (c + 1) (issued_before lat memory ops rows (c + 1)) m
-follows_more lat memory ops rows c row goes_on m is after =
-    subst (λ l. After goes_on lat memory (c + 1) l m)
-    (ap (λ r. issue_all lat memory ops c (slots r) (issued_before lat memory ops rows c)) is
-    ∙ row_more lat memory ops rows c) after
+follows_more lat memory ops rows c row goes_on m is after = grind (arith, row_more)
 
 -- nothing happens after a fault
 none_later : (lat : Latencies) (memory : List ℤ) (ops : List Op) (rows : List Row) (c more : ℕ)

@@ -1,5 +1,5 @@
 -- Proofs by the cases of two numbers or of an option; for the other proofs.
-use Rattle.std.proofs.Common.{◌≡◌, ◌≢◌, ℕ, ◌<◌, ◌≤◌, Option, Some, None, inl, inr, arith}
+use Rattle.std.proofs.Common.{◌≡◌, ◌≢◌, ℕ, ◌<◌, ◌≤◌, Option, Some, None, inl, inr, refl}
 use Rattle.std.proofs.lemmas.Bool.{cases_eq, cases_lt}
 
 pub by_eq : {P : Type 0} → (a b : ℕ) → (a ≡ b → P) → (a ≢ b → P) → P
@@ -9,7 +9,12 @@ pub by_lt : {P : Type 0} → (a b : ℕ) → (a < b → P) → (b ≤ a → P) �
 by_lt a b below above = elim (cases_lt a b) [ inl l ↦ below l | inr l ↦ above l ]
 
 pub by_option : {X P : Type 0} → (o : Option X) → (o ≡ None → P) → ((x : X) → o ≡ Some x → P) → P
-by_option o none some = grind arith
+by_option {X} {P} o none some =
+    elim o as (λ v. (v ≡ None → P) → ((x : X) → v ≡ Some x → P) → P) [
+      | None ↦ λ f g. f refl
+      | Some x ↦
+          λ f g. g x refl
+    ] none some
 
 pub not_both : {X P : Type 0} → (o : Option X) (x : X) → o ≡ None → o ≡ Some x → P
 not_both o x none some = cc

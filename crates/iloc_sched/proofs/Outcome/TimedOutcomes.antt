@@ -60,7 +60,11 @@ outcome_same fault fault' words words' memory memory' same_fault same_words same
 module _ (lat : Latencies) (ops : List Op) (rows : List Row) (memory : List ℤ) (keeps : Keeps lat ops rows) where
   -- operation k as it is executed in program order
   plain : ℕ → Executed
-  plain k = grind arith
+  plain k = record {
+    op = op_at ops k;
+    effect = effect (op_at ops k) (register_after (before memory ops k))
+        (word_after memory (before memory ops k));
+  }
 
   due : ℕ → ℕ
   due k = issue_cycle rows k + latency lat (op_at ops k)

@@ -1,4 +1,4 @@
-use Rattle.std.proofs.Common.{◌≡◌, ◌+◌, ◌<◌, ◌==◌, true, false, length, get_or, take, ◌∷◌, [], ◌++◌, arith, refl, ap, ◌∙◌, eq-eqb, ne_eqb, ℕ, List, IsTrue, ℤ, pos, sym, append-nil, append_assoc}
+use Rattle.std.proofs.Common.{◌≡◌, ◌+◌, ◌<◌, ◌==◌, true, false, length, get_or, take, ◌∷◌, [], ◌++◌, arith, refl, ap, ◌∙◌, eq-eqb, ne_eqb, ℕ, List, IsTrue, ℤ, pos, append-nil, append_assoc}
 use Rattle.iloc_meaning.specs.Memory.{word_at}
 use Rattle.iloc_meaning.specs.Registers.{value_of}
 use Rattle.iloc_trace.specs.declared.event.Place.TheVariants.{Register, Word}
@@ -21,9 +21,7 @@ arrival_lines_more : (c : ℕ) (value : Place → ℤ) (due : List Arrival) (a :
     → arrival_lines c value (due ++ a ∷ [])
     ≡ arrival_lines c value due ++ arrival_line c a (fold (arrived_in a.place) (value a.place) due)
 arrival_lines_more c value [] a = append-nil (arrival_line c a (value a.place))
-arrival_lines_more c value (b ∷ due) a =
-    ap (λ l. arrival_line c b (value b.place) ++ l) (arrival_lines_more c (λ place. arrived_in place (value place) b) due a)
-    ∙ sym (append_assoc (arrival_line c b (value b.place)) _ _)
+arrival_lines_more c value (b ∷ due) a = grind (arith, append_assoc, arrival_lines_more c (λ place. arrived_in place (value place) b) due a)
 
 -- the next is due now, or it isn't
 due_now_more : (c i : ℕ) (coming : List Arrival) (a d : Arrival) → i < length coming → get_or coming i d ≡ a
@@ -51,24 +49,13 @@ place_then (Word a) reg reg' word word' due good regs words = words a good
 listed_more : (c : ℕ) (value : Place → ℤ) (due more : List Arrival) (a : Arrival) (was : ℤ) (first text then : List ℕ)
     → text ≡ first ++ arrival_lines c value due → then ≡ text ++ arrival_line c a was → more ≡ due ++ a ∷ []
     → was ≡ fold (arrived_in a.place) (value a.place) due → then ≡ first ++ arrival_lines c value more
-listed_more c value due more a was first text then so_far next is there =
-    next
-    ∙ ap (λ l. l ++ arrival_line c a was) so_far
-    ∙ append_assoc first (arrival_lines c value due) (arrival_line c a was)
-    ∙ ap (λ l. first ++ l)
-    (ap (λ v. arrival_lines c value due ++ arrival_line c a v) there
-    ∙ sym (arrival_lines_more c value due a)
-    ∙ ap (arrival_lines c value) (sym is))
+listed_more c value due more a was first text then so_far next is there = grind (arith, append_assoc, arrival_lines_more)
 
 -- and has arrived
 arrived_more : (place : Place) (due more : List Arrival) (a : Arrival) (before value then : ℤ)
     → value ≡ fold (arrived_in place) before due → then ≡ arrived_in place value a → more ≡ due ++ a ∷ []
     → then ≡ fold (arrived_in place) before more
-arrived_more place due more a before value then so_far next is =
-    next
-    ∙ ap (λ v. arrived_in place v a) so_far
-    ∙ sym (fold_push (arrived_in place) before due a)
-    ∙ ap (fold (arrived_in place) before) (sym is)
+arrived_more place due more a before value then so_far next is = grind (arith, fold_push)
 
 pub loop-arrival-preserved : goal.loop-arrival-preserved
 loop-arrival-preserved c =
