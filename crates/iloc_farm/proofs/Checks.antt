@@ -1,7 +1,8 @@
 -- What is said of proposals, and what holds of those that pass.
-use Rattle.std.proofs.Common.{◌≡◌, ◌≤◌, ℕ, ◌+◌, Bool, true, false, ◌&&◌, List, [], ◌∷◌, ◌++◌, length, arith, refl, ap, ◌∙◌, subst, append_assoc, Option, Some, None}
+use Rattle.std.proofs.Common.{◌≡◌, ◌≤◌, ℕ, ◌+◌, Bool, true, false, List, [], ◌∷◌, ◌++◌, length, arith, refl, ap, ◌∙◌, subst, append_assoc, Option, Some, None}
 use Rattle.std.specs.Prelude.{ℤ}
 use Rattle.std.specs.List.{AllZip, list_all, zip}
+use Rattle.std.proofs.lemmas.Bool.{and_parts}
 use Rattle.iloc_ops.specs.Limits.{MAX_OPS}
 use Rattle.iloc_ops.specs.declared.op.Op.{Op}
 use Rattle.iloc_ops.specs.declared.file.Block.{Block}
@@ -87,14 +88,6 @@ all_pass : (b : Bool) → Passed ≡ finding_of b → b ≡ true
 all_pass true is = refl
 all_pass false is = absurd (cc)
 
-first_passes : (a b : Bool) → (a && b) ≡ true → a ≡ true
-first_passes true b is = refl
-first_passes false b is = absurd (cc)
-
-rest_passes : (a b : Bool) → (a && b) ≡ true → b ≡ true
-rest_passes true b is = is
-rest_passes false b is = absurd (cc)
-
 -- what holds of whatever passes holds of all, where all pass
 module _ (options : CheckOptions) (nodes : Option ℕ) (lat : Latencies) (memory : List ℤ) (P : Block → Proposed → Type 0)
     (holds : (b : Block) (s : Table) (p : Proposed) (c : Checked) (text : List ℕ)
@@ -108,9 +101,9 @@ module _ (options : CheckOptions) (nodes : Option ℕ) (lat : Latencies) (memory
   of_each k (b ∷ blocks) [] found text many are pass = absurd (omega arith)
   of_each k (b ∷ blocks) (p ∷ proposals) [] text many are pass = absurd are
   of_each k (b ∷ blocks) (p ∷ proposals) (c ∷ found) text many are pass = (
-    holds b are.2.ours p c are.2.text are.2.right (first_passes (passes options.lawful c) (list_all (passes options.lawful) found) pass),
+    holds b are.2.ours p c are.2.text are.2.right (and_parts (passes options.lawful c) (list_all (passes options.lawful) found) pass).0,
     of_each (k + 1) blocks proposals found are.1 (omega arith) are.3
-        (rest_passes (passes options.lawful c) (list_all (passes options.lawful) found) pass),
+        (and_parts (passes options.lawful c) (list_all (passes options.lawful) found) pass).1,
   )
 
   of_passed : (blocks : List Block) (proposals : List Proposed) (text : List ℕ)

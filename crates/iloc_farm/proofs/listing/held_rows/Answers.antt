@@ -6,13 +6,9 @@ use Rattle.std.specs.List.{list_all}
 use Rattle.std.proofs.Math.Bool.{and-true}
 use Rattle.std.proofs.lemmas.List.{take_more}
 use Rattle.std.proofs.lemmas.List.Folds.{list_all-append}
+use Rattle.std.proofs.lemmas.Bool.{and_right}
 use Rattle.iloc_farm.proofs.listing.held_rows.Goals as goal
 use Rattle.iloc_farm.proofs.listing.held_rows.Goals.{then-loop-count-test+else-is_empty, else-loop-count-test}
-
--- The rows of a schedule up to the last that holds an operation, found from the last one.
-and_false : (b : Bool) → (b && false) ≡ false
-and_false true = refl
-and_false false = refl
 
 -- whether all are empty, with one more
 all_with : (rows : List Row) (row : Row) (b : Bool) → is_empty row ≡ b
@@ -33,8 +29,8 @@ held_all : (rows : List Row) (row : Row) → is_empty row ≡ false → held_row
 held_all [] row is = ap (λ b. if b then [] else row ∷ []) (and-true (is_empty row) ∙ is)
 held_all (first ∷ rows) row is =
     ap₂ (λ b more. if b then [] else first ∷ more)
-    (ap (λ b. is_empty first && b) (all_with rows row false is ∙ and_false (list_all is_empty rows))
-    ∙ and_false (is_empty first))
+    (ap (λ b. is_empty first && b) (all_with rows row false is ∙ and_right (list_all is_empty rows) false refl)
+    ∙ and_right (is_empty first) false refl)
     (held_all rows row is)
 
 -- the last of so many rows
