@@ -1,5 +1,5 @@
 -- What a reader has read of a text that comes piece by piece, piece after piece.
-use Rattle.std.proofs.Common.{◌≡◌, ◌≢◌, ◌∙◌, ℕ, suc, ◌+◌, ◌-◌, ◌<◌, ◌≤◌, ◌^◌, ◌==◌, min, true, List, [], ◌∷◌, ◌++◌, length, take, drop, get_or, sym, ap, ap₂, subst, subst₂, Option, Some, None, is_some, false, refl, Result, Ok, Err, IfErr, append_assoc, append-nil, take-append-drop, ◌⊎◌, inl, inr, arith}
+use Rattle.std.proofs.Common.{◌≡◌, ◌≢◌, ◌∙◌, ℕ, suc, ◌+◌, ◌-◌, ◌<◌, ◌≤◌, ◌^◌, ◌==◌, min, true, List, [], ◌∷◌, ◌++◌, length, take, drop, get_or, sym, ap, ap₂, subst, subst₂, Option, Some, None, is_some, false, refl, Result, Ok, Err, IfErr, append_assoc, append-nil, take_all, take-append-drop, length-drop, ◌⊎◌, inl, inr, arith}
 use Rattle.std.proofs.Math.Seq.{drop-cons}
 use Rattle.std.proofs.lemmas.Bool.Decides.{nat_tests}
 use Rattle.iloc_ops.specs.Limits.{MAX_INPUT}
@@ -153,3 +153,19 @@ count_further counted n more sum e f = grind (arith, nat_tests)
 pub none_where_not_some : {A : Type 0} (o : Option A) → is_some o ≡ false → o ≡ None
 none_where_not_some None e = refl
 none_where_not_some (Some x) e = cc
+
+-- a text and a piece in two
+pub joined : (text piece : List ℕ) (n : ℕ) → (text ++ take n piece) ++ take (length piece - n) (drop n piece) ≡ text ++ piece
+joined text piece n = append_assoc text (take n piece) (take (length piece - n) (drop n piece))
+    ∙ ap (λ back. text ++ (take n piece ++ back)) (take_all (length piece - n) (drop n piece) (omega (arith, length-drop n piece)))
+    ∙ ap (λ all. text ++ all) (take-append-drop n piece)
+
+-- a fault of the front is one of the whole
+pub fault_longer : (text front back piece : List ℕ) (fault : ReadFault) → front ++ back ≡ piece → HasFault (text ++ front) fault
+    → HasFault (text ++ piece) fault
+fault_longer text front back piece fault e bad = λ more.
+    ap (λ all. answer_from [] 1 (lines_of ((text ++ all) ++ more))) (sym e)
+    ∙ ap (λ all. answer_from [] 1 (lines_of all))
+    (append_assoc text (front ++ back) more ∙ ap (λ t. text ++ t) (append_assoc front back more)
+    ∙ sym (append_assoc text front (back ++ more)))
+    ∙ bad (back ++ more)

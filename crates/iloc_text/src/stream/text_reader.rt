@@ -13,7 +13,7 @@ use crate::reader::taker::TakeBlocks;
 use crate::stream::pieces::TakePieces;
 use crate::text_parts::{Counted, TextPart, begins_labelled};
 use iloc_ops::{IlocFile, MAX_BLOCKS, MAX_INPUT, NoMemory};
-use memchr::memrchr;
+use memchr::{memchr, memrchr};
 use std::alloc::Global;
 
 /// Reads a text that comes piece by piece, and hands each block over as soon as its last line has come. Of the text it
@@ -89,12 +89,43 @@ impl<T: TakeBlocks + Drop> TextReader<T> {
         )
     }
 
+    /// Reads the lines of these bytes behind what was kept, and answers how many were read then.
+    fn read_behind(&mut self, alloc: Global, bytes: &[u8]) -> Result<u32, ReadFault>
+        requires counted { self.old.number + vec_len self.old.rest + length bytes.now ≤ self.old.length }
+        requires short { self.old.length ≤ MAX_INPUT }
+        ensures kept { OnOk result (self.new.rest.items ≡ []) }
+        ensures len { OnOk result (vec_len self.new.rest ≡ 0) }
+        ensures before { OnOk result (self.new.number ≡ self.old.number) }
+        ensures length { self.new.length ≡ self.old.length }
+        ensures fault { self.new.fault ≡ self.old.fault }
+        ensures number { IfOk result (λ number. number ≡ self.old.number + length (lines_of (self.old.rest.items ++ bytes.now))) }
+        ensures blocks { (start : T) (blocks : List block_value) →
+            HasTaken T.took start self.old.taker self.old.open_block blocks →
+            Answered (HasTaken T.took start self.new.taker self.new.open_block)
+            (answer_from blocks (self.old.number + 1) (lines_of (self.old.rest.items ++ bytes.now))) result }
+    {
+        if self.rest.is_empty() {
+            return read_lines(
+                alloc,
+                bytes,
+                self.number,
+                &mut self.open_block,
+                &mut self.taker,
+            );
+        }
+        self.keep(bytes)?;
+        let read = self.read_kept(alloc);
+        self.rest.clear();
+        read
+    }
+
     /// Reads the lines that end in the piece, and keeps what follows them.
     fn read_ended(&mut self, alloc: Global, piece: &[u8]) -> Result<(), ReadFault>
         requires counted { self.old.number + vec_len self.old.rest + length piece.now ≤ self.old.length }
         requires short { self.old.length ≤ MAX_INPUT }
         ensures length { self.new.length ≡ self.old.length }
         ensures fault { self.new.fault ≡ self.old.fault }
+        ensures counted { OnOk result (self.new.number + vec_len self.new.rest ≤ self.old.number + vec_len self.old.rest + length piece.now) }
         ensures ok { (start : T) (text : List ℕ) → GoesOn T.took start self.old text →
             OnOk result (GoesOn T.took start self.new (text ++ piece.now)) }
         ensures err { (start : T) (text : List ℕ) → GoesOn T.took start self.old text →
@@ -104,12 +135,29 @@ impl<T: TakeBlocks + Drop> TextReader<T> {
             self.keep(piece)?;
             return Ok(());
         };
-        self.keep(&piece[..end])?;
-        let number = self.read_kept(alloc)?;
-        self.rest.clear();
+        let number = self.read_behind(alloc, &piece[..end])?;
         self.number = number;
         self.keep(&piece[end + 1..])?;
         Ok(())
+    }
+
+    /// The same, in which only the first line that ends is read behind what was kept, and the others where they stand. Where all
+    /// are copied, all commands execute 20 instructions more for each line.
+    fn read_piece(&mut self, alloc: Global, piece: &[u8]) -> Result<(), ReadFault>
+        requires counted { self.old.number + vec_len self.old.rest + length piece.now ≤ self.old.length }
+        requires short { self.old.length ≤ MAX_INPUT }
+        ensures length { self.new.length ≡ self.old.length }
+        ensures fault { self.new.fault ≡ self.old.fault }
+        ensures ok { (start : T) (text : List ℕ) → GoesOn T.took start self.old text →
+            OnOk result (GoesOn T.took start self.new (text ++ piece.now)) }
+        ensures err { (start : T) (text : List ℕ) → GoesOn T.took start self.old text →
+            IfErr result (λ fault. fault ≢ no_memory → HasFault (text ++ piece.now) fault) }
+    {
+        let Some(first) = memchr(b'\n', piece) else {
+            return self.read_ended(alloc, piece);
+        };
+        self.read_ended(alloc, &piece[..first + 1])?;
+        self.read_ended(alloc, &piece[first + 1..])
     }
 
     /// Reads the next piece of the text. What is wrong with the text is reported at its end.
@@ -121,7 +169,7 @@ impl<T: TakeBlocks + Drop> TextReader<T> {
         if self.length > MAX_INPUT || self.fault.is_some() {
             return Ok(());
         }
-        let Err(fault) = self.read_ended(alloc, piece) else {
+        let Err(fault) = self.read_piece(alloc, piece) else {
             return Ok(());
         };
         match fault {
