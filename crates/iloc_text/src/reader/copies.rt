@@ -8,7 +8,7 @@ use std::alloc::Global;
 use std::mem;
 use std::sync::Arc;
 
-/// A shared list has at most so many operations, or those of a single block that has more. With a list for each block
+/// A shared list has room for so many operations, or for those of a single block that has more. With a list for each block
 /// `counts` takes 12 % more processor time on 65,535 blocks of some ten operations.
 const MOST_SHARED: usize = 4096;
 
@@ -119,9 +119,10 @@ impl TakeBlocks for Copies {
     ghost took = { λ start blocks now. all_of now ≡ all_of start ++ blocks };
 
     fn take(&mut self, alloc: Global, _number: usize, block: &Block) -> Result<(), NoMemory> {
-        if self.ops.len() + block.ops.len() > MOST_SHARED {
+        let count = block.ops.len();
+        if count > self.ops.capacity() - self.ops.len() {
             self.settle(alloc)?;
-            self.ops.reserve(MOST_SHARED.max(block.ops.len()))?;
+            self.ops.reserve(MOST_SHARED.max(count))?;
         }
         self.add(alloc, block)
     }
