@@ -1,6 +1,5 @@
 pub mod Cases
 pub mod RegisterValues
-pub mod Tables
 pub mod PuttingBack
 pub mod MemoryWords
 pub mod Placing

@@ -1,13 +1,15 @@
 -- The registers' values: those of a table by place, and behind it the entries of an ordered map.
-use Rattle.std.proofs.Common.{◌≡◌, ℕ, zero, suc, ◌+◌, ◌<◌, ◌≤◌, ℤ, cond, true, false, List, [], ◌∷◌, ◌++◌, length, get_or, set, Some, unwrap_or, pos, arith, refl, ap, sym, ◌∙◌, ne_eqb, eq-eqb, inl, inr, length-set, get_or-set_same, get_or-set_other}
+use Rattle.std.proofs.Common.{◌≡◌, ℕ, zero, suc, ◌+◌, ◌<◌, ◌≤◌, ℤ, cond, true, false, List, [], ◌∷◌, ◌++◌, length, get_or, take, replicate, set, Some, unwrap_or, pos, arith, refl, ap, sym, ◌∙◌, ne_eqb, eq-eqb, inl, inr, length-set, get_or-set_same, get_or-set_other}
 use Rattle.std.proofs.lemmas.Bool.{cases_lt}
+use Rattle.std.proofs.lemmas.List.{get_or_past, take_all}
 use Rattle.std.specs.List.{enumerate_from}
 use Rattle.std.specs.Ordering.{nat_cmp, eq_by_cmp}
 use Rattle.std.specs.Cmp.{nat_cmp_total, unsigned_tied}
 use Rattle.std.specs.Map.{lookup}
-use Rattle.std.specs.FinMap.{find, from_entries, get-from_entries}
+use Rattle.std.specs.FinMap.{find, get-from_entries}
 use Rattle.iloc_ops.specs.declared.op.Reg.{Reg}
-use Rattle.iloc_meaning.specs.Registers.{Values, value_of, ChangesOnly}
+use Rattle.iloc_meaning.specs.Registers.{value_of, ChangesOnly}
+use Rattle.iloc_meaning.specs.Steps.Table.{values}
 
 find_is_lookup : (n : ℕ) (entries : List (ℕ × ℤ)) → find nat_cmp n entries ≡ lookup (eq_by_cmp nat_cmp n) entries
 find_is_lookup n [] = refl
@@ -33,10 +35,6 @@ find_past k n (v ∷ table) others past =
     let there : eq_by_cmp nat_cmp n k ≡ false = unsigned_tied n k ∙ ne_eqb n k (λ same. omega arith) in
     rw there (find_past (k + 1) n table others (omega arith))
 
--- the values that a table and other entries give
-abbrev pub values : List ℤ → List (ℕ × ℤ) → Values
-values table others = from_entries (enumerate_from 0 table ++ others)
-
 -- the value of a register with a place in the table
 pub value_of-table : (table : List ℤ) (others : List (ℕ × ℤ)) (r : Reg) → r.0 < length table
     → value_of (values table others) r ≡ get_or table r.0 (pos 0)
@@ -53,14 +51,15 @@ value_of-others table others r past =
     ap (λ o. unwrap_or o (pos 0)) (get-from_entries nat_cmp_total (enumerate_from 0 table ++ others) r.0
     ∙ find_past 0 r.0 table others (omega arith) ∙ find_is_lookup r.0 others)
 
--- a table of zeros and no other entry
-pub values_of_zeros : (table : List ℤ) (others : List (ℕ × ℤ)) → ((n : ℕ) → get_or table n (pos 0) ≡ pos 0)
-    → others ≡ [] → (r : Reg) → value_of (values table others) r ≡ pos 0
-values_of_zeros table others zeros none r = elim (cases_lt r.0 (length table)) [
-  | inl below ↦ value_of-table table others r below ∙ zeros r.0
+-- where there is no other entry, the table has every value
+pub value_of-alone : (table : List ℤ) (others : List (ℕ × ℤ)) (r : Reg) → others ≡ []
+    → value_of (values table others) r ≡ get_or table r.0 (pos 0)
+value_of-alone table others r none = elim (cases_lt r.0 (length table)) [
+  | inl below ↦ value_of-table table others r below
   | inr past ↦
       value_of-others table others r past
       ∙ ap (λ es. unwrap_or (lookup (eq_by_cmp nat_cmp r.0) es) (pos 0)) none
+      ∙ sym (get_or_past table r.0 (pos 0) past)
 ]
 
 -- a write to a place of the table
@@ -96,4 +95,27 @@ set_in_others table old new r value beyond set stay = record {
         ∙ ap (λ o. unwrap_or o (pos 0)) (stay s.0 (unsigned_tied r.0 s.0 ∙ ne_eqb _ _ (λ same. apart (sym same))))
         ∙ sym (value_of-others table old s past)
   ];
+}
+
+-- zeros behind a table change no value
+get_or-padded : (table : List ℤ) (count n : ℕ)
+    → get_or (table ++ replicate count (pos 0)) n (pos 0) ≡ get_or table n (pos 0)
+get_or-padded [] zero n = refl
+get_or-padded [] (suc count) zero = refl
+get_or-padded [] (suc count) (suc n) = get_or-padded [] count n
+get_or-padded (v ∷ table) count zero = refl
+get_or-padded (v ∷ table) count (suc n) = get_or-padded table count n
+
+-- a write to a place that the table gets, where there is no other entry
+pub set_in_longer : (table longer : List ℤ) (others : List (ℕ × ℤ)) (size count : ℕ) (r : Reg) (value : ℤ) → others ≡ []
+    → longer ≡ take size table ++ replicate count (pos 0) → length table ≤ size → r.0 < length longer
+    → ChangesOnly (values table others) (values (set longer r.0 value) others) r value
+set_in_longer table longer others size count r value none padded fits below = record {
+  changed = value_of-alone _ others r none ∙ get_or-set_same longer r.0 value (pos 0) below;
+  others = λ s apart.
+      value_of-alone _ others s none
+      ∙ get_or-set_other longer r.0 s.0 value (pos 0) apart
+      ∙ ap (λ l. get_or l s.0 (pos 0)) (padded ∙ ap (λ l. l ++ replicate count (pos 0)) (take_all size table fits))
+      ∙ get_or-padded table count s.0
+      ∙ sym (value_of-alone table others s none);
 }

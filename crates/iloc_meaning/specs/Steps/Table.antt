@@ -1,8 +1,9 @@
--- The table of registers with the numbers of those that were given a value.
-use Rattle.std.specs.Prelude.{◌≡◌, ◌<◌, ◌⊎◌, ℕ, List, length, slice_index_or, Contains, ℤ, pos}
-use Rattle.std.specs.List.{All}
+-- The values of registers in a table, and of others in an ordered map.
+use Rattle.std.specs.Prelude.{ℕ, ◌++◌, List, ℤ}
+use Rattle.std.specs.List.{enumerate_from}
+use Rattle.std.specs.FinMap.{from_entries}
+use Rattle.iloc_meaning.specs.Registers.{Values}
 
--- every other register of the table is 0
-pub record AreGiven (given : List ℕ) (table : List ℤ) : Type 0 where
-  pub within : All (λ n. n < length table) given
-  pub rest : (n : ℕ) → (slice_index_or table n (pos 0) ≡ pos 0) ⊎ Contains given n
+-- the values that a table and other entries give
+abbrev pub values : List ℤ → List (ℕ × ℤ) → Values
+values table others = from_entries (enumerate_from 0 table ++ others)
