@@ -1,6 +1,7 @@
 -- A schedule in mid-run, one step on.
 use Rattle.std.proofs.Common.{◌≡◌, ◌<◌, ◌≤◌, ℕ, ◌+◌, ◌%◌, true, false, List, [], ◌∷◌, ◌++◌, length, set, Some, Vec, Global, IsTrue, ℤ, pos, arith, refl, sym, ap, ◌∙◌, append-nil}
 use Rattle.std.specs.Prelude.{fold}
+use Rattle.std.proofs.lemmas.List.{set-get_or}
 use Rattle.iloc_ops.specs.declared.op.Reg.{Reg}
 use Rattle.iloc_ops.specs.declared.op.Op.{Op}
 use Rattle.iloc_ops.specs.Registers.{defined}
@@ -62,6 +63,15 @@ after_landing memory c log machine due registers memory_then wheel follows is re
       all_land = all_land_later (c + 16) (c + 1 + 16) log (omega arith) follows.all_land;
       outputs = follows.outputs;
     }
+
+-- nothing is due at cycle c
+pub after_empty_list : (memory : List ℤ) (c : ℕ) (log : List Issued) (machine : Machine) → list_at machine.wheel c ≡ []
+    → Follows memory c log machine → Follows memory (c + 1) log machine
+after_empty_list memory c log machine empty follows =
+    let same : machine.wheel ≡ set machine.wheel (c % 16) [] =
+    sym (set-get_or machine.wheel (c % 16) []) ∙ ap (set machine.wheel (c % 16)) empty in
+    after_landing memory c log machine [] machine.state.registers machine.state.memory machine.wheel follows (sym empty)
+    (λ r. refl) (λ a good. refl) refl same
 
 -- an operation was issued and didn't fault
 after_issue : (memory : List ℤ) (c due : ℕ) (op : Op) (log : List Issued) (machine : Machine) (done : Effect)
