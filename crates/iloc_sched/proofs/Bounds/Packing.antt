@@ -4,7 +4,7 @@ use Rattle.std.specs.Prelude.{nat_le, ◌==◌}
 use Rattle.std.specs.List.{range_with_len}
 use Rattle.std.proofs.Math.Nat.{div-one}
 use Rattle.std.proofs.lemmas.Bool.Decides.{nat_tests}
-use Rattle.std.proofs.lemmas.List.{get_or-set_same, get_or-set_other, length-set}
+use Rattle.std.proofs.lemmas.List.{get_or-set_same, get_or-set_other}
 use Rattle.iloc_meaning.proofs.Cases.{by_bool}
 use Rattle.iloc_sched.specs.LowerBound.Least.{count_from, cycles_from, needed}
 use Rattle.iloc_sched.specs.Steps.Members.{In}
@@ -287,47 +287,76 @@ from_free links p same = let test : (link links p == p) ≡ true = grind (arith,
 
 -- a link of a taken place that goes further
 module _ (links : List ℕ) (p next after : ℕ) (is : IsLinked links) (within : p < length links)
-    (to_next : next ≡ link links p) (apart : next ≢ p) (beyond : next < length links) (to_after : after ≡ link links next)
+    (to_next : next ≡ link links p) (apart : next ≢ p) (to_after : after ≡ link links next)
   where
     pub ahead : p < next
-    ahead = let forth : p ≤ link links p = is.forth p within in omega arith
+    ahead = omega arith
 
     pub further : next ≤ after
-    further = let forth : next ≤ link links next = is.forth next beyond in omega arith
+    further = omega arith
 
-    at_p : link (set links p after) p ≡ after
-    at_p = get_or-set_same links p after p within
+    at_p : link (set links p (after - p)) p ≡ after
+    at_p = let read = get_or-set_same links p (after - p) 0 within in let one = ahead in let two = further in omega arith
 
-    at_other : (q : ℕ) → q ≢ p → link (set links p after) q ≡ link links q
-    at_other q other = get_or-set_other links p q after q other
+    at_other : (q : ℕ) → q ≢ p → link (set links p (after - p)) q ≡ link links q
+    at_other q other = ap (λ n. q + n) (get_or-set_other links p q (after - p) 0 other)
 
-    pub shorter_alike : (q : ℕ) → is_taken (set links p after) q ≡ is_taken links q
-    shorter_alike q = grind (arith, ahead, at_other, at_p, from_taken, further)
+    pub shorter_alike : (q : ℕ) → is_taken (set links p (after - p)) q ≡ is_taken links q
+    shorter_alike q = by_eq q p
+        (λ same.
+        let new : is_taken (set links p (after - p)) p ≡ true = from_taken (set links p (after - p)) p
+        (let one = at_p in let two = ahead in let three = further in omega arith) in
+        let old : is_taken links p ≡ true = from_taken links p (omega arith) in
+        ap (is_taken (set links p (after - p))) same ∙ new ∙ sym old ∙ sym (ap (is_taken links) same))
+        (λ other. ap (λ l. not (l == q)) (at_other q other))
 
-    pub shorter_linked : IsLinked (set links p after)
-    shorter_linked = grind (arith, ahead, at_other, at_p, further, length-set, shorter_alike)
+    pub shorter_linked : IsLinked (set links p (after - p))
+    shorter_linked k q low high = shorter_alike q ∙ by_eq k p
+        (λ same.
+        let here : link (set links p (after - p)) k ≡ link (set links p (after - p)) p =
+        ap (link (set links p (after - p))) same in
+        let one = at_p in
+        by_lt q next
+        (λ first. is p q (omega arith) (omega arith))
+        (λ second. is next q second (omega arith)))
+        (λ other. let here = at_other k other in is k q low (omega arith))
 
 -- a free place that is taken
 module _ (links : List ℕ) (p : ℕ) (is : IsLinked links) (within : p < length links) (free : is_taken links p ≡ false) where
-  at_place : link (set links p (p + 1)) p ≡ p + 1
-  at_place = get_or-set_same links p (p + 1) p within
+  at_place : link (set links p 1) p ≡ p + 1
+  at_place = ap (λ n. p + n) (get_or-set_same links p 1 0 within)
 
-  pub put_now : is_taken (set links p (p + 1)) p ≡ true
-  put_now = from_taken (set links p (p + 1)) p (let one = at_place in omega arith)
+  pub put_now : is_taken (set links p 1) p ≡ true
+  put_now = from_taken (set links p 1) p (let one = at_place in omega arith)
 
-  pub put_other : (q : ℕ) → q ≢ p → is_taken (set links p (p + 1)) q ≡ is_taken links q
-  put_other q other = ap (λ l. not (l == q)) (get_or-set_other links p q (p + 1) q other)
+  pub put_other : (q : ℕ) → q ≢ p → is_taken (set links p 1) q ≡ is_taken links q
+  put_other q other = ap (λ n. not (q + n == q)) (get_or-set_other links p q 1 0 other)
 
-  still : (q : ℕ) → is_taken links q ≡ true → is_taken (set links p (p + 1)) q ≡ true
-  still q holds = grind (arith, put_now, put_other)
+  still : (q : ℕ) → is_taken links q ≡ true → is_taken (set links p 1) q ≡ true
+  still q holds = by_eq q p
+      (λ same. ap (is_taken (set links p 1)) same ∙ put_now)
+      (λ other. put_other q other ∙ holds)
 
-  pub put_linked : IsLinked (set links p (p + 1))
-  put_linked = grind (arith, at_place, get_or-set_other, length-set, put_now, still)
+  pub put_linked : IsLinked (set links p 1)
+  put_linked k q low high = by_eq k p
+      (λ same.
+      let here : link (set links p 1) k ≡ link (set links p 1) p = ap (link (set links p 1)) same in
+      let one = at_place in
+      let is_p : q ≡ p = omega arith in
+      ap (is_taken (set links p 1)) is_p ∙ put_now)
+      (λ other.
+      let here : link (set links p 1) k ≡ link links k = ap (λ n. k + n) (get_or-set_other links p k 1 0 other) in
+      still q (is k q low (omega arith)))
 
 -- a link goes no further than behind the last taken place
 pub link_near : (links : List ℕ) (top p : ℕ) → IsLinked links → ((q : ℕ) → is_taken links q ≡ true → q ≤ top)
     → p < length links → top + 1 < length links → link links p < length links
-link_near links top p is up_to within space = grind arith
+link_near links top p is up_to within space = by_eq (link links p) p
+    (λ same. omega arith)
+    (λ apart.
+    let last : link links p - 1 ≤ top =
+    up_to (link links p - 1) (is p (link links p - 1) (omega arith) (omega arith)) in
+    omega arith)
 
 pub free_linked : (links : List ℕ) → ((q : ℕ) → link links q ≡ q) → IsLinked links
-free_linked links all = grind arith
+free_linked links all p q low high = absurd (let same = all p in omega arith)

@@ -2,13 +2,14 @@
 ghost use Rattle.std.specs.Prelude.{ℕ, ◌≡◌, ◌+◌, ◌<◌, ◌≤◌, ◌^◌, ◌∷◌, [], false, true, List, length, IfOk};
 ghost use Rattle.iloc_sched.specs.LowerBound.Least.{needed};
 
+use crate::ranking::heuristic::fill_zeros;
 use iloc_ops::NoMemory;
 use std::alloc::Global;
 
 /// Numbers packed into places, each into the first free place from it on.
 #[derive(Drop)]
 pub struct Packing {
-    // By place the place itself where it is free, else a later one before which no free one lies.
+    // By place 0 where it is free, else how far after it a place is before which no free one lies.
     links: Vec<u32>,
     // The last place that is taken, 0 where none is.
     top: u32,
@@ -16,7 +17,7 @@ pub struct Packing {
 }
 
 impl Packing {
-    ghost use Rattle.iloc_sched.specs.Steps.LowerBound.Packing.{IsPacking, IsLinked, AreTaken, AreTakenAlike, is_taken};
+    ghost use Rattle.iloc_sched.specs.Steps.LowerBound.Packing.{link, IsPacking, IsLinked, AreTaken, AreTakenAlike, is_taken};
 
     /// So many free places.
     pub fn new(alloc: Global, places: u32) -> Result<Packing, NoMemory>
@@ -24,10 +25,7 @@ impl Packing {
         ensures size { IfOk result (λ p. length p.links.items ≡ places) }
     {
         let mut links = Vec::new(alloc);
-        links.reserve(places as usize)?;
-        for place in 0..places {
-            links.push(place)?;
-        }
+        fill_zeros(&mut links, places as usize)?;
         Ok(Packing { links, top: 0 })
     }
 
@@ -36,6 +34,15 @@ impl Packing {
         ensures { result ≡ self.now.top }
     {
         self.top
+    }
+
+    /// The place that this one links to.
+    fn link(&self, place: u32) -> u32
+        requires there { place < length self.now.links.items }
+        requires near { link self.now.links.items place < length self.now.links.items }
+        ensures { result ≡ link self.now.links.items place }
+    {
+        place + self.links[place as usize]
     }
 
     /// The first free place from this one on. Each link on the way is made to go where the next one goes, so that
@@ -55,10 +62,10 @@ impl Packing {
         ensures free { is_taken self.new.links.items result ≡ false }
     {
         let mut place = from;
-        while self.links[place as usize] != place {
-            let next = self.links[place as usize];
-            let after = self.links[next as usize];
-            self.links[place as usize] = after;
+        while self.links[place as usize] != 0 {
+            let next = self.link(place);
+            let after = self.link(next);
+            self.links[place as usize] = after - place;
             place = after;
         }
         place
@@ -71,7 +78,7 @@ impl Packing {
         ensures size { length self.new.links.items ≡ length self.old.links.items }
     {
         let place = self.first_free(from);
-        self.links[place as usize] = place + 1;
+        self.links[place as usize] = 1;
         self.top = self.top.max(place);
     }
 }

@@ -3,6 +3,7 @@ ghost use Rattle.std.specs.Prelude.{◌≡◌, OnOk};
 ghost use Rattle.iloc_sched.specs.LowerBound.Starts.{starts};
 ghost use Rattle.iloc_sched.specs.Steps.Edges.SoundGraph.{IsSound};
 
+use crate::ranking::heuristic::fill_zeros;
 use crate::tables::Tables;
 use iloc_ops::NoMemory;
 
@@ -13,8 +14,7 @@ pub(crate) fn fill_starts(found: &mut Vec<u32>, tables: &Tables) -> Result<(), N
     ensures { OnOk result (found.new.items ≡ starts tables.now.latencies tables.now.ops.items) }
 {
     let edges = &tables.edges;
-    found.clear();
-    found.resize(edges.op_count(), 0)?;
+    fill_zeros(found, edges.op_count())?;
     for x in 0..edges.edge_count() {
         let edge = edges.get(x);
         let arrival = edge.delay + found[edge.from as usize];

@@ -29,7 +29,7 @@ pub enum Heuristic {
 }
 
 /// Fills a list with so many zeros.
-fn fill_zeros(found: &mut Vec<u32>, count: usize) -> Result<(), NoMemory>
+pub(crate) fn fill_zeros(found: &mut Vec<u32>, count: usize) -> Result<(), NoMemory>
     ensures { OnOk result (found.new.items ≡ replicate count 0) }
 {
     found.clear();

@@ -1,5 +1,5 @@
 -- Numbers that are put into places one after another: each into the first free place from it on.
-use Rattle.std.specs.Prelude.{ℕ, ◌+◌, ◌≡◌, ◌<◌, ◌≤◌, ◌⊎◌, ◌==◌, not, Bool, true, false, List, length, count_by, slice_index_or}
+use Rattle.std.specs.Prelude.{ℕ, ◌+◌, ◌≡◌, ◌<◌, ◌≤◌, ◌⊎◌, ◌==◌, not, Bool, true, false, List, count_by, slice_index}
 use Rattle.std.specs.List.{range_with_len}
 use Rattle.iloc_sched.specs.declared.lower_bound.packing.Packing.{Packing}
 use Rattle.iloc_sched.specs.LowerBound.Least.{count_from}
@@ -19,15 +19,14 @@ pub record IsPacked (xs : List ℕ) (taken : ℕ → Bool) (top : ℕ) : Type 0 
 
 -- the place that place p links to, itself where it is free
 abbrev pub link : List ℕ → ℕ → ℕ
-link links p = slice_index_or links p p
+link links p = p + slice_index links p
 
 abbrev pub is_taken : List ℕ → ℕ → Bool
 is_taken links p = not (link links p == p)
 
--- no link goes back, and all places that it passes are taken
-pub record IsLinked (links : List ℕ) : Type 0 where
-  pub forth : (p : ℕ) → p < length links → p ≤ link links p
-  pub between : (p q : ℕ) → p < length links → p ≤ q → q < link links p → is_taken links q ≡ true
+-- all places that a link passes are taken
+abbrev pub IsLinked : List ℕ → Type 0
+IsLinked links = (p q : ℕ) → p ≤ q → q < link links p → is_taken links q ≡ true
 
 -- these numbers are packed
 pub record IsPacking (xs : List ℕ) (p : Packing) : Type 0 where

@@ -1,5 +1,4 @@
-use Rattle.std.proofs.Common.{rules, ℕ, take, [], ◌++◌, ◌-◌, ◌≡◌, ◌<◌, List, length, ◌∙◌, subst, arith}
-use Rattle.std.specs.Prelude.{replicate}
+use Rattle.std.proofs.Common.{ℕ, ◌≡◌, ◌<◌, List, length, subst, arith}
 use Rattle.std.proofs.lemmas.List.{get_or_read}
 use Rattle.iloc_sched.specs.declared.edges.Edge.{Edge}
 use Rattle.iloc_sched.specs.LowerBound.Starts.{start}
@@ -10,18 +9,11 @@ use Rattle.iloc_sched.proofs.PriorityValues.Found.{read_edge, starts_none, start
 use Rattle.iloc_sched.proofs.PriorityValues.Starts.{is_start, start_most}
 use Rattle.iloc_sched.proofs.lower_bound.starts.fill_starts.Goals as goal
 
-empty : (m : ℕ) → take {A = ℕ} m [] ++ replicate (m - 0) 0 ≡ replicate m 0
-empty m = search rules
-
-filled : (n m k : ℕ) (xs : List ℕ) → xs ≡ [] → n ≡ m → k ≡ 0 → take n xs ++ replicate (n - k) 0 ≡ replicate m 0
-filled n m k xs none is isn = rw (none, is, isn) (empty m)
-
 pub loop-x-init : goal.loop-x-init
 loop-x-init c =
     let t = c.args.tables.now in
-    starts_none t.latencies t.ops.items (graph_of t.edges) c.requires.graph c.resize.new.self.items
-    (c.in_ok-resize.ensures.items ∙ filled c.op_count.result _ _ c.clear.new.self.items c.clear.ensures.items
-    c.op_count.ensures c.clear.ensures.len)
+    starts_none t.latencies t.ops.items (graph_of t.edges) c.requires.graph c.fill_zeros.new.found.items
+    (rw c.op_count.ensures at c.in_ok-fill_zeros.ensures)
 
 pub overflow_add-arrival : goal.overflow_add-arrival
 overflow_add-arrival c =

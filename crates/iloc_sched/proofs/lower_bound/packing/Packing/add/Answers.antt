@@ -1,4 +1,4 @@
-use Rattle.std.proofs.Common.{ℕ, ◌≡◌, ◌+◌, ◌∷◌, max, false, List, set, sym, ap, subst, ◌∙◌, arith}
+use Rattle.std.proofs.Common.{ℕ, ◌≡◌, ◌∷◌, max, false, List, set, sym, ap, subst, ◌∙◌, arith}
 use Rattle.iloc_sched.specs.Steps.LowerBound.Packing.{is_taken, IsPacked}
 use Rattle.iloc_sched.proofs.Bounds.Packing.{packed_needed, packed_more, needed_more, needed_own, put_now, put_other, put_linked}
 use Rattle.iloc_sched.proofs.lower_bound.packing.Packing.add.Goals as goal
@@ -17,9 +17,6 @@ first_free-place-requires-clause-there c =
     let space = c.requires.packed.2 in
     omega arith
 
-pub overflow_add-place : goal.overflow_add-place
-overflow_add-place c = omega (arith, c.first_free-place.ensures.there, c.first_free-place.new.self.few)
-
 pub returns-clause-packed : goal.returns-clause-packed
 returns-clause-packed c = λ xs is.
     let old : List ℕ = c.args.self.now.links.items in
@@ -28,8 +25,8 @@ returns-clause-packed c = λ xs is.
     let there = c.first_free-place.ensures.there in
     let free : is_taken links place ≡ false = c.first_free-place.ensures.free in
     let alike = c.first_free-place.ensures.alike in
-    let more : IsPacked (c.args.from ∷ xs) (is_taken (set links place (place + 1))) (max c.args.self.now.top place) =
-    packed_more xs (is_taken old) (is_taken (set links place (place + 1))) c.args.self.now.top c.args.from place is.packed
+    let more : IsPacked (c.args.from ∷ xs) (is_taken (set links place 1)) (max c.args.self.now.top place) =
+    packed_more xs (is_taken old) (is_taken (set links place 1)) c.args.self.now.top c.args.from place is.packed
     c.first_free-place.ensures.from
     (λ q low high. sym (alike q) ∙ c.first_free-place.ensures.passed q low high)
     (sym (alike place) ∙ free)
@@ -39,5 +36,5 @@ returns-clause-packed c = λ xs is.
     c.max-self.ensures ∙ ap (λ t. max t place) c.first_free-place.ensures.top in
     record {
       linked = put_linked links place c.first_free-place.ensures.linked there free;
-      packed = subst (IsPacked (c.args.from ∷ xs) (is_taken (set links place (place + 1)))) (sym top) more;
+      packed = subst (IsPacked (c.args.from ∷ xs) (is_taken (set links place 1))) (sym top) more;
     }

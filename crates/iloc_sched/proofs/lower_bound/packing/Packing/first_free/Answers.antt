@@ -1,110 +1,85 @@
-use Rattle.std.proofs.Common.{ℕ, ◌≡◌, ◌≢◌, ◌<◌, ◌≤◌, true, List, length, set, sym, ◌∙◌, arith}
+use Rattle.std.proofs.Common.{ℕ, ◌≡◌, ◌≢◌, ◌+◌, ◌-◌, ◌<◌, ◌≤◌, true, List, length, sym, ◌∙◌, arith}
 use Rattle.std.proofs.lemmas.List.{get_or_read, length-set}
 use Rattle.iloc_sched.specs.Steps.LowerBound.Packing.{link, is_taken, IsLinked}
 use Rattle.iloc_sched.proofs.Basics.Cases.{by_lt}
 use Rattle.iloc_sched.proofs.Bounds.Packing.{link_near, ahead, further, shorter_alike, shorter_linked}
 use Rattle.iloc_sched.proofs.lower_bound.packing.Packing.first_free.Goals as goal
 
-pub index-after-requires : goal.index-after-requires
-index-after-requires c =
-    let links : List ℕ = c.loop-place.self.links.items in
-    let size : length links ≡ length c.args.self.now.links.items = c.loop-place.invariant.size in
-    let there = c.loop-place.invariant.there in
-    let space = c.requires.space in
-    let is = get_or_read links c.loop-place.place c.index-next.result.now (omega arith) c.index-next.ensures
-    c.loop-place.place in
-    let near = link_near links c.args.self.now.top c.loop-place.place c.loop-place.invariant.linked
-    (λ q taken. c.requires.up_to q (sym (c.loop-place.invariant.alike q) ∙ taken)) (omega arith) (omega arith) in
-    omega arith
+-- each place has its link within the list
+near : (links old : List ℕ) (top place : ℕ) → IsLinked links → ((q : ℕ) → is_taken links q ≡ is_taken old q)
+    → ((q : ℕ) → is_taken old q ≡ true → q ≤ top) → length links ≡ length old → top + 1 < length old
+    → place < length old → link links place < length links
+near links old top place linked alike up_to size space there =
+    link_near links top place linked (λ q taken. up_to q (sym (alike q) ∙ taken)) (omega arith) (omega arith)
 
-up_to : (c : goal.After-self-in-loop-place-1) → (q : ℕ) → is_taken c.loop-place.self.links.items q ≡ true → q ≤ c.args.self.now.top
-up_to c = λ q taken. c.requires.up_to q (sym (c.loop-place.invariant.alike q) ∙ taken)
+pub link-next-requires-clause-near : goal.link-next-requires-clause-near
+link-next-requires-clause-near c =
+    near _ _ _ c.loop-self.place c.loop-self.invariant.linked c.loop-self.invariant.alike c.requires.up_to
+    c.loop-self.invariant.size c.requires.space c.loop-self.invariant.there
 
-next_is : (c : goal.After-self-in-loop-place-1) → c.index-next.result.now ≡ link c.loop-place.self.links.items c.loop-place.place
-next_is c = let size = c.loop-place.invariant.size in let there = c.loop-place.invariant.there in
-    get_or_read c.loop-place.self.links.items c.loop-place.place c.index-next.result.now (omega arith)
-    c.index-next.ensures c.loop-place.place
+next_there : (c : goal.After-link-next) → c.link-next.result < length c.loop-self.self.links.items
+next_there c =
+    let low = near _ _ _ c.loop-self.place c.loop-self.invariant.linked c.loop-self.invariant.alike c.requires.up_to
+    c.loop-self.invariant.size c.requires.space c.loop-self.invariant.there in
+    omega (arith, c.link-next.ensures)
 
-next_near : (c : goal.After-self-in-loop-place-1) → c.index-next.result.now < length c.loop-place.self.links.items
-next_near c =
-    let links : List ℕ = c.loop-place.self.links.items in
-    let size : length links ≡ length c.args.self.now.links.items = c.loop-place.invariant.size in
-    let there = c.loop-place.invariant.there in
-    let space = c.requires.space in
-    let is = next_is c in
-    let near = link_near links c.args.self.now.top c.loop-place.place c.loop-place.invariant.linked (up_to c) (omega arith)
-    (omega arith) in
-    omega arith
+pub link-after-requires-clause-there : goal.link-after-requires-clause-there
+link-after-requires-clause-there c = next_there c
 
-after_is : (c : goal.After-self-in-loop-place-1) → c.index-after.result.now ≡ link c.loop-place.self.links.items c.index-next.result.now
-after_is c =
-    get_or_read c.loop-place.self.links.items c.index-next.result.now c.index-after.result.now (next_near c)
-    c.index-after.ensures c.index-next.result.now
+pub link-after-requires-clause-near : goal.link-after-requires-clause-near
+link-after-requires-clause-near c =
+    near _ _ _ c.link-next.result c.loop-self.invariant.linked c.loop-self.invariant.alike c.requires.up_to
+    c.loop-self.invariant.size c.requires.space (omega (arith, next_there c, c.loop-self.invariant.size))
 
-moved : (c : goal.After-self-in-loop-place-1) → c.index-next.result.now ≢ c.loop-place.place
-moved c = λ same. let tested = c.loop-place-test.true in let is = next_is c in
-    let read = get_or_read c.loop-place.self.links.items c.loop-place.place c.index.result.now
-    (let size = c.loop-place.invariant.size in let there = c.loop-place.invariant.there in omega arith)
-    c.index.ensures c.loop-place.place in
-    tested (read ∙ sym is ∙ same)
+module _ (c : goal.After-self-in-loop-self-1) where
+  within : c.loop-self.place < length c.loop-self.self.links.items
+  within = omega (arith, c.loop-self.invariant.size, c.loop-self.invariant.there)
 
-after_near : (c : goal.After-self-in-loop-place-1) → c.index-after.result.now < length c.loop-place.self.links.items
-after_near c =
-    let links : List ℕ = c.loop-place.self.links.items in
-    let size : length links ≡ length c.args.self.now.links.items = c.loop-place.invariant.size in
-    let space = c.requires.space in
-    let is = after_is c in
-    let near = link_near links c.args.self.now.top c.index-next.result.now c.loop-place.invariant.linked (up_to c)
-    (next_near c) (omega arith) in
-    omega arith
+  after_there : c.link-after.result < length c.loop-self.self.links.items
+  after_there =
+      let first = near _ _ _ c.loop-self.place c.loop-self.invariant.linked c.loop-self.invariant.alike c.requires.up_to
+      c.loop-self.invariant.size c.requires.space c.loop-self.invariant.there in
+      let second = near _ _ _ c.link-next.result c.loop-self.invariant.linked c.loop-self.invariant.alike c.requires.up_to
+      c.loop-self.invariant.size c.requires.space (omega (arith, first, c.link-next.ensures, c.loop-self.invariant.size)) in
+      omega (arith, c.link-after.ensures)
 
-within : (c : goal.After-self-in-loop-place-1) → c.loop-place.place < length c.loop-place.self.links.items
-within c = let size = c.loop-place.invariant.size in let there = c.loop-place.invariant.there in omega arith
+  moved : c.link-next.result ≢ c.loop-self.place
+  moved same =
+      let read = get_or_read c.loop-self.self.links.items c.loop-self.place c.index.result.now within c.index.ensures 0 in
+      c.loop-self-test.true (omega (arith, c.link-next.ensures))
 
-goes_on : (c : goal.After-self-in-loop-place-1) → c.loop-place.place < c.index-after.result.now
-goes_on c =
-    let links : List ℕ = c.loop-place.self.links.items in
-    let one = ahead links c.loop-place.place c.index-next.result.now c.index-after.result.now c.loop-place.invariant.linked
-    (within c) (next_is c) (moved c) (next_near c) (after_is c) in
-    let two = further links c.loop-place.place c.index-next.result.now c.index-after.result.now
-    c.loop-place.invariant.linked (within c) (next_is c) (moved c) (next_near c) (after_is c) in
-    omega arith
+  goes_on : c.loop-self.place < c.link-after.result
+  goes_on =
+      let one = ahead c.loop-self.self.links.items c.loop-self.place c.link-next.result c.link-after.result
+      c.loop-self.invariant.linked within c.link-next.ensures moved c.link-after.ensures in
+      let two = further c.loop-self.self.links.items c.loop-self.place c.link-next.result c.link-after.result
+      c.loop-self.invariant.linked within c.link-next.ensures moved c.link-after.ensures in
+      omega arith
 
-pub loop-place-smaller : goal.loop-place-smaller
-loop-place-smaller c =
-    let links : List ℕ = c.loop-place.self.links.items in
-    let size : length (set links c.loop-place.place c.index-after.result.now) ≡ length links =
-    length-set links c.loop-place.place c.index-after.result.now in
-    let forth = goes_on c in
-    let near = after_near c in
-    omega arith
+pub loop-self-smaller : goal.loop-self-smaller
+loop-self-smaller c =
+    let size = length-set c.loop-self.self.links.items c.loop-self.place (c.link-after.result - c.loop-self.place) in
+    omega (arith, goes_on c, after_there c)
 
-pub loop-place-preserved : goal.loop-place-preserved
-loop-place-preserved c =
-    let links : List ℕ = c.loop-place.self.links.items in
-    let place : ℕ = c.loop-place.place in
-    let next : ℕ = c.index-next.result.now in
-    let after : ℕ = c.index-after.result.now in
-    let size : length (set links place after) ≡ length links = length-set links place after in
-    let old : length links ≡ length c.args.self.now.links.items = c.loop-place.invariant.size in
-    let linked : IsLinked links = c.loop-place.invariant.linked in
-    let alike = c.loop-place.invariant.alike in
-    let from = c.loop-place.invariant.from in
-    let forth = goes_on c in
-    let near = after_near c in
-    let next_link = next_is c in
-    let after_link = after_is c in
+pub loop-self-preserved : goal.loop-self-preserved
+loop-self-preserved c =
+    let links : List ℕ = c.loop-self.self.links.items in
+    let place : ℕ = c.loop-self.place in
+    let next : ℕ = c.link-next.result in
+    let after : ℕ = c.link-after.result in
+    let linked : IsLinked links = c.loop-self.invariant.linked in
+    let alike = c.loop-self.invariant.alike in
     record {
-      linked = shorter_linked links place next after linked (within c) next_link (moved c) (next_near c) after_link;
-      alike = λ q. shorter_alike links place next after linked (within c) next_link (moved c) (next_near c) after_link q
+      linked = shorter_linked links place next after linked (within c) c.link-next.ensures (moved c) c.link-after.ensures;
+      alike = λ q. shorter_alike links place next after linked (within c) c.link-next.ensures (moved c) c.link-after.ensures q
           ∙ alike q;
-      size = size ∙ old;
-      top = c.loop-place.invariant.top;
-      from = omega arith;
-      there = omega arith;
+      size = length-set links place (after - place) ∙ c.loop-self.invariant.size;
+      top = c.loop-self.invariant.top;
+      from = omega (arith, goes_on c, c.loop-self.invariant.from);
+      there = omega (arith, after_there c, c.loop-self.invariant.size);
       passed = λ k low high. by_lt k place
-          (λ before. c.loop-place.invariant.passed k low before)
+          (λ before. c.loop-self.invariant.passed k low before)
           (λ behind. sym (alike k) ∙ by_lt k next
-          (λ first. linked.between place k (within c) behind (omega arith))
-          (λ second. linked.between next k (next_near c) second (omega arith)));
+          (λ first. linked place k behind (rw (← c.link-next.ensures) first))
+          (λ second. linked next k second (rw (← c.link-after.ensures) high)));
     }

@@ -2,8 +2,8 @@ use Rattle.std.proofs.Common.{◌≡◌, ◌-◌, ◌<◌, ◌≤◌, length}
 use Rattle.iloc_sched.specs.Steps.LowerBound.Packing.{IsLinked, AreTaken, AreTakenAlike}
 use Rattle.iloc_sched.proofs.lower_bound.packing.Packing.first_free.Given as goal
 
-abbrev pub invariant-loop-place : goal.invariant-loop-place
-invariant-loop-place l = record {
+abbrev pub invariant-loop-self : goal.invariant-loop-self
+invariant-loop-self l = record {
   linked : IsLinked l.self.links.items;
   alike : AreTakenAlike l.fn.self.links.items l.self.links.items;
   size : length l.self.links.items ≡ length l.fn.self.links.items;
@@ -13,5 +13,5 @@ invariant-loop-place l = record {
   passed : AreTaken l.fn.self.links.items l.from l.place;
 }
 
-abbrev pub decreases-loop-place : goal.decreases-loop-place
-decreases-loop-place l = length l.self.links.items - l.place
+abbrev pub decreases-loop-self : goal.decreases-loop-self
+decreases-loop-self l = length l.self.links.items - l.place
