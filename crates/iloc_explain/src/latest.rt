@@ -1,17 +1,18 @@
 //! What earlier operations leave to wait for.
-ghost use Rattle.std.specs.Prelude.{◌≡◌, ◌+◌, ◌<◌, ◌^◌, OnOk};
+ghost use Rattle.std.specs.Prelude.{ℕ, ◌≡◌, ◌+◌, ◌<◌, ◌≤◌, ◌^◌, length, slice_index, OnOk, Some};
 ghost use Rattle.iloc_ops.specs.declared.op.Reg.{Reg as reg_value};
+ghost use Rattle.iloc_meaning.specs.Trace.{is_register};
+ghost use Rattle.iloc_explain.specs.Steps.Latest.{raised};
 
 use iloc_ops::{NoMemory, Op, Reg, defines, uses};
 use iloc_timed::Kind;
 use std::alloc::Global;
-use std::collections::BTreeMap;
 
 /// The latest cycles that the operations so far leave to wait for, 0 where there is none.
 #[derive(Drop)]
 pub(crate) struct Latest {
     /// By register the cycle at which the last result for it arrives.
-    results: BTreeMap<u32, u64>,
+    results: Vec<u64>,
     /// The cycle at which the last stored word arrives.
     stored: u64,
     /// The cycle after the last store.
@@ -20,6 +21,28 @@ pub(crate) struct Latest {
     loads: u64,
     /// The cycle after the last output.
     outputs: u64,
+}
+
+/// Makes a list so long, with zeros behind it, if it isn't.
+fn grow(results: &mut Vec<u64>, count: usize) -> Result<(), NoMemory>
+    ensures same { OnOk result ((k : ℕ) → slice_index results.new.items k ≡ slice_index results.old.items k) }
+    ensures there { OnOk result (count ≤ length results.new.items) }
+{
+    if results.len() < count {
+        results.resize(count, 0)?;
+    }
+    Ok(())
+}
+
+/// Raises the number of a register to this one.
+fn raise(results: &mut Vec<u64>, register: Reg, cycle: u64) -> Result<(), NoMemory>
+    ensures { OnOk result ((r : reg_value) → slice_index results.new.items r.0
+        ≡ raised (is_register r (Some register)) (slice_index results.old.items r.0) cycle) }
+{
+    let place = register.0 as usize;
+    grow(results, place + 1)?;
+    results[place] = results[place].max(cycle);
+    Ok(())
 }
 
 impl Latest {
@@ -34,7 +57,7 @@ impl Latest {
         ensures outputs { result.outputs ≡ 0 }
     {
         Latest {
-            results: BTreeMap::new(alloc),
+            results: Vec::new(alloc),
             stored: 0,
             stores: 0,
             loads: 0,
@@ -46,7 +69,10 @@ impl Latest {
     fn result(&self, register: Reg) -> u64
         ensures { result ≡ result_of self.now register }
     {
-        self.results.get(&register.0).copied().unwrap_or(0)
+        match self.results.get(register.0 as usize) {
+            Some(cycle) => *cycle,
+            None => 0,
+        }
     }
 
     /// What an operation of this kind waits for whatever its registers are.
@@ -78,8 +104,7 @@ impl Latest {
         ensures { OnOk result (Notes op.now issue arrives self.old self.new) }
     {
         if let Some(register) = defines(op) {
-            let latest = self.result(register).max(arrives);
-            self.results.insert(register.0, latest)?;
+            raise(&mut self.results, register, arrives)?;
         }
         match Kind::of(op) {
             Kind::Load => self.loads = self.loads.max(issue + 1),

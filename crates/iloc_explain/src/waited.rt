@@ -6,7 +6,7 @@ ghost use Rattle.iloc_explain.specs.Waiting.{waited_until};
 ghost use Rattle.iloc_explain.specs.Steps.Waits.{waits_for};
 
 use iloc_ops::{NoMemory, Op};
-use iloc_sched::{LONGEST_DELAY, delays};
+use iloc_sched::{LONGEST_DELAY, puts_delay};
 use iloc_timed::{Latencies, Schedule};
 use std::alloc::Global;
 
@@ -16,9 +16,7 @@ pub(crate) fn has_delay(ops: &[Op], latencies: &Latencies, i: usize, j: usize, d
     requires second { j < length ops.now }
     ensures { IsTrue result ↔ Contains (all_delays latencies.now (op_at ops.now i) (op_at ops.now j)) delay }
 {
-    delays(&ops[i], &ops[j], latencies)
-        .as_slice()
-        .contains(&delay)
+    puts_delay(&ops[i], &ops[j], latencies, delay)
 }
 
 /// Whether operation j waits `delay` cycles for operation i.
@@ -27,7 +25,7 @@ fn waits_for(ops: &[Op], latencies: &Latencies, i: usize, j: usize, delay: u64) 
     requires second { j < length ops.now }
     ensures { result ≡ waits_for latencies.now ops.now j delay i }
 {
-    i < j && has_delay(ops, latencies, i, j, delay)
+    i < j && puts_delay(&ops[i], &ops[j], latencies, delay)
 }
 
 /// Adds what a slot holds where operation j waits `delay` cycles for it.

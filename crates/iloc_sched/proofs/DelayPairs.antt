@@ -3,3 +3,4 @@ pub mod DelayBounds
 pub mod WaitedFor
 pub mod RisingDelays
 pub mod PairLists
+pub mod PutDelays

@@ -17,7 +17,7 @@ mod tables;
 
 pub use cycle::calendar::LONGEST_DELAY;
 pub use edges::Edge;
-pub use edges::delay_pairs::{Pair, delays, pairs};
+pub use edges::delay_pairs::{Pair, delays, pairs, puts_delay};
 pub use graph::Graph;
 pub use lower_bound::least;
 pub use lower_bound::share::Share;

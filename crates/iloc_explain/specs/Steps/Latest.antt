@@ -1,8 +1,5 @@
 -- The latest of what earlier operations leave to wait for.
-use Rattle.std.specs.Prelude.{ℕ, ◌+◌, ◌≡◌, ◌≤◌, ◌<◌, ◌⊎◌, max, fold, map, Bool, true, if◌then◌else◌, List}
-use Rattle.std.specs.Option.{unwrap_or}
-use Rattle.std.specs.BTreeMap.{get}
-use Rattle.std.specs.Ordering.{nat_cmp}
+use Rattle.std.specs.Prelude.{ℕ, ◌+◌, ◌≡◌, ◌≤◌, ◌<◌, ◌⊎◌, max, fold, map, Bool, true, if◌then◌else◌, List, slice_index}
 use Rattle.iloc_ops.specs.declared.op.Op.{Op}
 use Rattle.iloc_ops.specs.declared.op.Reg.{Reg}
 use Rattle.iloc_ops.specs.Registers.{used, defined}
@@ -23,7 +20,7 @@ pub record IsLatest (holds : ℕ → Bool) (cycle : ℕ → ℕ) (n latest : ℕ
 
 -- the cycle at which the latest result for a register arrives
 abbrev pub result_of : Latest → Reg → ℕ
-result_of latest r = unwrap_or (get nat_cmp latest.results r.0) 0
+result_of latest r = slice_index latest.results.items r.0
 
 -- what an operation has to wait for by its kind
 abbrev pub by_kind : Latest → Kind → ℕ

@@ -1,6 +1,8 @@
 //! Delay pairs: which operation has to wait for which, and for how many cycles.
-ghost use Rattle.std.specs.Prelude.{◌≡◌, ◌<◌, ◌≤◌, ◌↔◌, ℕ, ◌++◌, length, Contains, IfOk, OnOk};
-ghost use Rattle.std.specs.List.{AllPairs};
+ghost use Rattle.std.specs.Prelude.{◌≡◌, ◌==◌, ◌<◌, ◌≤◌, ◌↔◌, ◌&&◌, ◌||◌, ℕ, ◌++◌, length, Contains, IfOk, OnOk};
+ghost use Rattle.std.specs.List.{AllPairs, list_any};
+ghost use Rattle.iloc_timed.specs.Kinds.{kind};
+ghost use Rattle.iloc_timed.specs.Latency.{latency};
 ghost use Rattle.iloc_sched.specs.Renaming.{IsRenamed};
 ghost use Rattle.iloc_sched.specs.Delays.{uses_result, reads_stored, keeps_order, delays, IsDelayPair};
 ghost use Rattle.iloc_sched.specs.Graph.Pairs.{ComesBefore, rising, with_delays, pairs_from, pairs};
@@ -68,6 +70,31 @@ pub fn delays(first: &Op, second: &Op, latencies: &Latencies) -> ArrayVec<u64, 2
         delays.push(latency);
     }
     delays
+}
+
+/// Whether the second operation waits for the first in this order, and so long.
+fn waits_in_order(first: Kind, second: Kind, delay: u64) -> bool
+    ensures { result ≡ (keeps_order first second && (1 == delay)) }
+{
+    delay == 1 && keeps_order(first, second)
+}
+
+/// Whether the second operation waits for what the first gives, and so long.
+fn waits_for_result(first: &Op, second: &Op, latencies: &Latencies, delay: u64) -> bool
+    ensures { result ≡ ((latency latencies.now first.now == delay)
+        && (reads_stored (kind first.now) (kind second.now) || uses_result first.now second.now)) }
+{
+    let kind = Kind::of(first);
+    u64::from(latencies.of(kind)) == delay
+        && (reads_stored(kind, Kind::of(second)) || uses_result(first, second))
+}
+
+/// Promise: Whether the first operation puts this delay, among others maybe, on the second, which comes later.
+pub fn puts_delay(first: &Op, second: &Op, latencies: &Latencies, delay: u64) -> bool
+    ensures { result ≡ list_any (λ d. d == delay) (delays latencies.now first.now second.now) }
+{
+    waits_in_order(Kind::of(first), Kind::of(second), delay)
+        || waits_for_result(first, second, latencies, delay)
 }
 
 /// Adds the pairs that these delays make.

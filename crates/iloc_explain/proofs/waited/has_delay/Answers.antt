@@ -5,7 +5,6 @@ use Rattle.iloc_explain.proofs.waited.has_delay.Goals as goal
 
 pub returns : goal.returns
 returns c =
-    has_delay_at c.args.latencies.now c.args.ops.now c.args.i c.args.j _ _ _ _ _ c.args.delay
+    has_delay_at c.args.latencies.now c.args.ops.now c.args.i c.args.j c.args.delay _ _ _
     (get_or_default c.args.ops.now c.args.i _ Nop c.requires.first)
-    (get_or_default c.args.ops.now c.args.j _ Nop c.requires.second) c.contains.ensures.value c.as_slice.ensures.value
-    c.delays.ensures
+    (get_or_default c.args.ops.now c.args.j _ Nop c.requires.second) c.puts_delay.ensures

@@ -1,5 +1,10 @@
+use Rattle.std.proofs.lemmas.List.{get_or_default}
+use Rattle.iloc_ops.specs.declared.op.Op.TheVariants.{Nop}
 use Rattle.iloc_explain.proofs.HasDelay.{waits_is}
 use Rattle.iloc_explain.proofs.waited.waits_for.Goals as goal
 
 pub returns-then-i-j : goal.returns-then-i-j
-returns-then-i-j c = waits_is c.args.latencies.now c.args.ops.now c.args.i c.args.j c.args.delay _ c.if-i-j.true c.has_delay.ensures
+returns-then-i-j c =
+    waits_is c.args.latencies.now c.args.ops.now c.args.i c.args.j c.args.delay _ _ _ c.if-i-j.true
+    (get_or_default c.args.ops.now c.args.i _ Nop c.requires.first)
+    (get_or_default c.args.ops.now c.args.j _ Nop c.requires.second) c.puts_delay.ensures
