@@ -71,7 +71,7 @@ one_less lat ops n i j is =
       ];
     }
 
-later : (lat : Latencies) (ops : List Op) (n i j : ℕ) → depends lat ops n i j ≡ true → (i < j) × (j < length ops)
+pub later : (lat : Latencies) (ops : List Op) (n i j : ℕ) → depends lat ops n i j ≡ true → (i < j) × (j < length ops)
 later lat ops zero i j is = absurd (true≢false (sym is))
 later lat ops (suc n) i j is =
     let first = one_less lat ops n i j is in

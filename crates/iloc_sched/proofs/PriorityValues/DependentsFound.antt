@@ -1,6 +1,6 @@
 -- Sets that are joined along the kept edges, the last first, have just the operations that depend on each; for
 -- `Heuristic::Descendants`.
-use Rattle.std.proofs.Common.{◌≡◌, ◌≢◌, ℕ, zero, suc, ◌+◌, ◌<◌, ◌≤◌, true, List, length, set, get_or, ◌⊎◌, inl, inr, sym, ◌∙◌, ap, subst, arith}
+use Rattle.std.proofs.Common.{◌≡◌, ◌≢◌, ℕ, zero, suc, ◌+◌, ◌<◌, ◌≤◌, true, List, length, set, get_or, ◌⊎◌, inl, inr, sym, ◌∙◌, ap, subst, arith, max, min}
 use Rattle.std.specs.Prelude.{replicate}
 use Rattle.std.specs.Int.{bit_at}
 use Rattle.std.specs.Int.Bits.{bit_or}
@@ -13,8 +13,8 @@ use Rattle.iloc_sched.specs.Delays.{IsDelayPair}
 use Rattle.iloc_sched.specs.Heuristics.{depends_on}
 use Rattle.iloc_sched.specs.Steps.Graph.{Graph, IsGraphOf}
 use Rattle.iloc_sched.specs.Steps.Ranking.Dependents.{Reaches, IsMarked, AreMarked}
-use Rattle.iloc_sched.proofs.PriorityValues.Dependents.{by_pair, first_pair}
-use Rattle.iloc_sched.proofs.Basics.Cases.{by_eq}
+use Rattle.iloc_sched.proofs.PriorityValues.Dependents.{by_pair, first_pair, later}
+use Rattle.iloc_sched.proofs.Basics.Cases.{by_eq, by_lt}
 use Rattle.iloc_sched.proofs.KeptEdges.FarPairs.{near_or_by_way}
 
 in_left_set : (a b i : ℕ) → bit_at a i ≡ 1 → bit_at (bit_or a b) i ≡ 1
@@ -27,8 +27,51 @@ from_sets : (a b i : ℕ) → bit_at (bit_or a b) i ≡ 1 → (bit_at a i ≡ 1)
 from_sets a b i is = grind (arith, bit_at-lt, bit_at_or, cases_lt)
 
 module _ (lat : Latencies) (ops : List Op) (graph : Graph) (is : IsGraphOf lat ops graph) (base : ℕ) where
-  pub marked_none : (masks : List ℕ) → masks ≡ replicate graph.ops 0 → IsMarked lat ops graph base masks graph.count
-  marked_none masks are = grind (arith, bit_at-zero, get_or-replicate, length-replicate)
+  -- an edge leads to an operation before the last of the 64 where it lies before the edges into those after them
+  pub early_target : (end x : ℕ) → end ≡ min graph.ops (base + 64) → x < graph.start end
+      → (x < graph.count) × (graph.to x < base + 64)
+  early_target end x end_is early =
+      let up : graph.start end ≤ graph.start graph.ops = is.is_graph.rises end graph.ops (omega arith) (omega arith) in
+      let last : graph.start graph.ops ≡ graph.count = is.is_graph.last in
+      let below : x < graph.count = omega arith in
+      let place : (graph.to x < graph.ops) × (graph.start (graph.to x) ≤ x) × (x < graph.start (graph.to x + 1)) =
+      is.is_graph.to_there x below in
+      let there : graph.to x < graph.ops = place.0 in
+      let first : graph.start (graph.to x) ≤ x = place.1 in (
+        below,
+        by_lt (graph.to x) end (λ before. omega arith)
+            (λ behind.
+            let late : graph.start end ≤ graph.start (graph.to x) = is.is_graph.rises end (graph.to x) behind (omega arith) in
+            absurd (omega arith)),
+      )
+
+  -- and all others lead to none of the 64, nor from there to one of them
+  pub marked_none : (masks : List ℕ) (end : ℕ) → masks ≡ replicate graph.ops 0 → end ≡ min graph.ops (base + 64)
+      → IsMarked lat ops graph base masks (graph.start end)
+  marked_none masks end are end_is =
+      let size : graph.ops ≡ length ops = is.size in
+      record {
+        size = ap length are ∙ length-replicate graph.ops 0 ∙ is.size;
+        only = λ i b below small one.
+            let none : get_or masks i 0 ≡ 0 =
+            ap (λ xs. get_or xs i 0) are ∙ get_or-replicate graph.ops i 0 0 (omega arith) in
+            let no_bit : bit_at (get_or masks i 0) b ≡ 0 = ap (λ m. bit_at m b) none ∙ bit_at-zero b in
+            absurd (omega arith);
+        over = λ y b after below small reaches.
+            let place : (graph.to y < graph.ops) × (graph.start (graph.to y) ≤ y) × (y < graph.start (graph.to y + 1)) =
+            is.is_graph.to_there y below in
+            let there : graph.to y < graph.ops = place.0 in
+            let next : y < graph.start (graph.to y + 1) = place.2 in
+            absurd (by_lt (graph.to y) end
+            (λ before.
+            let up : graph.start (graph.to y + 1) ≤ graph.start end =
+            is.is_graph.rises (graph.to y + 1) end (omega arith) (omega arith) in omega arith)
+            (λ behind. elim reaches [
+              | inl itself ↦ omega arith
+              | inr depends ↦ let after : graph.to y < base + b = (later lat ops (length ops) (graph.to y) (base + b) depends).0 in
+                  omega arith
+            ]));
+      }
 
   -- what a delay pair leads to is in the set of its source
   pair_marked : (masks : List ℕ) (x i b : ℕ) → IsMarked lat ops graph base masks x → x ≤ graph.start (i + 1) → b < 64

@@ -10,12 +10,13 @@ use crate::tables::Tables;
 use iloc_ops::NoMemory;
 use std::alloc::Global;
 
-/// An operation among the 64 from `base` on, as a set: empty where it is none of them.
+/// An operation before the 64 from `base` on, or among them, as a set: empty where it is none of them.
 fn own(to: u32, base: u32) -> u64
+    requires { to < base + 64 }
     ensures only { (b : ℕ) → b < 64 → bit_at result b ≡ 1 → to ≡ base + b }
     ensures all { (b : ℕ) → b < 64 → to ≡ base + b → bit_at result b ≡ 1 }
 {
-    if base <= to && to - base < 64 {
+    if base <= to {
         1 << (to - base)
     } else {
         0
@@ -29,7 +30,9 @@ fn mark(masks: &mut Vec<u64>, tables: &Tables, base: u32)
     ensures { AreMarked tables.now.latencies tables.now.ops.items base masks.new.items }
 {
     let edges = &tables.edges;
-    for x in (0..edges.edge_count()).rev() {
+    // No operation after them depends on one of them.
+    let end = edges.op_count().min(base as usize + 64);
+    for x in (0..edges.start(end) as usize).rev() {
         let edge = edges.get(x);
         let behind = masks[edge.to as usize] | own(edge.to, base);
         let source = edge.from as usize;
