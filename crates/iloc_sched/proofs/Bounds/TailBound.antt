@@ -1,11 +1,14 @@
 -- How early operations are issued at least, by their tails; for `laws::least_bounds_the_cycles`.
-use Rattle.std.proofs.Common.{◌≡◌, ◌∙◌, ℕ, ◌+◌, ◌-◌, ◌*◌, ◌<◌, ◌≤◌, ◌/◌, max, zero, suc, Bool, true, cond, ◌&&◌, List, [], ◌∷◌, length, map, filter, refl, sym, ap, add-one, inl, inr, arith}
-use Rattle.std.specs.Prelude.{count_by, nat_le, nat_lt, slice_index, fold}
+use Rattle.std.proofs.Common.{◌≡◌, ◌∙◌, ℕ, ◌+◌, ◌-◌, ◌*◌, ◌<◌, ◌≤◌, ◌/◌, max, zero, suc, Bool, true, cond, ◌&&◌, List, [], ◌∷◌, length, map, filter, refl, sym, ap, add-one, inl, inr, arith, false, take, get_or, subst}
+use Rattle.std.specs.Prelude.{count_by, nat_le, nat_lt, slice_index, fold, sum_by, All}
 use Rattle.std.specs.List.{range_with_len}
 use Rattle.std.proofs.Math.Nat.{mul-suc, mul-div-le, mul-le-mul_left}
 use Rattle.std.proofs.lemmas.Bool.{and_parts, cases_lt, and_from}
 use Rattle.std.proofs.lemmas.Bool.Decides.{nat_tests}
-use Rattle.std.proofs.lemmas.List.Sums.{length-filter}
+use Rattle.std.proofs.lemmas.List.Sums.{length-filter, sum-map, sum_by-cons, sum_by_more}
+use Rattle.std.proofs.lemmas.List.{take_all}
+use Rattle.std.proofs.lemmas.List.Elements.{All-map}
+use Rattle.iloc_ops.specs.declared.op.Op.TheVariants.{Nop}
 use Rattle.iloc_ops.specs.declared.op.Op.{Op}
 use Rattle.iloc_meaning.specs.Trace.{op_at}
 use Rattle.iloc_meaning.proofs.Cases.{by_bool}
@@ -15,8 +18,8 @@ use Rattle.iloc_timed.specs.declared.row.Row.{Row}
 use Rattle.iloc_timed.specs.Kinds.{kind, is_load, is_store}
 use Rattle.iloc_timed.specs.Latency.{latency}
 use Rattle.iloc_timed.specs.Rows.{row_at, slots, issue_cycle, IsTable}
-use Rattle.iloc_timed.proofs.WholeRuns.{short_latency}
-use Rattle.iloc_sched.specs.Delays.{when, delays, IsDelayPair}
+use Rattle.iloc_timed.proofs.WholeRuns.{short_latency, some_latency}
+use Rattle.iloc_sched.specs.Delays.{when, delays, IsDelayPair, uses_result, reads_stored, keeps_order, memory_delays}
 use Rattle.iloc_sched.specs.Priority.{reaches}
 use Rattle.iloc_sched.specs.LowerBound.Least.{count_from, cycles_from, needed, load_tails, behind, tails, tail}
 use Rattle.iloc_sched.specs.Steps.Members.{In}
@@ -286,40 +289,97 @@ tail_within lat (op ∷ later) limit t f (suc i) below =
 tail_within lat (op ∷ later) limit t f zero below = tail_first lat op later limit t f
     (λ k under. tail_within lat later limit (λ k. t (suc k)) (fits_later lat op later limit t f) k under)
 
--- The schedule that issues an operation each 16 cycles
+-- The schedule that issues each operation when the one before is done
 
-serial_few : (p : ℕ → Bool) (a c k n : ℕ)
-    → count_by (λ i. p i && between a c (16 * i)) (range_with_len k n) ≤ c - max a (16 * k)
-serial_few p a c k zero = omega arith
-serial_few p a c k (suc n) =
-    let q : ℕ → Bool = λ i. p i && between a c (16 * i) in
-    let rest : count_by q (range_with_len (k + 1) n) ≤ c - max a (16 * (k + 1)) = serial_few p a c (k + 1) n in
+-- when operation i is issued
+abbrev pub serial : Latencies → List Op → ℕ → ℕ
+serial lat ops i = sum_by (latency lat) (take i ops)
+
+-- all latencies together
+abbrev pub serial_end : Latencies → List Op → ℕ
+serial_end lat ops = sum_by (latency lat) ops
+
+serial_next : (lat : Latencies) (ops : List Op) (i : ℕ) → i < length ops
+    → serial lat ops (i + 1) ≡ serial lat ops i + latency lat (op_at ops i)
+serial_next lat ops i below = sum_by_more (latency lat) ops i Nop below
+
+-- later ones are issued when this one is done, at the earliest
+serial_after : (lat : Latencies) (ops : List Op) (i n : ℕ) → i + 1 + n ≤ length ops
+    → serial lat ops i + latency lat (op_at ops i) ≤ serial lat ops (i + 1 + n)
+serial_after lat ops i zero within =
+    let next = serial_next lat ops i (omega arith) in
+    let here : i + 1 + 0 ≡ i + 1 = omega arith in
+    let same = ap (serial lat ops) here in
+    omega arith
+serial_after lat ops i (suc n) within =
+    let rest = serial_after lat ops i n (omega arith) in
+    let next = serial_next lat ops (i + 1 + n) (omega arith) in
+    let further : i + 1 + suc n ≡ (i + 1 + n) + 1 = omega arith in
+    let same = ap (serial lat ops) further in
+    omega arith
+
+serial_few : (lat : Latencies) (ops : List Op) (p : ℕ → Bool) (a c k n : ℕ) → k + n ≤ length ops
+    → count_by (λ i. p i && between a c (serial lat ops i)) (range_with_len k n) ≤ c - max a (serial lat ops k)
+serial_few lat ops p a c k zero within = omega arith
+serial_few lat ops p a c k (suc n) within =
+    let q : ℕ → Bool = λ i. p i && between a c (serial lat ops i) in
+    let rest : count_by q (range_with_len (k + 1) n) ≤ c - max a (serial lat ops (k + 1)) =
+    serial_few lat ops p a c (k + 1) n (omega arith) in
+    let next = serial_next lat ops k (omega arith) in
+    let some : 1 ≤ latency lat (op_at ops k) = some_latency lat (kind (op_at ops k)) in
     let here = count_by-cons q k (range_with_len (k + 1) n) in
     by_bool (q k)
     (λ is.
     let one : cond {A = ℕ} (q k) 1 0 ≡ 1 = ap (λ b. cond {A = ℕ} b 1 0) is in
-    let time = is_between a c (16 * k) (and_parts (p k) (between a c (16 * k)) is).1 in
-    let low : a ≤ 16 * k = time.0 in
-    let high : 16 * k < c = time.1 in
+    let time = is_between a c (serial lat ops k) (and_parts (p k) (between a c (serial lat ops k)) is).1 in
+    let low : a ≤ serial lat ops k = time.0 in
+    let high : serial lat ops k < c = time.1 in
     omega arith)
     (λ not.
     let none : cond {A = ℕ} (q k) 1 0 ≡ 0 = ap (λ b. cond {A = ℕ} b 1 0) not in
     omega arith)
 
-serial_fits : (lat : Latencies) (ops : List Op) → Fits lat ops (16 * length ops) (λ i. 16 * i)
+serial_fits : (lat : Latencies) (ops : List Op) → Fits lat ops (serial_end lat ops) (serial lat ops)
 serial_fits lat ops = record {
-  ends = λ i below. let short : latency lat (op_at ops i) ≤ 16 = short_latency lat (kind (op_at ops i)) in omega arith;
+  ends = λ i below.
+      let after = serial_after lat ops i (length ops - (i + 1)) (omega arith) in
+      let end : i + 1 + (length ops - (i + 1)) ≡ length ops = omega arith in
+      let all = serial_all end in
+      omega arith;
   waits = λ i j d pair.
       let order : i < j = pair.order in
-      let short : latency lat (op_at ops i) ≤ 16 = short_latency lat (kind (op_at ops i)) in
+      let within : j < length ops = pair.within in
       let most : d ≤ latency lat (op_at ops i) = delay_at_most lat (op_at ops i) (op_at ops j) d pair.delay in
+      let after = serial_after lat ops i (j - (i + 1)) (omega arith) in
+      let at : i + 1 + (j - (i + 1)) ≡ j = omega arith in
+      let same = ap (serial lat ops) at in
       omega arith;
-  crowd = λ a c. let few = serial_few (loads_at ops) a c 0 (length ops) in omega arith;
+  crowd = λ a c. let few = serial_few lat ops (loads_at ops) a c 0 (length ops) (omega arith) in omega arith;
 }
+  where
+    serial_all : {n : ℕ} → n ≡ length ops → serial lat ops n ≡ serial_end lat ops
+    serial_all {n} is = ap (sum_by (latency lat)) (take_all n ops (omega arith))
 
--- a tail is at most 16 cycles for each operation
-pub tail_most : (lat : Latencies) (ops : List Op) (i : ℕ) → i < length ops → tail lat ops i ≤ 16 * length ops
+-- a tail is at most all latencies together
+pub tail_most : (lat : Latencies) (ops : List Op) (i : ℕ) → i < length ops → tail lat ops i ≤ serial_end lat ops
 tail_most lat ops i below =
-    let within : 16 * i + tail lat ops i ≤ 16 * length ops =
-    tail_within lat ops (16 * length ops) (λ k. 16 * k) (serial_fits lat ops) i below in
+    let within : serial lat ops i + tail lat ops i ≤ serial_end lat ops =
+    tail_within lat ops (serial_end lat ops) (serial lat ops) (serial_fits lat ops) i below in
+    omega arith
+
+-- which are at most 16 cycles for each operation
+pub short_own : (lat : Latencies) (ops : List Op) (own : List ℕ) → own ≡ map (latency lat) ops → All (λ n. n ≤ 16) own
+short_own lat ops own are = subst (All (λ n. n ≤ 16)) (sym are)
+    (All-map (λ n. n ≤ 16) (latency lat) ops (λ k d below. short_latency lat (kind (get_or ops k d))))
+
+pub serial_of : (lat : Latencies) (ops : List Op) (own : List ℕ) → own ≡ map (latency lat) ops
+    → sum_by (λ n. n) own ≡ serial_end lat ops
+serial_of lat ops own are = ap (sum_by (λ n. n)) are ∙ sum-map (latency lat) ops
+
+pub serial_short : (lat : Latencies) (ops : List Op) → serial_end lat ops ≤ 16 * length ops
+serial_short lat [] = omega arith
+serial_short lat (op ∷ ops) =
+    let rest = serial_short lat ops in
+    let all = sum_by-cons (latency lat) op ops in
+    let short : latency lat op ≤ 16 = short_latency lat (kind op) in
     omega arith

@@ -1,5 +1,5 @@
 -- A tail is the greatest of latency, d + tail(j) over the delay pairs, and what the loads behind a store need; for `least`.
-use Rattle.std.proofs.Common.{◌≡◌, ◌∙◌, ℕ, ◌+◌, ◌-◌, ◌*◌, ◌<◌, ◌≤◌, max, zero, suc, Bool, true, false, List, [], ◌∷◌, ◌++◌, length, drop, inl, inr, refl, ap, add-one, arith}
+use Rattle.std.proofs.Common.{◌≡◌, ◌∙◌, ℕ, ◌+◌, ◌-◌, ◌*◌, ◌<◌, ◌≤◌, max, zero, suc, Bool, true, false, List, [], ◌∷◌, ◌++◌, length, drop, inl, inr, refl, ap, add-one, arith, ap₂, sym}
 use Rattle.std.proofs.lemmas.List.{drop_more, length-drop, get_or_default}
 use Rattle.iloc_ops.specs.declared.op.Op.{Op}
 use Rattle.iloc_meaning.specs.Trace.{op_at}
@@ -17,7 +17,7 @@ use Rattle.iloc_sched.specs.Steps.LowerBound.Tails.{loads_from, chain_tail, stor
 use Rattle.iloc_sched.proofs.Basics.Members.{contains_from, from_append}
 use Rattle.iloc_sched.proofs.PriorityValues.Longest.{chain_own, chain_pairs, chain_reached}
 use Rattle.iloc_sched.proofs.Bounds.Swept.{in_drop, needed_most}
-use Rattle.iloc_sched.proofs.Bounds.TailBound.{tail_most}
+use Rattle.iloc_sched.proofs.Bounds.TailBound.{tail_most, serial_end}
 
 pub length-tails : (lat : Latencies) (ops : List Op) → length (tails lat ops) ≡ length ops
 length-tails lat [] = refl
@@ -83,20 +83,20 @@ loads_short (op ∷ ops) [] = omega arith
 loads_short (op ∷ ops) (t ∷ ts) = grind (arith, loads_short ops ts)
 
 -- a number and the tails of the loads reach no further than so
-pub loads_reach : (lat : Latencies) (ops : List Op) (i x : ℕ) → x ≤ 16 * length ops
-    → needed 1 (x ∷ loads_from lat ops i) ≤ 17 * length ops
+pub loads_reach : (lat : Latencies) (ops : List Op) (i x : ℕ) → x ≤ serial_end lat ops
+    → needed 1 (x ∷ loads_from lat ops i) ≤ serial_end lat ops + length ops
 loads_reach lat ops i x small =
     let short : length (loads_from lat ops i) ≤ length (drop i ops) =
     loads_short (drop i ops) (drop i (tails lat ops)) in
     let size : length (drop i ops) ≡ length ops - i = length-drop i ops in
-    let most : needed 1 (x ∷ loads_from lat ops i) ≤ 16 * length ops + (length (x ∷ loads_from lat ops i) - 1) =
-    needed_most (x ∷ loads_from lat ops i) (16 * length ops) (λ y there. elim there [
+    let most : needed 1 (x ∷ loads_from lat ops i) ≤ serial_end lat ops + (length (x ∷ loads_from lat ops i) - 1) =
+    needed_most (x ∷ loads_from lat ops i) (serial_end lat ops) (λ y there. elim there [
       | inl same ↦ (let is : x ≡ y = same in omega arith)
       | inr inside ↦ each y (in_drop (tails lat ops) i y (in_loads (drop i ops) (drop i (tails lat ops)) y inside))
     ]) in
     omega arith
   where
-    each : (y : ℕ) → In (tails lat ops) y → y ≤ 16 * length ops
+    each : (y : ℕ) → In (tails lat ops) y → y ≤ serial_end lat ops
     each y there =
         let found = contains_from (tails lat ops) y there in
         let size : length (tails lat ops) ≡ length ops = length-tails lat ops in

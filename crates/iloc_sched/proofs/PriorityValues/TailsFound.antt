@@ -1,5 +1,5 @@
 -- Latencies that are raised along the kept edges and by the rule of stores, the last first, become the tails; for `tails`.
-use Rattle.std.proofs.Common.{◌≡◌, ℕ, ◌+◌, ◌*◌, ◌<◌, ◌≤◌, List, length, set, get_or, inl, inr, sym, ◌∙◌, arith}
+use Rattle.std.proofs.Common.{◌≡◌, ℕ, ◌+◌, ◌<◌, ◌≤◌, List, length, set, get_or, inl, inr, sym, ◌∙◌, arith}
 use Rattle.std.proofs.lemmas.List.{ext_get_or}
 use Rattle.iloc_ops.specs.declared.op.Op.{Op}
 use Rattle.iloc_meaning.specs.Trace.{op_at}
@@ -12,10 +12,10 @@ use Rattle.iloc_sched.specs.Steps.Graph.{Graph, IsGraphOf}
 use Rattle.iloc_sched.specs.Steps.LowerBound.Tails.{chain_tail, IsTailed}
 use Rattle.iloc_sched.proofs.PriorityValues.Chains.{at_most, settle, over_pairs}
 use Rattle.iloc_sched.proofs.PriorityValues.Tails.{is_tail, length-tails}
-use Rattle.iloc_sched.proofs.Bounds.TailBound.{tail_most}
+use Rattle.iloc_sched.proofs.Bounds.TailBound.{tail_most, serial_end}
 
 module _ (lat : Latencies) (ops : List Op) (graph : Graph) (is : IsGraphOf lat ops graph) (found : List ℕ) where
-  pub tailed_small : (j x i : ℕ) → IsTailed lat ops graph found j x → i < length ops → get_or found i 0 ≤ 16 * length ops
+  pub tailed_small : (j x i : ℕ) → IsTailed lat ops graph found j x → i < length ops → get_or found i 0 ≤ serial_end lat ops
   tailed_small j x i tailed below =
       let upper = at_most (length ops) (λ k. latency lat (op_at ops k)) (chain_tail lat ops) (tail lat ops) graph.from
       graph.to graph.delay (IsDelayPair lat ops) (is_tail lat ops) (IsFrom graph x) found j i tailed below in

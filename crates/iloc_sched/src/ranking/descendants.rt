@@ -16,11 +16,7 @@ fn own(to: u32, base: u32) -> u64
     ensures only { (b : ℕ) → b < 64 → bit_at result b ≡ 1 → to ≡ base + b }
     ensures all { (b : ℕ) → b < 64 → to ≡ base + b → bit_at result b ≡ 1 }
 {
-    if base <= to {
-        1 << (to - base)
-    } else {
-        0
-    }
+    if base <= to { 1 << (to - base) } else { 0 }
 }
 
 /// Finds for each operation which of the 64 from `base` on depend on it.

@@ -1,4 +1,4 @@
-use Rattle.std.proofs.Common.{◌≡◌, ◌∙◌, ◌+◌, ◌-◌, ◌*◌, ◌≤◌, ◌<◌, ◌∷◌, ◌++◌, [], ℕ, List, length, map, drop, set, get_or, sym, ap, subst, arith}
+use Rattle.std.proofs.Common.{◌≡◌, ◌∙◌, ◌+◌, ◌-◌, ◌*◌, ◌≤◌, ◌<◌, ◌∷◌, ◌++◌, [], ℕ, List, length, map, sum_by, drop, set, get_or, sym, ap, subst, arith}
 use Rattle.std.proofs.lemmas.List.{get_or_read, length-map, drop_all}
 use Rattle.iloc_ops.specs.declared.op.Op.{Op}
 use Rattle.iloc_meaning.specs.Trace.{op_at}
@@ -14,6 +14,7 @@ use Rattle.iloc_sched.specs.Steps.LowerBound.Packing.{IsPacking}
 use Rattle.iloc_sched.specs.Steps.Edges.SoundGraph.{IsSound}
 use Rattle.iloc_sched.specs.Steps.LowerBound.Tails.{loads_from, chain_tail, tail_by, IsTailed}
 use Rattle.iloc_sched.specs.Steps.Views.{graph_of}
+use Rattle.iloc_sched.proofs.Bounds.TailBound.{serial_end, serial_of, serial_short, short_own}
 use Rattle.iloc_sched.proofs.KeptEdges.ListedKinds.{kind_listed}
 use Rattle.iloc_sched.proofs.PriorityValues.Found.{none_raised}
 use Rattle.iloc_sched.proofs.PriorityValues.Tails.{is_tail, loads_reach, tail_by_store, load_kept}
@@ -44,11 +45,11 @@ module _ (t : Tables) (sound : IsSound t) (found : List ℕ) (loads : Packing) (
   kind_known : k ≡ kind (op_at t.ops.items j)
   kind_known = k_is ∙ kind_listed t.ops.items t.kinds.items j k sound.kinds below
 
-  pub loads_short : needed 1 (chain ∷ loads_from t.latencies t.ops.items next) ≤ 17 * length t.ops.items
+  pub loads_short : needed 1 (chain ∷ loads_from t.latencies t.ops.items next) ≤ serial_end t.latencies t.ops.items + length t.ops.items
   loads_short =
       let small = tailed_small t.latencies t.ops.items (graph_of t.edges) sound.graph found (j + 1)
       ((graph_of t.edges).start (j + 1)) j tailed_here below in
-      subst (λ n. needed 1 (chain ∷ loads_from t.latencies t.ops.items n) ≤ 17 * length t.ops.items) (sym is_next)
+      subst (λ n. needed 1 (chain ∷ loads_from t.latencies t.ops.items n) ≤ serial_end t.latencies t.ops.items + length t.ops.items) (sym is_next)
       (loads_reach t.latencies t.ops.items (j + 1) chain (omega (arith, read)))
 
   pub tail_set : (v : ℕ) → ((xs : List ℕ) → IsPacking xs loads → v ≡ tail_by k chain t.latencies.store xs)
@@ -60,6 +61,33 @@ module _ (t : Tables) (sound : IsSound t) (found : List ℕ) (loads : Packing) (
   pub loads_are : when (is_load k) chain ++ loads_from t.latencies t.ops.items next ≡ loads_from t.latencies t.ops.items j
   loads_are = rw (kind_known, chain_left, is_next) (load_kept t.latencies t.ops.items j below)
 
+-- all latencies together
+all_of : (t : Tables) → IsSound t → (own : List ℕ) → own ≡ t.own.items → (all : ℕ) → all ≡ sum_by (λ n. n) own
+    → (all ≡ serial_end t.latencies t.ops.items) × (all ≤ 16 * length t.ops.items)
+all_of t sound own lent all is =
+    let same = is ∙ serial_of t.latencies t.ops.items own (lent ∙ sound.own) in
+    let short = serial_short t.latencies t.ops.items in (same, omega arith)
+
+own_few : (t : Tables) → IsSound t → length t.own.items ≡ length t.ops.items
+own_few t sound = ap length sound.own ∙ length-map t.ops.items (latency t.latencies)
+
+pub total-requires-clause-short : goal.total-requires-clause-short
+total-requires-clause-short c =
+    let t = c.args.tables.now in
+    short_own t.latencies t.ops.items c.deref-2.result.now (c.deref-2.ensures.value ∙ c.requires.own)
+
+pub overflow_add-places : goal.overflow_add-places
+overflow_add-places c =
+    let t = c.args.tables.now in
+    let all = all_of t c.requires c.deref-2.result.now c.deref-2.ensures.value c.total.result c.total.ensures in
+    omega (arith, all.1, own_few t c.requires, c.requires.graph.size, t.edges.short)
+
+pub overflow_add-places-2 : goal.overflow_add-places-2
+overflow_add-places-2 c =
+    let t = c.args.tables.now in
+    let all = all_of t c.requires c.deref-2.result.now c.deref-2.ensures.value c.total.result c.total.ensures in
+    omega (arith, all.1, own_few t c.requires, c.requires.graph.size, t.edges.short)
+
 pub loop-j-init : goal.loop-j-init
 loop-j-init c =
     let t = c.args.tables.now in
@@ -69,10 +97,11 @@ loop-j-init c =
     let own : c.extend_from_slice.new.self.items ≡ map (latency t.latencies) t.ops.items =
     c.in_ok-extend_from_slice.ensures.items ∙ (ap (λ xs. xs ++ c.deref.result.now) c.clear.ensures.items
     ∙ (c.deref.ensures.value ∙ c.requires.own)) in
+    let all = all_of t c.requires c.deref-2.result.now c.deref-2.ensures.value c.total.result c.total.ensures in
     let none = none_raised t.latencies t.ops.items graph c.requires.graph (chain_tail t.latencies t.ops.items)
     (tail t.latencies t.ops.items) (is_tail t.latencies t.ops.items) c.extend_from_slice.new.self.items own in
     record {
-      space = omega (arith, c.in_ok-loads.ensures.size);
+      space = omega (arith, c.in_ok-loads.ensures.size, all.0, own_few t c.requires);
       tailed = rw (c.op_count-j.ensures) (subst (IsTailed t.latencies t.ops.items graph c.extend_from_slice.new.self.items
           graph.ops) (sym c.requires.graph.is_graph.last) none);
       packed = subst (λ xs. IsPacking xs c.in_ok-loads.loads) (none_packed t.latencies t.ops.items c.op_count-j.result
@@ -93,6 +122,7 @@ pub tail_of-tail-requires-clause-small : goal.tail_of-tail-requires-clause-small
 tail_of-tail-requires-clause-small c =
     let t = c.args.tables.now in
     let kinds_size : length t.kinds.items ≡ length t.ops.items = ap length c.requires.kinds ∙ length-map t.ops.items kind in
+    let short = serial_short t.latencies t.ops.items in
     omega (arith, c.requires.graph.size, t.edges.short, c.loop-j.invariant.space, t.latencies.short_store)
 
 pub raise_sources-requires-clause-tailed : goal.raise_sources-requires-clause-tailed

@@ -5,6 +5,7 @@ use Rattle.iloc_sched.specs.LowerBound.Least.{tail}
 use Rattle.iloc_sched.specs.Steps.Edges.SoundGraph.{IsSound}
 use Rattle.iloc_sched.specs.Steps.LowerBound.Tails.{chain_tail, IsTailed}
 use Rattle.iloc_sched.specs.Steps.Views.{graph_of, edge_at}
+use Rattle.iloc_sched.proofs.Bounds.TailBound.{serial_short}
 use Rattle.iloc_sched.proofs.PriorityValues.Found.{read_edge, raise_read}
 use Rattle.iloc_sched.proofs.PriorityValues.Tails.{is_tail}
 use Rattle.iloc_sched.proofs.PriorityValues.TailsFound.{tailed_small}
@@ -51,6 +52,7 @@ overflow_add-through c =
     let read = get_or_read found c.args.j c.index.result.now (omega (arith, c.requires.there)) c.index.ensures 0 in
     let small = tailed_small t.latencies t.ops.items graph c.requires.sound.graph found c.args.j c.loop-x.x c.args.j tailed
     c.requires.there in
+    let short = serial_short t.latencies t.ops.items in
     omega arith
 
 pub loop-x-preserved : goal.loop-x-preserved
