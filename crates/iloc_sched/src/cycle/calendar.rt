@@ -115,8 +115,11 @@ impl Calendar {
     {
         let rank = rank as usize;
         let bucket = cycle as usize % BUCKETS;
-        add_if(&mut self.words, ready, bucket, rank);
-        if self.blocks > 0 {
+        if self.blocks == 0 {
+            // A rank is its bit, and no word has to be found.
+            add_if(&mut self.words, ready, bucket, rank % 64);
+        } else {
+            add_if(&mut self.words, ready, bucket, rank);
             add_if(&mut self.summary, ready, bucket, rank / 64);
         }
     }
