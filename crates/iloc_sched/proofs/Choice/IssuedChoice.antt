@@ -85,9 +85,10 @@ module _ (p : Plan) (w : Waiting) (f : ℕ) (beside : Class) (plan : IsPlan p) (
 
     pub rank_below : r < length p.tables.now.ops.items
     rank_below =
-        let size = plan.ranked.places in
         let count = plan.priorities in
-        let low = rank_there in
+        let below : who.0 < length p.tables.now.ops.items = who.1 in
+        let within = plan.ranked.within who.0 (omega arith) in
+        let is : rank_of p who.0 ≡ r = who.2 in
         omega arith
 
     module _ (n : ℕ) (read : n ≡ get_or p.order.now r 0) where

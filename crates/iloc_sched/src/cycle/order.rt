@@ -1,7 +1,7 @@
 //! Operations by their ranks: their places in the order of choice.
 ghost use Rattle.std.specs.Prelude.{ℕ, ◌<◌, ◌≤◌, length, slice_index, OnOk};
 
-use crate::cycle::counting::place_by_counting;
+use crate::cycle::counting::{Counting, lengthen};
 use crate::cycle::keys::{place_by_keys, sort_keys};
 use iloc_ops::{MAX_OPS, NoMemory};
 use std::alloc::Global;
@@ -10,12 +10,13 @@ use std::alloc::Global;
 /// operation, sorting 65 to 155 and at least half a mispredicted branch more.
 const COUNTED: usize = 16;
 
-/// The operations by rank, and the rank of each.
+/// The operations by rank, and the rank of each. Lists only grow, so they may have numbers more behind those: to fill them with
+/// zeros for each block takes 0.25 mispredicted branches and 8 instructions for each operation of a block of ten.
 #[derive(Debug, Drop)]
 pub struct Order {
     pub by_rank: Vec<u32>,
     pub ranks: Vec<u32>,
-    starts: Vec<u32>,
+    counting: Counting,
     keys: Vec<u64>,
 }
 
@@ -38,7 +39,7 @@ impl Order {
         Order {
             by_rank: Vec::new(alloc),
             ranks: Vec::new(alloc),
-            starts: Vec::new(alloc),
+            counting: Counting::new(alloc),
             keys: Vec::new(alloc),
         }
     }
@@ -49,20 +50,12 @@ impl Order {
         ensures { OnOk result (AreRanks priorities.now self.new.by_rank.items self.new.ranks.items) }
     {
         let count = priorities.len();
-        self.by_rank.clear();
-        self.by_rank.resize(count, 0)?;
-        self.ranks.clear();
-        self.ranks.resize(count, 0)?;
+        lengthen(&mut self.by_rank, count)?;
+        lengthen(&mut self.ranks, count)?;
         let end = end_of(priorities);
         if end <= COUNTED * count {
-            self.starts.clear();
-            self.starts.resize(end, 0)?;
-            place_by_counting(
-                &mut self.starts,
-                &mut self.by_rank,
-                &mut self.ranks,
-                priorities,
-            );
+            self.counting
+                .place(&mut self.by_rank, &mut self.ranks, priorities, end)?;
         } else {
             sort_keys(&mut self.keys, priorities)?;
             place_by_keys(&mut self.by_rank, &mut self.ranks, priorities, &self.keys);
