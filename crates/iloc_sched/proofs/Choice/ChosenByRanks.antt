@@ -7,6 +7,7 @@ use Rattle.iloc_timed.specs.declared.kind.Kind.{Kind}
 use Rattle.iloc_timed.specs.declared.kind.Kind.TheVariants as K
 use Rattle.iloc_timed.specs.declared.row.Row.{Row}
 use Rattle.iloc_timed.specs.Kinds.{kind, is_mult, is_memory}
+use Rattle.iloc_timed.specs.Units.{needs_one}
 use Rattle.iloc_timed.specs.Rows.{is_some_kind, kind_in}
 use Rattle.iloc_sched.specs.Greedy.{ready, first_of_all, may_stand_beside, on_units, chosen_with, chosen}
 use Rattle.iloc_sched.specs.declared.cycle.Choice.{Choice}
@@ -17,10 +18,10 @@ use Rattle.iloc_sched.specs.declared.cycle.waiting.Waiting.{Waiting}
 use Rattle.iloc_sched.specs.Steps.Cycle.Calendar.{has}
 use Rattle.iloc_sched.specs.Steps.Cycle.Choosing.{GoesBefore, IsChosenSoFar}
 use Rattle.iloc_sched.specs.Steps.Members.{In}
-use Rattle.iloc_sched.specs.Steps.Cycle.Classes.{class_of, excludes, is_memory_class, is_product_class}
+use Rattle.iloc_sched.specs.Steps.Cycle.Classes.{class_of, excludes}
 use Rattle.iloc_sched.specs.Steps.Cycle.Progress.{MatchesRows}
 use Rattle.iloc_sched.specs.Steps.Views.{graph_of, progress_of}
-use Rattle.iloc_sched.specs.Steps.Cycle.SoFar.{class_at, rank_of, IsPlan, IsUnderWay, IsOpen, IsBest, Issues, number_of, is_memory_choice, row_with}
+use Rattle.iloc_sched.specs.Steps.Cycle.SoFar.{class_at, rank_of, IsPlan, IsUnderWay, IsOpen, IsBest, Issues, number_of, needs_zero_choice, row_with}
 use Rattle.iloc_sched.proofs.Basics.Members.{in_filter, from_filter}
 use Rattle.iloc_sched.proofs.Basics.Ordered.{ordered_filter}
 use Rattle.iloc_sched.proofs.Choice.Ready.{IsReady, ready_means, ready_rises}
@@ -56,20 +57,6 @@ beside_by_class K.Other K.Store = refl
 beside_by_class K.Other K.Mult = refl
 beside_by_class K.Other K.Output = refl
 beside_by_class K.Other K.Other = refl
-
-mult_by_class : (a : Kind) → is_mult a ≡ is_product_class (class_of a)
-mult_by_class K.Load = refl
-mult_by_class K.Store = refl
-mult_by_class K.Mult = refl
-mult_by_class K.Output = refl
-mult_by_class K.Other = refl
-
-memory_by_class : (a : Kind) → is_memory a ≡ is_memory_class (class_of a)
-memory_by_class K.Load = refl
-memory_by_class K.Store = refl
-memory_by_class K.Mult = refl
-memory_by_class K.Output = refl
-memory_by_class K.Other = refl
 
 -- what keeps none out of a row that is empty
 open_alone : (b : Bool) → not b ≡ true → b ≡ false
@@ -161,28 +148,28 @@ module _ (p : Plan) (w : Waiting) (rows : List Row) (plan : IsPlan p)
       (λ j held. goes_before a.number j best.0.0 (ready_there j held) (best.2 j (open_all j held)))
 
   module _ (w1 : Waiting) (a : Choice) (best_a : IsBest p w C.Rest (Some a)) (issues : Issues p w w1 (length rows) a) where
-    class_a : class_at p.tables.now.ops.items a.number ≡ a.class
-    class_a = best_a.1
+    kind_a : kind (op_at p.tables.now.ops.items a.number) ≡ a.kind
+    kind_a = best_a.1
 
     abbrev beside : ℕ → Bool
     beside b = not (a.number == b) && may_stand_beside (kind (op_at p.tables.now.ops.items a.number))
         (kind (op_at p.tables.now.ops.items b))
 
     open_beside : (j : ℕ) → may_stand_beside (kind (op_at p.tables.now.ops.items a.number))
-        (kind (op_at p.tables.now.ops.items j)) ≡ not (excludes a.class (class_at p.tables.now.ops.items j))
+        (kind (op_at p.tables.now.ops.items j)) ≡ not (excludes (class_of a.kind) (class_at p.tables.now.ops.items j))
     open_beside j = beside_by_class (kind (op_at p.tables.now.ops.items a.number)) (kind (op_at p.tables.now.ops.items j))
-        ∙ ap (λ k. not (excludes k (class_at p.tables.now.ops.items j))) class_a
+        ∙ ap (λ k. not (excludes (class_of k) (class_at p.tables.now.ops.items j))) kind_a
 
     -- a isn't ready any more
-    not_a : (j : ℕ) → IsOpen p w1 a.class j → a.number ≢ j
+    not_a : (j : ℕ) → IsOpen p w1 (class_of a.kind) j → a.number ≢ j
     not_a j is same =
-        let held : has w1.calendar 32 (rank_of p j) ≡ true = open_ready p w1 (length rows + 1) issues.under_way a.class j is.0 is in
+        let held : has w1.calendar 32 (rank_of p j) ≡ true = open_ready p w1 (length rows + 1) issues.under_way (class_of a.kind) j is.0 is in
         let none = (issues.under_way.queued.only j (subst (λ n. j < n) (sym plan.graph.size) is.0) held).waiting in
         not_both ((progress_of p.ranks.now w1).issued j) (length rows) none
         (ap (progress_of p.ranks.now w1).issued (sym same) ∙ issued_at _ _ a.number (length rows) issues.issued issues.there)
 
     -- who is ready and can go beside a is open in what is left
-    left_open : (j : ℕ) → In (filter beside all_ready) j → IsOpen p w1 a.class j
+    left_open : (j : ℕ) → In (filter beside all_ready) j → IsOpen p w1 (class_of a.kind) j
     left_open j held =
         let found : In all_ready j × (beside j ≡ true) = from_filter beside all_ready j held in
         let tests : (not (a.number == j) ≡ true)
@@ -190,22 +177,22 @@ module _ (p : Plan) (w : Waiting) (rows : List Row) (plan : IsPlan p)
         from_both _ _ found.1 in
         let other : not (a.number == j) ≡ true = tests.0 in
         let there = ready_there j found.0 in
-        opens p w1 (length rows + 1) issues.under_way a.class j there
+        opens p w1 (length rows + 1) issues.under_way (class_of a.kind) j there
         (issues.ready j there (λ same. let equal : (a.number == j) ≡ true = grind (arith, nat_tests) in not_equal (a.number == j) equal other)
         ∙ ready_queued j found.0)
-        (open_alone (excludes a.class (class_at p.tables.now.ops.items j)) (sym (open_beside j) ∙ tests.1))
+        (open_alone (excludes (class_of a.kind) (class_at p.tables.now.ops.items j)) (sym (open_beside j) ∙ tests.1))
 
     -- who is open in it is ready and can go beside a
-    open_left : (j : ℕ) → IsOpen p w1 a.class j → In (filter beside all_ready) j
+    open_left : (j : ℕ) → IsOpen p w1 (class_of a.kind) j → In (filter beside all_ready) j
     open_left j is =
         let apart : a.number ≢ j = not_a j is in
         in_filter beside all_ready j
         (queued_ready j is.0 (sym (issues.ready j is.0 (λ same. apart (sym same)))
-        ∙ open_ready p w1 (length rows + 1) issues.under_way a.class j is.0 is))
+        ∙ open_ready p w1 (length rows + 1) issues.under_way (class_of a.kind) j is.0 is))
         (both_true _ _ (apart_numbers a.number j apart)
-        (open_beside j ∙ ap not (open_free p w1 (length rows + 1) issues.under_way a.class j is.0 is)))
+        (open_beside j ∙ ap not (open_free p w1 (length rows + 1) issues.under_way (class_of a.kind) j is.0 is)))
 
-    pub chosen_second : (b : Option Choice) → IsBest p w1 a.class b
+    pub chosen_second : (b : Option Choice) → IsBest p w1 (class_of a.kind) b
         → first_of_all p.priorities.now (filter beside all_ready) ≡ number_of b
     chosen_second None none = first_none p.priorities.now (filter beside all_ready) (λ j held. none j (left_open j held))
     chosen_second (Some b) best =
@@ -213,22 +200,20 @@ module _ (p : Plan) (w : Waiting) (rows : List Row) (plan : IsPlan p)
         (ordered_filter (λ (x y : ℕ). x < y) beside all_ready
         (ready_rises p.tables.now.latencies p.tables.now.ops.items rows (length rows)))
         (open_left b.number best.0)
-        (λ j held. let is : IsOpen p w1 a.class j = left_open j held in goes_before b.number j best.0.0 is.0 (best.2 j is))
+        (λ j held. let is : IsOpen p w1 (class_of a.kind) j = left_open j held in goes_before b.number j best.0.0 is.0 (best.2 j is))
 
-    memory_beside : (b : Option Choice) → IsBest p w1 a.class b
-        → is_some_kind is_memory (kind_in p.tables.now.ops.items (number_of b)) ≡ is_memory_choice b
-    memory_beside None none = refl
-    memory_beside (Some b) best = memory_by_class (kind (op_at p.tables.now.ops.items b.number)) ∙ ap is_memory_class best.1
+    zero_beside : (b : Option Choice) → IsBest p w1 (class_of a.kind) b
+        → is_some_kind is_memory (kind_in p.tables.now.ops.items (number_of b)) ≡ needs_zero_choice b
+    zero_beside None none = refl
+    zero_beside (Some b) best = ap is_memory best.1
 
-    pub chosen_row : (b : Option Choice) → IsBest p w1 a.class b
+    pub chosen_row : (b : Option Choice) → IsBest p w1 (class_of a.kind) b
         → row_with a b ≡ chosen p.tables.now.ops.items p.priorities.now all_ready
     chosen_row b second =
-        let product : is_mult (kind (op_at p.tables.now.ops.items a.number)) ≡ is_product_class a.class =
-        mult_by_class (kind (op_at p.tables.now.ops.items a.number)) ∙ ap is_product_class class_a in
         let row : on_units p.tables.now.ops.items a.number (number_of b) ≡ row_with a b =
-        ap (λ t. if t || is_some_kind is_memory (kind_in p.tables.now.ops.items (number_of b)) then row_one a b else row_zero a b)
-        product
-        ∙ ap (λ t. if is_product_class a.class || t then row_one a b else row_zero a b) (memory_beside b second) in
+        ap (λ k. if is_mult k || is_some_kind is_memory (kind_in p.tables.now.ops.items (number_of b)) then row_one a b else row_zero a b)
+        kind_a
+        ∙ ap (λ t. if needs_one a.kind || t then row_one a b else row_zero a b) (zero_beside b second) in
         sym
         (ap (chosen_with p.tables.now.ops.items p.priorities.now all_ready) (chosen_first a best_a)
         ∙ ap (on_units p.tables.now.ops.items a.number) (chosen_second b second)

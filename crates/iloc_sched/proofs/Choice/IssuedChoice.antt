@@ -2,6 +2,9 @@
 use Rattle.std.proofs.Common.{◌≡◌, ◌≢◌, ℕ, ◌+◌, ◌%◌, ◌<◌, not, true, false, List, length, set, get_or, Option, Some, None, refl, sym, ◌∙◌, ap, subst, arith}
 use Rattle.std.proofs.lemmas.Bool.{false≢true, and_parts}
 use Rattle.std.proofs.lemmas.List.{get_or-set_same, get_or-set_other}
+use Rattle.iloc_meaning.specs.Trace.{op_at}
+use Rattle.iloc_timed.specs.declared.kind.Kind.{Kind}
+use Rattle.iloc_timed.specs.Kinds.{kind}
 use Rattle.iloc_sched.specs.declared.cycle.calendar.Calendar.{Calendar}
 use Rattle.iloc_sched.specs.declared.cycle.class.Class.{Class}
 use Rattle.iloc_sched.specs.declared.cycle.plan.Plan.{Plan}
@@ -10,7 +13,7 @@ use Rattle.iloc_sched.specs.Steps.Cycle.Calendar.{has, offers, HasSameSets, IsFi
 use Rattle.iloc_sched.specs.Steps.Cycle.Classes.{place_of}
 use Rattle.iloc_sched.specs.Steps.Cycle.Progress.{Waits, CanIssue, KeepsPlaces}
 use Rattle.iloc_sched.specs.Steps.Views.{graph_of, issued_list, progress_of, bucket_of, IsSized}
-use Rattle.iloc_sched.specs.Steps.Cycle.SoFar.{class_at, rank_of, IsRanked, IsPlan, IsCalendar, IsUnderWay, IsBest, Issues}
+use Rattle.iloc_sched.specs.Steps.Cycle.SoFar.{rank_of, IsRanked, IsPlan, IsCalendar, IsUnderWay, IsBest, Issues}
 use Rattle.iloc_sched.proofs.Basics.Cases.{by_lt}
 use Rattle.iloc_sched.proofs.Choice.EnteringReady.{queued_with_due, queued_after}
 use Rattle.iloc_sched.proofs.Ranks.Calendars.{ranks_apart, same_has, same_room, room_kept, calendar_put, calendar_released}
@@ -107,11 +110,11 @@ module _ (p : Plan) (w : Waiting) (f : ℕ) (beside : Class) (plan : IsPlan p) (
       pub can_issue : CanIssue (graph_of p.tables.now.edges) (progress_of p.ranks.now w) f n
       can_issue = under.queued.only n (subst (λ m. n < m) (sym plan.graph.size) number_there) (ap (has w.calendar 32) rank_is ∙ is_ready)
 
-      pub is_best : ((s : ℕ) → s < r → offers w.calendar beside s ≡ false) → (k : Class) → k ≡ class_at p.tables.now.ops.items n
-          → IsBest p w beside (Some (record { number = n; class = k }))
-      is_best none k class = (
+      pub is_best : ((s : ℕ) → s < r → offers w.calendar beside s ≡ false) → (k : Kind) → k ≡ kind (op_at p.tables.now.ops.items n)
+          → IsBest p w beside (Some (record { number = n; kind = k }))
+      is_best none k read = (
         (number_there, ap (offers w.calendar beside) rank_is ∙ offered),
-        sym class,
+        sym read,
         λ j is. by_lt (rank_of p j) (rank_of p n)
             (λ before. absurd (false≢true (sym (none (rank_of p j) (subst (λ s. rank_of p j < s) rank_is before)) ∙ is.1)))
             (λ after. after),
@@ -148,11 +151,11 @@ module _ (p : Plan) (w w' : Waiting) (k : Calendar) (c n : ℕ) (plan : IsPlan p
   ready_others j j_there apart = kept (rank_of p j)
       ∙ takes.others 32 (rank_of p j) (omega arith) (λ _ same. apart (ranks_apart p plan j n j_there there same))
 
-  pub issues_choice : (class : Class) → Waits (graph_of p.tables.now.edges) (progress_of p.ranks.now w') (c + 1) 0 None
+  pub issues_choice : (k : Kind) → Waits (graph_of p.tables.now.edges) (progress_of p.ranks.now w') (c + 1) 0 None
       → issued_list w' ≡ set (issued_list w) n (Some c)
       → KeepsPlaces (progress_of p.ranks.now w) (progress_of p.ranks.now w') → IsSized p.tables.now.edges w' → IsCalendar p w'.calendar
-      → Issues p w w' c (record { number = n; class = class })
-  issues_choice class waits' issued keeps sized' calendar' =
+      → Issues p w w' c (record { number = n; kind = k })
+  issues_choice k waits' issued keeps sized' calendar' =
       let size : length (issued_list w) ≡ length p.tables.now.edges.heads.items = issued_size p.tables.now.edges w under.sized in
       let among : n < length p.tables.now.edges.heads.items = can.there in
       let below : n < length (issued_list w) = omega arith in

@@ -7,6 +7,7 @@ use Rattle.iloc_timed.specs.declared.latencies.Latencies.{Latencies}
 use Rattle.iloc_timed.specs.Kinds.{kind}
 use Rattle.iloc_timed.specs.Latency.{latency}
 use Rattle.iloc_timed.specs.declared.row.Row.{Row}
+use Rattle.iloc_timed.specs.Units.{needs_one}
 use Rattle.iloc_timed.specs.Rows.{empty_row, row_at, slots, issue_cycle, holds}
 use Rattle.iloc_sched.specs.Renaming.{renamed}
 use Rattle.iloc_sched.specs.Greedy.{ready, chosen_with, IsGreedyBy}
@@ -15,10 +16,10 @@ use Rattle.iloc_sched.specs.declared.cycle.Choice.{Choice}
 use Rattle.iloc_sched.specs.declared.cycle.class.Class.TheVariants as C
 use Rattle.iloc_sched.specs.declared.cycle.waiting.Waiting.{Waiting}
 use Rattle.iloc_sched.specs.Steps.Members.{In}
-use Rattle.iloc_sched.specs.Steps.Cycle.Classes.{is_product_class}
+use Rattle.iloc_sched.specs.Steps.Cycle.Classes.{class_of}
 use Rattle.iloc_sched.specs.Steps.Cycle.Progress.{MatchesRows}
 use Rattle.iloc_sched.specs.Steps.Views.{issued_list, progress_of}
-use Rattle.iloc_sched.specs.Steps.Cycle.SoFar.{IsPlan, IsUnderWay, IsSoFar, IsBest, Issues, IssuesAny, number_of, is_memory_choice, row_with, slot_count, waiting_count}
+use Rattle.iloc_sched.specs.Steps.Cycle.SoFar.{IsPlan, IsUnderWay, IsSoFar, IsBest, Issues, IssuesAny, number_of, needs_zero_choice, row_with, slot_count, waiting_count}
 use Rattle.iloc_sched.proofs.Basics.IssueCycles.{issue_cycle_more, issue_cycle_last, issue_cycle_beyond}
 use Rattle.iloc_sched.proofs.Basics.Slots.{holds_from, from_holds}
 use Rattle.iloc_sched.proofs.Choice.RowAfterRow.{chosen_more, chosen_is_greedy}
@@ -72,7 +73,7 @@ two_of (Some x) a j (inr (inr none)) = absurd none
 -- who stands in the row of a choice
 from_row : (a : Choice) (b : Option Choice) (j : ℕ) → In (slots (row_with a b)) j → (j ≡ a.number)
     ⊎ (number_of b ≡ Some j)
-from_row a b j = by_bool (is_product_class a.class || is_memory_choice b)
+from_row a b j = by_bool (needs_one a.kind || needs_zero_choice b)
     (λ t. rw t (λ held. elim held [ inl is ↦ inl (sym is) | inr rest ↦ inr (one_of (number_of b) j rest) ]))
     (λ f. rw f (λ held. elim (two_of (number_of b) a.number j held) [ inl is ↦ inr is | inr is ↦ inl is ]))
 
@@ -81,12 +82,12 @@ in_last None a = inl refl
 in_last (Some x) a = inr (inl refl)
 
 in_first : (a : Choice) (b : Option Choice) → In (slots (row_with a b)) a.number
-in_first a b = by_bool (is_product_class a.class || is_memory_choice b)
+in_first a b = by_bool (needs_one a.kind || needs_zero_choice b)
     (λ t. rw t (inl refl))
     (λ f. rw f (in_last (number_of b) a.number))
 
 in_second : (a b : Choice) → In (slots (row_with a (Some b))) b.number
-in_second a b = by_bool (is_product_class a.class || is_memory_choice (Some b))
+in_second a b = by_bool (needs_one a.kind || needs_zero_choice (Some b))
     (λ t. rw t (inr (inl refl)))
     (λ f. rw f (inl refl))
 
@@ -190,7 +191,7 @@ count_after p w w1 w2 w3 c a (Some b) same first second =
 pub so_far_row : (p : Plan) (w w1 w2 w3 : Waiting) (rows rows' : List Row) (row : Row)
     (a : Choice) (b : Option Choice) → IsPlan p → IsSoFar p w rows → issued_list w1 ≡ issued_list w
     → IsUnderWay p w1 (length rows + 1)
-    → IsBest p w1 C.Rest (Some a) → Issues p w1 w2 (length rows) a → IsBest p w2 a.class b
+    → IsBest p w1 C.Rest (Some a) → Issues p w1 w2 (length rows) a → IsBest p w2 (class_of a.kind) b
     → IssuesAny p w2 w3 (length rows) b
     → row ≡ row_with a b → rows' ≡ rows ++ row ∷ [] → IsSoFar p w3 rows'
 so_far_row p w w1 w2 w3 rows rows' row a b plan so_far same under best_a issues_a best_b issues_b is_row
@@ -232,7 +233,7 @@ step_none p w w1 w2 rows rows' row c first now plan so_far same under none best 
 pub step_some : (p : Plan) (w w1 w2 w3 : Waiting) (rows rows' : List Row) (row : Row) (c : ℕ)
     (first : Option Choice) (a : Choice) (b : Option Choice) → c ≡ length rows → IsPlan p → IsSoFar p w rows
     → issued_list w1 ≡ issued_list w → IsUnderWay p w1 (c + 1)
-    → first ≡ Some a → IsBest p w1 C.Rest first → IssuesAny p w1 w2 c first → IsBest p w2 a.class b
+    → first ≡ Some a → IsBest p w1 C.Rest first → IssuesAny p w1 w2 c first → IsBest p w2 (class_of a.kind) b
     → IssuesAny p w2 w3 c b → row ≡ row_with a b → rows' ≡ rows ++ row ∷ [] → IsSoFar p w3 rows'
 step_some p w w1 w2 w3 rows rows' row c first a b now plan so_far same under some best issues best_b issues_b
     is_row is_rows =

@@ -2,8 +2,8 @@
 ghost use Rattle.std.specs.Prelude.{◌≡◌, ◌<◌, length, map};
 ghost use Rattle.iloc_timed.specs.Kinds.{kind};
 
-use crate::cycle::class::Class;
 use crate::tables::Tables;
+use iloc_timed::Kind;
 
 /// The tables of a graph, a priority for each operation, and the order of choice by them.
 #[derive(Clone, Copy)]
@@ -17,15 +17,15 @@ pub struct Plan<'a> {
 }
 
 impl<'a> Plan<'a> {
-    ghost use Rattle.iloc_sched.specs.Steps.Cycle.SoFar.{class_at};
+    ghost use Rattle.iloc_meaning.specs.Trace.{op_at};
 
-    /// The class of an operation.
+    /// The kind of an operation.
     #[inline(always)]
-    pub fn class_of(&self, i: u32) -> Class
+    pub fn kind_of(&self, i: u32) -> Kind
         requires there { i < length self.now.tables.now.ops.items }
         requires kinds { self.now.tables.now.kinds.items ≡ map kind self.now.tables.now.ops.items }
-        ensures { result ≡ class_at self.now.tables.now.ops.items i }
+        ensures { result ≡ kind (op_at self.now.tables.now.ops.items i) }
     {
-        Class::of(self.tables.kinds[i as usize])
+        self.tables.kinds[i as usize]
     }
 }

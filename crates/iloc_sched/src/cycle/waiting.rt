@@ -8,6 +8,7 @@ ghost use Rattle.iloc_sched.specs.Steps.Cycle.Calendar.{has};
 ghost use Rattle.iloc_sched.specs.Steps.Cycle.SoFar.{IsPlan};
 
 use crate::cycle::calendar::{Calendar, LONGEST_DELAY};
+use crate::cycle::class::Class;
 use crate::cycle::plan::Plan;
 use iloc_ops::NoMemory;
 use std::alloc::Global;
@@ -81,7 +82,7 @@ impl Waiting {
                 },
             });
             let rank = plan.ranks[j];
-            let class = plan.class_of(j as u32);
+            let class = Class::of(plan.kind_of(j as u32));
             self.calendar.keep_out_if(class.is_limited(), class, rank);
             self.calendar.put_if(place == end, rank, 0);
             place = end;

@@ -26,11 +26,3 @@ place_of C.Memory = 0
 place_of C.Product = 1
 place_of C.Output = 2
 place_of C.Rest = 3
-
-abbrev pub is_memory_class : Class → Bool
-is_memory_class C.Memory = true
-is_memory_class _ = false
-
-abbrev pub is_product_class : Class → Bool
-is_product_class C.Product = true
-is_product_class _ = false

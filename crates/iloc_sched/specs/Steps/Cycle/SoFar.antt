@@ -4,6 +4,7 @@ use Rattle.iloc_meaning.specs.Trace.{op_at}
 use Rattle.iloc_ops.specs.declared.op.Op.{Op}
 use Rattle.iloc_timed.specs.declared.row.Row.{Row}
 use Rattle.iloc_timed.specs.Kinds.{kind}
+use Rattle.iloc_timed.specs.Units.{needs_zero, needs_one}
 use Rattle.iloc_sched.specs.declared.cycle.Choice.{Choice}
 use Rattle.iloc_sched.specs.declared.cycle.calendar.Calendar.{Calendar}
 use Rattle.iloc_sched.specs.declared.cycle.class.Class.{Class}
@@ -11,7 +12,7 @@ use Rattle.iloc_sched.specs.declared.cycle.plan.Plan.{Plan}
 use Rattle.iloc_sched.specs.declared.cycle.waiting.Waiting.{Waiting}
 use Rattle.iloc_sched.specs.Steps.Cycle.Calendar.{has, offers, HasRoom}
 use Rattle.iloc_sched.specs.Steps.Cycle.Choosing.{IsChosenSoFar}
-use Rattle.iloc_sched.specs.Steps.Cycle.Classes.{class_of, excludes, place_of, is_memory_class, is_product_class}
+use Rattle.iloc_sched.specs.Steps.Cycle.Classes.{class_of, excludes, place_of}
 use Rattle.iloc_sched.specs.Steps.Graph.{Graph, IsGraphOf}
 use Rattle.iloc_sched.specs.Steps.Cycle.Order.{AreRanks}
 use Rattle.iloc_sched.specs.Steps.Cycle.Progress.{Progress, Waits, CanIssue, MatchesRows}
@@ -69,11 +70,11 @@ pub record IsSoFar (p : Plan) (w : Waiting) (rows : List Row) : Type 0 where
 abbrev pub IsOpen : Plan → Waiting → Class → ℕ → Type 0
 IsOpen p w beside j = (j < length p.tables.now.ops.items) × (offers w.calendar beside (rank_of p j) ≡ true)
 
--- of the operations that can be issued beside one of a class that of the lowest rank, with its class
+-- of the operations that can be issued beside one of a class that of the lowest rank, with its kind
 abbrev pub IsBest : Plan → Waiting → Class → Option Choice → Type 0
 IsBest p w beside None = (j : ℕ) → IsOpen p w beside j → ⊥
 IsBest p w beside (Some choice) =
-    IsOpen p w beside choice.number × (class_at p.tables.now.ops.items choice.number ≡ choice.class)
+    IsOpen p w beside choice.number × (kind (op_at p.tables.now.ops.items choice.number) ≡ choice.kind)
     × ((j : ℕ) → IsOpen p w beside j → rank_of p choice.number ≤ rank_of p j)
 
 -- the choice was taken, and issued at cycle c
@@ -89,10 +90,10 @@ abbrev pub IssuesAny : Plan → Waiting → Waiting → ℕ → Option Choice �
 IssuesAny p w w' c None = IsUnderWay p w' (c + 1) × (issued_list w' ≡ issued_list w)
 IssuesAny p w w' c (Some choice) = Issues p w w' c choice
 
--- whether the choice is a load or a store
-abbrev pub is_memory_choice : Option Choice → Bool
-is_memory_choice None = false
-is_memory_choice (Some choice) = is_memory_class choice.class
+-- whether the choice runs on unit 0 only
+abbrev pub needs_zero_choice : Option Choice → Bool
+needs_zero_choice None = false
+needs_zero_choice (Some choice) = needs_zero choice.kind
 
 -- the number of a choice
 abbrev pub number_of : Option Choice → Option ℕ
@@ -102,7 +103,7 @@ number_of (Some choice) = Some choice.number
 -- a, and what stands beside it, on their units
 abbrev pub row_with : Choice → Option Choice → Row
 row_with a b =
-    if is_product_class a.class || is_memory_choice b
+    if needs_one a.kind || needs_zero_choice b
     then record { zero = number_of b; one = Some a.number } else record { zero = Some a.number; one = number_of b }
 
 -- in how many slots a choice stands with what is beside it

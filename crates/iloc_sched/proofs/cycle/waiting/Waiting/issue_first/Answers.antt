@@ -36,8 +36,8 @@ issue-requires c =
       waits = taken_waits p w c.take_first.new.self c.args.cycle n c.requires.plan under can puts;
     }
 
-pub class_of-class-requires : goal.class_of-class-requires
-class_of-class-requires c = record {
+pub kind_of-kind-requires : goal.kind_of-kind-requires
+kind_of-kind-requires c = record {
   there = number_there c.args.plan.now c.args.self.now (c.args.cycle + 1) c.args.beside c.requires.plan c.requires.under_way
       c.in_ok-rank.rank c.in_ok-rank.ensures.first.0 (get_or c.args.plan.now.order.now c.in_ok-rank.rank 0) refl;
   kinds = c.requires.plan.kinds;
@@ -66,7 +66,7 @@ pub returns-clause-best : goal.returns-clause-best
 returns-clause-best c =
     is_best c.args.plan.now c.args.self.now (c.args.cycle + 1) c.args.beside c.requires.plan c.requires.under_way c.in_ok-rank.rank
     c.in_ok-rank.ensures.first.0 (get_or c.args.plan.now.order.now c.in_ok-rank.rank 0) refl c.in_ok-rank.ensures.first.1
-    c.class_of-class.result c.class_of-class.ensures
+    c.kind_of-kind.result c.kind_of-kind.ensures
 
 pub returns-clause-issues : goal.returns-clause-issues
 returns-clause-issues c =
@@ -80,4 +80,4 @@ returns-clause-issues c =
     (sym (rank_is p w (c.args.cycle + 1) c.args.beside c.requires.plan under r c.in_ok-rank.ensures.first.0 n refl))
     c.in_ok-rank.ensures.takes.0 in
     issues_choice p w c.issue.new.self c.take_first.new.self c.args.cycle n c.requires.plan under can puts c.issue.ensures.ready
-    c.class_of-class.result c.issue.ensures.waits c.issue.ensures.issued c.issue.ensures.keeps c.issue.ensures.sized c.issue.ensures.calendar
+    c.kind_of-kind.result c.issue.ensures.waits c.issue.ensures.issued c.issue.ensures.keeps c.issue.ensures.sized c.issue.ensures.calendar

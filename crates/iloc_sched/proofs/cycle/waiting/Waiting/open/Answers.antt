@@ -2,7 +2,7 @@ use Rattle.std.proofs.Common.{◌≡◌, ◌+◌, ◌-◌, ◌<◌, ◌≤◌, �
 use Rattle.iloc_sched.specs.declared.cycle.waiting.OperationState.{OperationState}
 use Rattle.iloc_sched.specs.declared.cycle.waiting.Waiting.{Waiting}
 use Rattle.iloc_sched.specs.Steps.Cycle.Calendar.{has, HasRoom, Puts}
-use Rattle.iloc_sched.specs.Steps.Cycle.Classes.{place_of}
+use Rattle.iloc_sched.specs.Steps.Cycle.Classes.{class_of, place_of}
 use Rattle.iloc_sched.specs.Steps.Cycle.Opening.{IsOpening}
 use Rattle.iloc_sched.specs.Steps.Cycle.SoFar.{rank_of}
 use Rattle.iloc_sched.specs.Steps.Views.{graph_of}
@@ -91,13 +91,13 @@ loop-j-preserved c =
     ap (λ n. n - c.loop-j.place) c.start-end.ensures ∙ ap (λ n. (graph_of e).start (j + 1) - n) at in
     let ready : nat_eq c.loop-j.place c.start-end.result ≡ nat_eq ((graph_of e).start j) ((graph_of e).start (j + 1)) =
     ap (λ n. nat_eq n c.start-end.result) at ∙ ap (λ n. nat_eq ((graph_of e).start j) n) c.start-end.ensures in
-    let k = c.class_of-class.result in
+    let k = c.of-class.result in
     let v : Waiting = record { states = c.push_reserved.new.self; calendar = c.put_if.new.self } in
     let below : j < length e.heads.items = omega (arith, c.op_count-count.ensures) in
     record {
       opening = opening_more p c.loop-j.self v c.keep_out_if.new.self j state c.requires.plan
           (subst (λ n. j < n) c.requires.plan.graph.size below)
-          c.loop-j.invariant.opening c.push_reserved.ensures.items refl unmet refl k c.class_of-class.ensures
+          c.loop-j.invariant.opening c.push_reserved.ensures.items refl unmet refl k (c.of-class.ensures ∙ ap class_of c.kind_of.ensures)
           (subst (λ b. Puts c.loop-j.self.calendar c.keep_out_if.new.self (33 + place_of k) (rank_of p j)
           (b || has c.loop-j.self.calendar (33 + place_of k) (rank_of p j))) c.is_limited.ensures c.keep_out_if.ensures.puts)
           c.keep_out_if.ensures.room (nat_eq c.loop-j.place c.start-end.result) ready

@@ -1,5 +1,6 @@
-use Rattle.std.proofs.Common.{refl, ◌∙◌}
+use Rattle.std.proofs.Common.{refl, subst, ◌∙◌}
 use Rattle.iloc_timed.specs.Rows.{empty_row}
+use Rattle.iloc_sched.specs.Steps.Cycle.SoFar.{IsBest}
 use Rattle.iloc_sched.proofs.Choice.NextRow.{step_none, step_some, step_count}
 use Rattle.iloc_sched.proofs.cycle.waiting.Waiting.step.Goals as goal
 
@@ -17,7 +18,8 @@ returns-in_ok-push-in-Some-clause-so_far c =
     c.args.rows.now.items c.push-in-Some.new.self.items c.row_of.result c.len-cycle.result c.issue_first-first.result
     c.in-Some.a c.issue_first-b.result (c.len-cycle.ensures ∙ c.args.rows.now.ok.0) c.requires.plan c.requires.so_far
     c.release.ensures.issued c.release.ensures.under_way
-    c.in-Some.is c.issue_first-first.ensures.best c.issue_first-first.ensures.issues c.issue_first-b.ensures.best
+    c.in-Some.is c.issue_first-first.ensures.best c.issue_first-first.ensures.issues
+    (subst (λ class. IsBest c.args.plan.now c.issue_first-first.new.self class c.issue_first-b.result) c.of.ensures c.issue_first-b.ensures.best)
     c.issue_first-b.ensures.issues c.row_of.ensures c.in_ok-push-in-Some.ensures.items
 
 pub returns-in_ok-push-in-Some-clause-count : goal.returns-in_ok-push-in-Some-clause-count
