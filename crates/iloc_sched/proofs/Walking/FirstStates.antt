@@ -38,8 +38,8 @@ or_false false = refl
 -- the states of one more operation, of which it is noted what it keeps out in calendar m
 module _ (p : Plan) (w v : Waiting) (m : Calendar) (n : ℕ) (state : OperationState) (plan : IsPlan p) (there : n < length p.tables.now.ops.items)
     (so_far : IsOpening p w n) (states : v.states.items ≡ w.states.items ++ state ∷ []) (fresh : state.issued ≡ None)
-    (unmet : state.wait.unmet ≡ (graph_of p.tables.now.edges).start (n + 1) - (graph_of p.tables.now.edges).start n)
-    (soon : state.wait.earliest ≡ 0) (class : Class) (is : class ≡ class_at p.tables.now.ops.items n)
+    (unmet : state.unmet ≡ (graph_of p.tables.now.edges).start (n + 1) - (graph_of p.tables.now.edges).start n)
+    (soon : state.earliest ≡ 0) (class : Class) (is : class ≡ class_at p.tables.now.ops.items n)
     (noted : Puts w.calendar m (33 + place_of class) (rank_of p n) (excludes class class || has w.calendar (33 + place_of class) (rank_of p n)))
     (room : KeepsRoom w.calendar m) where
   same_below : (s r : ℕ) → s ≤ 32 → has m s r ≡ has w.calendar s r
@@ -51,12 +51,12 @@ module _ (p : Plan) (w v : Waiting) (m : Calendar) (n : ℕ) (state : OperationS
       ∙ replicate_more n not_issued
 
   unmet_more : unmet_list v ≡ map (edges_into (graph_of p.tables.now.edges)) (range_with_len 0 (n + 1))
-  unmet_more = ap unmet_in states ∙ pushed (λ (s : OperationState). s.wait.unmet) w.states.items state
+  unmet_more = ap unmet_in states ∙ pushed (λ (s : OperationState). s.unmet) w.states.items state
       ∙ ap (λ x. unmet_list w ++ x ∷ []) unmet ∙ ap (λ xs. xs ++ edges_into (graph_of p.tables.now.edges) n ∷ []) so_far.unmet
       ∙ sym (map-range_with_len_more (edges_into (graph_of p.tables.now.edges)) 0 n n (omega arith))
 
   earliest_more : earliest_list v ≡ replicate (n + 1) 0
-  earliest_more = ap earliest_in states ∙ pushed (λ (s : OperationState). s.wait.earliest) w.states.items state
+  earliest_more = ap earliest_in states ∙ pushed (λ (s : OperationState). s.earliest) w.states.items state
       ∙ ap (λ x. earliest_list w ++ x ∷ []) soon ∙ ap (λ xs. xs ++ 0 ∷ []) so_far.earliest
       ∙ replicate_more n 0
 

@@ -13,26 +13,26 @@ module _ (e : Edges) (w : Waiting) (sized : IsSized e w) where
   issued_size = length-map w.states.items (λ (s : OperationState). s.issued) ∙ sized
 
   pub unmet_size : length (unmet_list w) ≡ length e.heads.items
-  unmet_size = length-map w.states.items (λ (s : OperationState). s.wait.unmet) ∙ sized
+  unmet_size = length-map w.states.items (λ (s : OperationState). s.unmet) ∙ sized
 
   pub earliest_size : length (earliest_list w) ≡ length e.heads.items
-  earliest_size = length-map w.states.items (λ (s : OperationState). s.wait.earliest) ∙ sized
+  earliest_size = length-map w.states.items (λ (s : OperationState). s.earliest) ∙ sized
 
 -- what is read of the state of operation j
 module _ (ranks : List ℕ) (w : Waiting) (j : ℕ) (state : OperationState) (below : j < length w.states.items)
     (is : state ≡ get_or w.states.items j state) where
-  pub unmet_read : state.wait.unmet ≡ (progress_of ranks w).unmet j
-  unmet_read = ap (λ (s : OperationState). s.wait.unmet) is
-      ∙ sym (get_or-map (λ (s : OperationState). s.wait.unmet) w.states.items j state 0 below)
+  pub unmet_read : state.unmet ≡ (progress_of ranks w).unmet j
+  unmet_read = ap (λ (s : OperationState). s.unmet) is
+      ∙ sym (get_or-map (λ (s : OperationState). s.unmet) w.states.items j state 0 below)
 
-  pub earliest_read : state.wait.earliest ≡ (progress_of ranks w).earliest j
-  earliest_read = ap (λ (s : OperationState). s.wait.earliest) is
-      ∙ sym (get_or-map (λ (s : OperationState). s.wait.earliest) w.states.items j state 0 below)
+  pub earliest_read : state.earliest ≡ (progress_of ranks w).earliest j
+  earliest_read = ap (λ (s : OperationState). s.earliest) is
+      ∙ sym (get_or-map (λ (s : OperationState). s.earliest) w.states.items j state 0 below)
 
 -- what the target of an edge waits for
 pub target_read : (ranks : List ℕ) (e : Edges) (w : Waiting) (x : ℕ) (edge : Edge) (state : OperationState) → IsGraph (graph_of e) → IsSized e w
     → x < length e.edges.items → edge ≡ edge_at e x → state ≡ get_or w.states.items edge.to state
-    → state.wait.unmet ≡ (progress_of ranks w).unmet ((graph_of e).to x)
+    → state.unmet ≡ (progress_of ranks w).unmet ((graph_of e).to x)
 target_read ranks e w x edge state is sized below edge_is read =
     let to_is : edge.to ≡ (graph_of e).to x = ap (λ (d : Edge). d.to) edge_is in
     let there : (graph_of e).to x < length e.heads.items = (is.to_there x below).0 in

@@ -79,16 +79,16 @@ module _ (ranks : List ℕ) (e : Edges) (w : Waiting) (x cycle : ℕ) (is : IsGr
     (there : x < length e.edges.items) where
   -- when the target becomes ready at the earliest
   pub earliest_after : (edge : Edge) (state : OperationState) (t : ℕ) → edge ≡ edge_at e x
-      → state ≡ get_or w.states.items edge.to state → t ≡ max state.wait.earliest (cycle + edge.delay)
+      → state ≡ get_or w.states.items edge.to state → t ≡ max state.earliest (cycle + edge.delay)
       → t ≡ max ((progress_of ranks w).earliest ((graph_of e).to x)) (cycle + (graph_of e).delay x)
   earliest_after edge state t edge_is read greatest =
       let j : ℕ = (graph_of e).to x in
       let to_is : edge.to ≡ j = ap (λ (d : Edge). d.to) edge_is in
       let size : length w.states.items ≡ length e.heads.items = sized in
       let inside : j < length e.heads.items = (is.to_there x there).0 in
-      let early : state.wait.earliest ≡ (progress_of ranks w).earliest j =
+      let early : state.earliest ≡ (progress_of ranks w).earliest j =
       earliest_read ranks w edge.to state (omega arith) read ∙ ap (progress_of ranks w).earliest to_is in
-      greatest ∙ ap (λ d. max state.wait.earliest (cycle + d)) (ap (λ (d : Edge). d.delay) edge_is)
+      greatest ∙ ap (λ d. max state.earliest (cycle + d)) (ap (λ (d : Edge). d.delay) edge_is)
       ∙ ap (λ u. max u (cycle + (graph_of e).delay x)) early
 
 from_last : (graph : Graph) (i : ℕ) (head : Option ℕ) → IsLast (λ x. graph.from x ≡ i) graph.count head

@@ -37,10 +37,10 @@ abbrev pub issued_in : List OperationState → List (Option ℕ)
 issued_in states = map (λ (s : OperationState). s.issued) states
 
 abbrev pub unmet_in : List OperationState → List ℕ
-unmet_in states = map (λ (s : OperationState). s.wait.unmet) states
+unmet_in states = map (λ (s : OperationState). s.unmet) states
 
 abbrev pub earliest_in : List OperationState → List ℕ
-earliest_in states = map (λ (s : OperationState). s.wait.earliest) states
+earliest_in states = map (λ (s : OperationState). s.earliest) states
 
 -- these states, and these operations in the buckets
 abbrev pub progress_with : List OperationState → (ℕ → ℕ → Bool) → Progress

@@ -13,21 +13,15 @@ use crate::cycle::plan::Plan;
 use iloc_ops::NoMemory;
 use std::alloc::Global;
 
-/// What an operation waits for.
-#[derive(Clone, Copy, Debug)]
-struct Wait {
-    /// How many edges into it there are whose sources aren't issued.
-    unmet: u32,
-    /// The earliest cycle by all other edges into it.
-    earliest: u32,
-}
-
 /// The state of an operation while a schedule is made.
 #[derive(Clone, Copy, Debug)]
 struct OperationState {
     /// The cycle at which it was issued.
     issued: Option<u32>,
-    wait: Wait,
+    /// How many edges into it there are whose sources aren't issued.
+    unmet: u32,
+    /// The earliest cycle by all other edges into it.
+    earliest: u32,
 }
 
 /// The states of all operations.
@@ -76,10 +70,8 @@ impl Waiting {
             let end = edges.start(j + 1);
             self.states.push_reserved(OperationState {
                 issued: None,
-                wait: Wait {
-                    unmet: end - place,
-                    earliest: 0,
-                },
+                unmet: end - place,
+                earliest: 0,
             });
             let rank = plan.ranks[j];
             let class = Class::of(plan.kind_of(j as u32));
@@ -90,16 +82,18 @@ impl Waiting {
         Ok(())
     }
 
-    /// Operation j waits for something else.
-    fn change(&mut self, j: usize, wait: Wait)
+    /// Operation j waits for so many edges, and until this cycle by the others.
+    fn change(&mut self, j: usize, unmet: u32, earliest: u32)
         requires { j < length self.old.states.items }
         ensures issued { issued_list self.new ≡ issued_list self.old }
-        ensures unmet { unmet_list self.new ≡ slice_set (unmet_list self.old) j wait.unmet }
-        ensures earliest { earliest_list self.new ≡ slice_set (earliest_list self.old) j wait.earliest }
+        ensures unmet { unmet_list self.new ≡ slice_set (unmet_list self.old) j unmet }
+        ensures earliest { earliest_list self.new ≡ slice_set (earliest_list self.old) j earliest }
         ensures calendar { self.new.calendar ≡ self.old.calendar }
         ensures size { length self.new.states.items ≡ length self.old.states.items }
     {
-        self.states[j].wait = wait;
+        let state = &mut self.states[j];
+        state.unmet = unmet;
+        state.earliest = earliest;
     }
 
     /// Operation i is issued at this cycle.
@@ -137,13 +131,11 @@ impl Waiting {
         let edge = plan.tables.edges.get(x as usize);
         let target = edge.to as usize;
         let state = self.states[target];
-        let wait = Wait {
-            unmet: state.wait.unmet - 1,
-            earliest: state.wait.earliest.max(cycle + edge.delay),
-        };
-        self.change(target, wait);
+        let unmet = state.unmet - 1;
+        let earliest = state.earliest.max(cycle + edge.delay);
+        self.change(target, unmet, earliest);
         self.calendar
-            .put_if(wait.unmet == 0, plan.ranks[target], wait.earliest);
+            .put_if(unmet == 0, plan.ranks[target], earliest);
         edge.previous
     }
 

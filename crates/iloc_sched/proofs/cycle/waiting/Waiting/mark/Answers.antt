@@ -6,17 +6,17 @@ use Rattle.iloc_sched.proofs.cycle.waiting.Waiting.mark.Goals as goal
 
 pub returns-clause-issued : goal.returns-clause-issued
 returns-clause-issued c =
-    let new : OperationState = record { issued = Some c.args.cycle; wait = c.index_mut.result.now.wait } in
+    let new : OperationState = record { issued = Some c.args.cycle; unmet = c.index_mut.result.now.unmet; earliest = c.index_mut.result.now.earliest } in
     map-set (λ (s : OperationState). s.issued) c.args.self.now.states.items c.args.i new
 
 pub returns-clause-unmet : goal.returns-clause-unmet
 returns-clause-unmet c =
-    let new : OperationState = record { issued = Some c.args.cycle; wait = c.index_mut.result.now.wait } in
-    map-set_same (λ (s : OperationState). s.wait.unmet) c.args.self.now.states.items c.args.i new c.index_mut.result.now
-    (ap (λ (s : OperationState). s.wait.unmet) c.index_mut.ensures.value)
+    let new : OperationState = record { issued = Some c.args.cycle; unmet = c.index_mut.result.now.unmet; earliest = c.index_mut.result.now.earliest } in
+    map-set_same (λ (s : OperationState). s.unmet) c.args.self.now.states.items c.args.i new c.index_mut.result.now
+    (ap (λ (s : OperationState). s.unmet) c.index_mut.ensures.value)
 
 pub returns-clause-earliest : goal.returns-clause-earliest
 returns-clause-earliest c =
-    let new : OperationState = record { issued = Some c.args.cycle; wait = c.index_mut.result.now.wait } in
-    map-set_same (λ (s : OperationState). s.wait.earliest) c.args.self.now.states.items c.args.i new c.index_mut.result.now
-    (ap (λ (s : OperationState). s.wait.earliest) c.index_mut.ensures.value)
+    let new : OperationState = record { issued = Some c.args.cycle; unmet = c.index_mut.result.now.unmet; earliest = c.index_mut.result.now.earliest } in
+    map-set_same (λ (s : OperationState). s.earliest) c.args.self.now.states.items c.args.i new c.index_mut.result.now
+    (ap (λ (s : OperationState). s.earliest) c.index_mut.ensures.value)

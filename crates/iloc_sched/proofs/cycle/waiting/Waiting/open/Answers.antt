@@ -85,7 +85,7 @@ loop-j-preserved c =
     let p = c.args.plan.now in
     let e = p.tables.now.edges in
     let j = c.loop-j.j in
-    let state : OperationState = record { issued = None; wait = record { unmet = c.start-end.result - c.loop-j.place; earliest = 0 } } in
+    let state : OperationState = record { issued = None; unmet = c.start-end.result - c.loop-j.place; earliest = 0 } in
     let at = c.loop-j.invariant.place in
     let unmet : c.start-end.result - c.loop-j.place ≡ (graph_of e).start (j + 1) - (graph_of e).start j =
     ap (λ n. n - c.loop-j.place) c.start-end.ensures ∙ ap (λ n. (graph_of e).start (j + 1) - n) at in

@@ -13,13 +13,13 @@ use Rattle.iloc_sched.proofs.Walking.TableReads.{target_read}
 use Rattle.iloc_sched.proofs.Walking.WalkInTables.{target_waits, earliest_after, passed, places_kept}
 use Rattle.iloc_sched.proofs.cycle.waiting.Waiting.pass.Goals as goal
 
-pub overflow_sub-wait : goal.overflow_sub-wait
-overflow_sub-wait c =
+pub overflow_sub-unmet : goal.overflow_sub-unmet
+overflow_sub-unmet c =
     let p = c.args.plan.now in
     let e = p.tables.now.edges in
     let w = c.args.self.now in
     let x = c.args.x in
-    let read : c.index-state.result.now.wait.unmet ≡ (progress_of p.ranks.now w).unmet ((graph_of e).to x) =
+    let read : c.index-state.result.now.unmet ≡ (progress_of p.ranks.now w).unmet ((graph_of e).to x) =
     target_read p.ranks.now e w x c.get-edge.result c.index-state.result.now c.requires.plan.graph.is_graph c.requires.sized c.requires.there
     c.get-edge.ensures c.index-state.ensures in
     let some : 0 < (progress_of p.ranks.now w).unmet ((graph_of e).to x) =
@@ -46,11 +46,11 @@ returns-clause-waits c =
     let w = c.args.self.now in
     let x = c.args.x in
     let v : Waiting = record { states = c.change.new.self.states; calendar = c.put_if.new.self } in
-    let q : ℕ = c.index-state.result.now.wait.unmet - 1 in
-    let t : ℕ = c.max.result in
+    let q : ℕ = c.index-state.result.now.unmet - 1 in
+    let t : ℕ = c.max-earliest.result in
     let to_is : c.get-edge.result.to ≡ (graph_of e).to x = ap (λ (d : Edge). d.to) c.get-edge.ensures in
     let there : (graph_of e).to x < length e.heads.items = (c.requires.plan.graph.is_graph.to_there x c.requires.there).0 in
-    let read : c.index-state.result.now.wait.unmet ≡ (progress_of p.ranks.now w).unmet ((graph_of e).to x) =
+    let read : c.index-state.result.now.unmet ≡ (progress_of p.ranks.now w).unmet ((graph_of e).to x) =
     target_read p.ranks.now e w x c.get-edge.result c.index-state.result.now c.requires.plan.graph.is_graph c.requires.sized c.requires.there
     c.get-edge.ensures c.index-state.ensures in
     let some : 0 < (progress_of p.ranks.now w).unmet ((graph_of e).to x) =
@@ -66,7 +66,7 @@ returns-clause-waits c =
     (subst (λ j. earliest_list v ≡ set (earliest_list w) j t) to_is c.change.ensures.earliest)
     c.args.cycle c.requires.issued c.requires.waits (omega arith)
     (earliest_after p.ranks.now e w x c.args.cycle c.requires.plan.graph.is_graph c.requires.sized c.requires.there c.get-edge.result
-    c.index-state.result.now t c.get-edge.ensures c.index-state.ensures c.max.ensures)
+    c.index-state.result.now t c.get-edge.ensures c.index-state.ensures c.max-earliest.ensures)
     (subst (λ n. Enters n (bucket_of p.ranks.now w.calendar) (bucket_of p.ranks.now c.put_if.new.self) (t % 32) ((graph_of e).to x) (q ≡ 0))
     (sym c.requires.plan.graph.size)
     (puts_enters p c.requires.plan w.calendar c.put_if.new.self (t % 32) ((graph_of e).to x) (nat_eq q 0) (q ≡ 0) (omega arith)
@@ -79,8 +79,8 @@ returns-clause-keeps c =
     let w = c.args.self.now in
     let x = c.args.x in
     let v : Waiting = record { states = c.change.new.self.states; calendar = c.put_if.new.self } in
-    let q : ℕ = c.index-state.result.now.wait.unmet - 1 in
-    let t : ℕ = c.max.result in
+    let q : ℕ = c.index-state.result.now.unmet - 1 in
+    let t : ℕ = c.max-earliest.result in
     let to_is : c.get-edge.result.to ≡ (graph_of e).to x = ap (λ (d : Edge). d.to) c.get-edge.ensures in
     places_kept p.ranks.now e w v x q t c.requires.plan.graph.is_graph c.requires.sized c.requires.there c.change.ensures.issued
     (subst (λ j. unmet_list v ≡ set (unmet_list w) j q) to_is c.change.ensures.unmet)
@@ -93,8 +93,8 @@ returns-clause-calendar c =
     let e = p.tables.now.edges in
     let w = c.args.self.now in
     let x = c.args.x in
-    let q : ℕ = c.index-state.result.now.wait.unmet - 1 in
-    let t : ℕ = c.max.result in
+    let q : ℕ = c.index-state.result.now.unmet - 1 in
+    let t : ℕ = c.max-earliest.result in
     let to_is : c.get-edge.result.to ≡ (graph_of e).to x = ap (λ (d : Edge). d.to) c.get-edge.ensures in
     let there : (graph_of e).to x < length e.heads.items = (c.requires.plan.graph.is_graph.to_there x c.requires.there).0 in
     calendar_put p c.requires.plan w.calendar c.put_if.new.self c.requires.calendar (t % 32) ((graph_of e).to x) _ (omega arith)
