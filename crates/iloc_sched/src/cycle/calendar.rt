@@ -160,7 +160,9 @@ impl Calendar {
         move_summary(&mut self.summary, some, block, bucket);
     }
 
-    /// What is in a bucket becomes ready, block after block.
+    /// What is in a bucket becomes ready, block after block. The first stands by itself, here and where the first rank is found:
+    /// most have no other, and where its number is known the compiler finds words by less. In one loop with the others blocks of
+    /// a hundred operations take 25 instructions more for each of them.
     #[inline(always)]
     fn release_blocks(&mut self, bucket: usize)
         requires bucket { bucket < 32 }
@@ -169,7 +171,8 @@ impl Calendar {
         ensures releases { Releases self.old self.new bucket }
         ensures room { KeepsRoom self.old self.new }
     {
-        for block in 0..self.blocks {
+        self.release_block(bucket, 0);
+        for block in 1..self.blocks {
             self.release_block(bucket, block);
         }
     }
@@ -210,7 +213,10 @@ impl Calendar {
         ensures first { IsFirst (offers self.old beside) result }
         ensures same { HasSameSets self.old self.new }
     {
-        for block in 0..self.blocks {
+        if let Some(rank) = self.first_in_block(beside, 0) {
+            return Some(rank);
+        }
+        for block in 1..self.blocks {
             if let Some(rank) = self.first_in_block(beside, block) {
                 return Some(rank);
             }

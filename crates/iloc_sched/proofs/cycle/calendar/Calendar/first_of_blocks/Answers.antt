@@ -1,9 +1,6 @@
-use Rattle.std.proofs.Common.{refl, arith}
+use Rattle.std.proofs.Common.{arith}
 use Rattle.iloc_sched.proofs.Ranks.Sets.{none_in_blocks}
 use Rattle.iloc_sched.proofs.cycle.calendar.Calendar.first_of_blocks.Goals as goal
-
-pub loop-block-init : goal.loop-block-init
-loop-block-init c = record { passed = λ r low. absurd (omega arith); same = record { words = refl; blocks = refl } }
 
 pub returns-clause-first : goal.returns-clause-first
 returns-clause-first c =
