@@ -19,6 +19,13 @@ pub place_small : (k : Class) → place_of k < 4
 place_small C.Memory = omega arith
 place_small _ = omega arith
 
+-- an operation of the rest keeps nothing out
+pub rest_is_free : (k : Class) → place_of k ≡ 3 → excludes k k ≡ false
+rest_is_free C.Memory last = absurd (omega arith)
+rest_is_free C.Product last = absurd (omega arith)
+rest_is_free C.Output last = absurd (omega arith)
+rest_is_free C.Rest last = refl
+
 same_class : (l k : Class) → place_of l ≡ place_of k → (excludes k k || false) ≡ excludes l k
 same_class C.Memory C.Memory same = refl
 same_class C.Product C.Product same = refl

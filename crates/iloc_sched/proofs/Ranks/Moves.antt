@@ -212,4 +212,7 @@ module _ (summary summary' words words' : List ℕ) (block b some : ℕ) (small 
         (λ elsewhere. same_bits t w low (λ here. absurd (elsewhere here)));
     closed = closed_bits;
     there = there_bits;
+    rest = λ r. ap (λ x. bit_at x (r % 64))
+        (below_else 36 (r / 64) (omega arith) (λ _. ((λ same. absurd (omega arith)), (λ same. absurd (omega arith)))))
+        ∙ right.rest r;
   }

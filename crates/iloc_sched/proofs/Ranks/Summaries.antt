@@ -1,7 +1,7 @@
 -- A rank is added to a set or taken out, or words are searched, and the summary stays right.
 use Rattle.std.proofs.Common.{◌≡◌, ℕ, ◌+◌, ◌-◌, ◌*◌, ◌/◌, ◌%◌, ◌^◌, ◌<◌, ◌≤◌, List, length, set, min, max, Bool, true, false, ap, ap₂, sym, ◌∙◌, arith, bit_and, bit_or, length-set}
 use Rattle.std.specs.Int.{bit_at}
-use Rattle.std.proofs.lemmas.Nat.Bits.{bit_at-lt}
+use Rattle.std.proofs.lemmas.Nat.Bits.{bit_at-lt, bit_at_and}
 use Rattle.iloc_sched.specs.Steps.Cycle.RankSets.{word_at, rank_bit, open_bit, IsSummary, IsSearched, AddsBit, TakesBit}
 use Rattle.iloc_meaning.proofs.Cases.{by_bool}
 use Rattle.iloc_sched.proofs.Basics.Cases.{by_eq}
@@ -59,20 +59,24 @@ module _ (summary summary' words words' : List ℕ) (s k : ℕ) (small : s < 32)
         let h = right.there c w low (λ none. some (above.others (33 + c) w (omega arith) (λ same _. absurd (omega arith)) ∙ none)) in
         let size = below.size in
         omega arith;
+    rest = λ r. below.others 36 r (omega arith) (λ same _. absurd (omega arith)) ∙ right.rest r;
   }
 
 -- where no more is open than before
 module _ (summary words words' : List ℕ) (right : IsSummary summary words) where
   less_open : ((s w : ℕ) → s < 32 → word_at words' s w ≡ word_at words s w)
-      → ((c r : ℕ) → c < 4 → open_bit words' c r ≤ open_bit words c r) → length words' ≡ length words → IsSummary summary words'
-  less_open same less size = record {
+      → ((c r : ℕ) → c < 4 → open_bit words' c r ≤ open_bit words c r) → length words' ≡ length words
+      → ((r : ℕ) → rank_bit words' 36 r ≡ 0) → IsSummary summary words'
+  less_open same less size rest = record {
     buckets = λ s w low. right.buckets s w low ∙ ap (min 1) (sym (same s w low));
     closed = λ c r low none. let was = right.closed c r low none in let most = less c r low in omega arith;
     there = λ c w low some. let h = right.there c w low some in omega arith;
+    rest = rest;
   }
 
-  pub IsSummary-kept_out : (j k : ℕ) (b : Bool) → j < 4 → AddsBit words words' b (33 + j) k → IsSummary summary words'
-  IsSummary-kept_out j k b small adds = less_open
+  pub IsSummary-kept_out : (j k : ℕ) (b : Bool) → j < 4 → (j ≡ 3 → b ≡ false) → AddsBit words words' b (33 + j) k
+      → IsSummary summary words'
+  IsSummary-kept_out j k b small free adds = less_open
       (λ s w low. adds.words_kept s w (omega arith) (λ same _. absurd (omega arith)))
       (λ c r low.
       let ready = adds.others 32 r (omega arith) (λ same _. absurd (omega arith)) in
@@ -83,6 +87,13 @@ module _ (summary words words' : List ℕ) (right : IsSummary summary words) whe
       omega arith)
       (λ other. let kept = adds.others (33 + c) r (omega arith) other in omega arith))
       adds.size
+      (λ r. by_both 36 (33 + j) r k
+      (λ same at.
+      let now : rank_bit words' 36 r ≡ max (rank_bit words (33 + j) k) (one_if b) = ap₂ (rank_bit words') same at ∙ adds.here in
+      let was : rank_bit words (33 + j) k ≡ 0 = ap₂ (rank_bit words) (sym same) (sym at) ∙ right.rest r in
+      let none : one_if b ≡ 0 = ap one_if (free (omega arith)) in
+      omega arith)
+      (λ other. adds.others 36 r (omega arith) other ∙ right.rest r))
 
   pub IsSummary-taken : (k : ℕ) → TakesBit words words' true 32 k → IsSummary summary words'
   IsSummary-taken k takes = less_open
@@ -93,6 +104,7 @@ module _ (summary words words' : List ℕ) (right : IsSummary summary words) whe
       (λ at. let gone = ap (rank_bit words' 32) at ∙ takes.here in omega arith)
       (λ apart. let ready = takes.others 32 r (omega arith) (λ _ at. apart at) in omega arith))
       takes.size
+      (λ r. takes.others 36 r (omega arith) (λ same _. absurd (omega arith)) ∙ right.rest r)
 
 -- a word leaves the summary of a class if nothing is ready in it
 pub IsSummary-emptied : (summary summary' words : List ℕ) (j w : ℕ) (b : Bool) → j < 4 → IsSummary summary words
@@ -111,6 +123,7 @@ IsSummary-emptied summary summary' words j w b small right none takes = record {
       let before = ap₂ (rank_bit summary) same at in
       held (omega arith)))
       (λ other. right.there c v low (λ was. held (takes.others (33 + c) v (omega arith) other ∙ was)));
+  rest = right.rest;
 }
   where
     stays : b ≡ false → rank_bit summary (33 + j) w ≡ rank_bit summary' (33 + j) w
@@ -121,7 +134,8 @@ IsSummary-emptied summary summary' words j w b small right none takes = record {
 
 -- the words of a block were searched for what is open beside a class
 module _ (summary words : List ℕ) (k block some left : ℕ) (small : k < 4) (there : block * 37 + 37 ≤ length summary)
-    (right : IsSummary summary words) (is : some ≡ word_at summary (33 + k) block) (searched : IsSearched words k block some left) where
+    (right : IsSummary summary words) (fits : (i : ℕ) → bit_at (word_at summary (33 + k) block) i ≡ 0 → bit_at some i ≡ 0)
+    (searched : IsSearched words k block some left) where
   abbrev cleared : List ℕ
   cleared = set summary (block * 37 + (33 + k)) left
 
@@ -129,8 +143,8 @@ module _ (summary words : List ℕ) (k block some left : ℕ) (small : k < 4) (t
   bit_here t w same at = ap₂ (λ a b. bit_at (word_at cleared a b) (w % 64)) same at
       ∙ ap (λ x. bit_at x (w % 64)) (cell_same summary (33 + k) block left (omega arith))
 
-  bit_was : (t w : ℕ) → t ≡ 33 + k → w / 64 ≡ block → bit_at some (w % 64) ≡ rank_bit summary t w
-  bit_was t w same at = ap (λ x. bit_at x (w % 64)) is ∙ ap₂ (λ a b. bit_at (word_at summary a b) (w % 64)) (sym same) (sym at)
+  bit_was : (t w : ℕ) → t ≡ 33 + k → w / 64 ≡ block → rank_bit summary t w ≡ 0 → bit_at some (w % 64) ≡ 0
+  bit_was t w same at none = fits (w % 64) (ap₂ (λ a b. bit_at (word_at summary a b) (w % 64)) (sym same) (sym at) ∙ none)
 
   bit_else : (t w : ℕ) → t < 37 → (t ≡ 33 + k → w / 64 ≡ block → ⊥) → rank_bit cleared t w ≡ rank_bit summary t w
   bit_else t w low other = ap (λ x. bit_at x (w % 64)) (cell_other summary (33 + k) block left (omega arith) t (w / 64) low other)
@@ -145,6 +159,26 @@ module _ (summary words : List ℕ) (k block some left : ℕ) (small : k < 4) (t
         (λ other. right.closed j r low (sym (bit_else (33 + j) (r / 64) (omega arith) other) ∙ none));
     there = λ j w low set. by_both (33 + j) (33 + k) (w / 64) block
         (λ same at. right.there j w low
-        (λ none. searched.within (w % 64) (omega arith) (λ out. set (bit_here (33 + j) w same at ∙ out)) (bit_was (33 + j) w same at ∙ none)))
+        (λ none. searched.within (w % 64) (omega arith) (λ out. set (bit_here (33 + j) w same at ∙ out)) (bit_was (33 + j) w same at none)))
         (λ other. right.there j w low (λ none. set (bit_else (33 + j) w (omega arith) other ∙ none)));
+    rest = right.rest;
   }
+
+-- what isn't in both summaries, of a class and of the rest, isn't open beside the class
+module _ (summary words : List ℕ) (k block : ℕ) (small : k < 4) (right : IsSummary summary words) where
+  abbrev both : ℕ
+  both = bit_and (word_at summary (33 + k) block) (word_at summary 36 block)
+
+  pub both_less : (i : ℕ) → bit_at (word_at summary (33 + k) block) i ≡ 0 → bit_at both i ≡ 0
+  both_less i none = let e = bit_at_and (word_at summary (33 + k) block) (word_at summary 36 block) i in omega arith
+
+  pub both_closed : (r : ℕ) → r / 64 / 64 ≡ block → bit_at both (r / 64 % 64) ≡ 0 → open_bit words k r ≡ 0
+  both_closed r here none =
+      let e = bit_at_and (word_at summary (33 + k) block) (word_at summary 36 block) (r / 64 % 64) in
+      let class : rank_bit summary (33 + k) (r / 64) ≡ bit_at (word_at summary (33 + k) block) (r / 64 % 64) =
+      ap (λ v. bit_at (word_at summary (33 + k) v) (r / 64 % 64)) here in
+      let all : rank_bit summary 36 (r / 64) ≡ bit_at (word_at summary 36 block) (r / 64 % 64) =
+      ap (λ v. bit_at (word_at summary 36 v) (r / 64 % 64)) here in
+      by_eq (rank_bit summary (33 + k) (r / 64)) 0
+      (right.closed k r small)
+      (λ some. let ready = right.closed 3 r (omega arith) (omega arith) in let free = right.rest r in omega arith)

@@ -53,7 +53,7 @@ pub struct Calendar {
 
 impl Calendar {
     ghost use Rattle.std.specs.Prelude.{◌||◌, true, false};
-    ghost use Rattle.iloc_sched.specs.Steps.Cycle.Classes.{place_of};
+    ghost use Rattle.iloc_sched.specs.Steps.Cycle.Classes.{excludes, place_of};
     ghost use Rattle.iloc_sched.specs.Steps.Cycle.Calendar.{has, offers, IsWithin, HasRoom, KeepsRoom, HasSameSets, Puts, Releases, Takes, IsFirst};
 
     /// No rank, and capacity for none.
@@ -124,16 +124,16 @@ impl Calendar {
         }
     }
 
-    /// An operation of the class keeps this rank out, if the condition holds.
+    /// Notes a rank of this class: an operation of the class keeps it out, but for the rest, which keeps nothing out.
     #[inline(always)]
-    pub fn keep_out_if(&mut self, condition: bool, class: Class, rank: u32)
+    pub fn keep_out(&mut self, class: Class, rank: u32)
         requires { IsWithin self.old rank }
-        ensures puts { Puts self.old self.new (33 + place_of class) rank (condition || has self.old (33 + place_of class) rank) }
+        ensures puts { Puts self.old self.new (33 + place_of class) rank (excludes class class || has self.old (33 + place_of class) rank) }
         ensures room { KeepsRoom self.old self.new }
     {
         add_if(
             &mut self.words,
-            condition,
+            class.is_limited(),
             KEPT_OUT + class.place(),
             rank as usize,
         );
@@ -201,7 +201,10 @@ impl Calendar {
     {
         let class = beside.place();
         let at = block * SETS + (KEPT_OUT + class);
-        let (first, left) = first_of_block(&self.words, self.summary[at], block, class);
+        // Where nothing is ready any more, nothing is open: if such words were gone through, `counts` would mispredict 0.2 branches
+        // more for each operation of a block of a hundred.
+        let some = self.summary[at] & self.summary[block * SETS + OF_REST];
+        let (first, left) = first_of_block(&self.words, some, block, class);
         self.summary[at] = left;
         first
     }

@@ -75,7 +75,7 @@ impl Waiting {
             });
             let rank = plan.ranks[j];
             let class = Class::of(plan.kind_of(j as u32));
-            self.calendar.keep_out_if(class.is_limited(), class, rank);
+            self.calendar.keep_out(class, rank);
             self.calendar.put_if(place == end, rank, 0);
             place = end;
         }

@@ -63,8 +63,9 @@ pub record IsSearched (words : List ℕ) (k block some left : ℕ) : Type 0 wher
   pub within : (i : ℕ) → i < 64 → bit_at left i ≢ 0 → bit_at some i ≢ 0
 
 -- By bucket bit w of the summary says whether word w has a bit. By class it says whether word w, which is there, may have a
--- rank that is open.
+-- rank that is open. The rest keeps nothing out.
 pub record IsSummary (summary words : List ℕ) : Type 0 where
   pub buckets : (s w : ℕ) → s < 32 → rank_bit summary s w ≡ min 1 (word_at words s w)
   pub closed : (k r : ℕ) → k < 4 → rank_bit summary (33 + k) (r / 64) ≡ 0 → open_bit words k r ≡ 0
   pub there : (k w : ℕ) → k < 4 → rank_bit summary (33 + k) w ≢ 0 → w * 37 + 37 ≤ length words
+  pub rest : (r : ℕ) → rank_bit words 36 r ≡ 0

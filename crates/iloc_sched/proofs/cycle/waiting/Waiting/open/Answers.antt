@@ -1,8 +1,8 @@
-use Rattle.std.proofs.Common.{◌≡◌, ◌+◌, ◌-◌, ◌<◌, ◌≤◌, ◌||◌, length, ap, None, nat_eq, refl, ◌∙◌, subst, arith}
+use Rattle.std.proofs.Common.{◌≡◌, ◌+◌, ◌-◌, ◌<◌, ◌≤◌, length, ap, None, nat_eq, refl, ◌∙◌, subst, arith}
 use Rattle.iloc_sched.specs.declared.cycle.waiting.OperationState.{OperationState}
 use Rattle.iloc_sched.specs.declared.cycle.waiting.Waiting.{Waiting}
-use Rattle.iloc_sched.specs.Steps.Cycle.Calendar.{has, HasRoom, Puts}
-use Rattle.iloc_sched.specs.Steps.Cycle.Classes.{class_of, place_of}
+use Rattle.iloc_sched.specs.Steps.Cycle.Calendar.{HasRoom}
+use Rattle.iloc_sched.specs.Steps.Cycle.Classes.{class_of}
 use Rattle.iloc_sched.specs.Steps.Cycle.Opening.{IsOpening}
 use Rattle.iloc_sched.specs.Steps.Cycle.SoFar.{rank_of}
 use Rattle.iloc_sched.specs.Steps.Views.{graph_of}
@@ -24,8 +24,8 @@ loop-j-init c = record {
   capacity = omega (arith, c.in_ok-reserve.ensures.ok, c.reserve.ensures.len, c.clear-2.ensures.len);
 }
 
-pub keep_out_if-requires : goal.keep_out_if-requires
-keep_out_if-requires c =
+pub keep_out-requires : goal.keep_out-requires
+keep_out-requires c =
     let size = c.requires.plan.graph.size in
     let count = c.requires.plan.priorities in
     let all = c.op_count-count.ensures in
@@ -39,7 +39,7 @@ put_if-requires c =
     let count = c.requires.plan.priorities in
     let all = c.op_count-count.ensures in
     let low = c.requires.plan.ranked.within c.loop-j.j (omega arith) in
-    within_kept c.loop-j.self.calendar c.keep_out_if.new.self r c.keep_out_if.ensures.room
+    within_kept c.loop-j.self.calendar c.keep_out.new.self r c.keep_out.ensures.room
     (c.loop-j.invariant.opening.room.ranks r (omega arith))
 
 pub overflow_sub-end : goal.overflow_sub-end
@@ -95,12 +95,11 @@ loop-j-preserved c =
     let v : Waiting = record { states = c.push_reserved.new.self; calendar = c.put_if.new.self } in
     let below : j < length e.heads.items = omega (arith, c.op_count-count.ensures) in
     record {
-      opening = opening_more p c.loop-j.self v c.keep_out_if.new.self j state c.requires.plan
+      opening = opening_more p c.loop-j.self v c.keep_out.new.self j state c.requires.plan
           (subst (λ n. j < n) c.requires.plan.graph.size below)
           c.loop-j.invariant.opening c.push_reserved.ensures.items refl unmet refl k (c.of-class.ensures ∙ ap class_of c.kind_of.ensures)
-          (subst (λ b. Puts c.loop-j.self.calendar c.keep_out_if.new.self (33 + place_of k) (rank_of p j)
-          (b || has c.loop-j.self.calendar (33 + place_of k) (rank_of p j))) c.is_limited.ensures c.keep_out_if.ensures.puts)
-          c.keep_out_if.ensures.room (nat_eq c.loop-j.place c.start-end.result) ready
+          c.keep_out.ensures.puts
+          c.keep_out.ensures.room (nat_eq c.loop-j.place c.start-end.result) ready
           c.put_if.ensures.puts c.put_if.ensures.room;
       place = c.start-end.ensures;
       size = omega arith;
