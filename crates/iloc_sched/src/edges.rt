@@ -8,7 +8,7 @@ ghost use Rattle.iloc_ops.specs.Limits.{MAX_OPS};
 ghost use Rattle.iloc_ops.specs.declared.op.Op.{Op};
 ghost use Rattle.iloc_ops.specs.Registers.{used};
 ghost use Rattle.iloc_timed.specs.declared.latencies.Latencies.{Latencies};
-ghost use Rattle.iloc_timed.specs.Kinds.{kind};
+ghost use Rattle.iloc_timed.specs.Kinds.{kind as kind_of};
 ghost use Rattle.iloc_timed.specs.Latency.{latency};
 ghost use Rattle.iloc_meaning.specs.Trace.{op_at};
 ghost use Rattle.iloc_sched.specs.Renaming.{IsRenamed};
@@ -241,7 +241,7 @@ impl Edges {
         register: Reg,
         j: usize,
     )
-        requires next { IsNext operations.now.ops.now operations.now.kinds.now lasts.now j }
+        requires next { IsNext operations.now.ops.now lasts.now j }
         requires own { operations.now.latencies.now ≡ map (latency latencies.now) operations.now.ops.now }
         requires used { Contains (used (op_at operations.now.ops.now j)) register }
         requires space { length self.old.edges.items < 5 * length self.old.heads.items }
@@ -267,7 +267,7 @@ impl Edges {
         uses: Uses,
         j: usize,
     )
-        requires next { IsNext operations.now.ops.now operations.now.kinds.now lasts.now j }
+        requires next { IsNext operations.now.ops.now lasts.now j }
         requires uses { listed uses ≡ used (op_at operations.now.ops.now j) }
         requires own { operations.now.latencies.now ≡ map (latency latencies.now) operations.now.ops.now }
         requires space { length self.old.edges.items + 2 ≤ 5 * length self.old.heads.items }
@@ -295,20 +295,22 @@ impl Edges {
         operations: &Operations,
         latencies: &Latencies,
         lasts: &Lasts,
+        kind: Kind,
         j: usize,
     )
-        requires next { IsNext operations.now.ops.now operations.now.kinds.now lasts.now j }
+        requires of { kind ≡ kind_of (op_at operations.now.ops.now j) }
+        requires next { IsNext operations.now.ops.now lasts.now j }
         requires space { length self.old.edges.items + 2 + length lasts.now.loads.items ≤ 5 * length self.old.heads.items }
         requires capacity { HasCapacity self.old (length self.old.heads.items) }
         requires partial { IsPartialGraph latencies.now operations.now.ops.now (graph_of self.old) j }
         ensures grows { Grows latencies.now operations.now.ops.now (graph_of self.old) (graph_of self.new) j }
         ensures covers { CoversMemory latencies.now operations.now.ops.now (graph_of self.new) j }
         ensures count { length self.new.edges.items ≤ length self.old.edges.items + 2
-            + loads_before (kind (op_at operations.now.ops.now j)) lasts.now }
+            + loads_before kind lasts.now }
         ensures frame { KeepsFrame self.old self.new }
     {
         let to = j as u32;
-        match operations.kinds[j] {
+        match kind {
             Kind::Load => self.add_from(lasts.store, to, latencies.store),
             Kind::Output => {
                 self.add_from(lasts.store, to, latencies.store);
@@ -330,11 +332,13 @@ impl Edges {
         operations: &Operations,
         latencies: &Latencies,
         lasts: &Lasts,
+        kind: Kind,
         uses: Uses,
         j: usize,
     )
+        requires of { kind ≡ kind_of (op_at operations.now.ops.now j) }
         requires uses { listed uses ≡ used (op_at operations.now.ops.now j) }
-        requires next { IsNext operations.now.ops.now operations.now.kinds.now lasts.now j }
+        requires next { IsNext operations.now.ops.now lasts.now j }
         requires own { operations.now.latencies.now ≡ map (latency latencies.now) operations.now.ops.now }
         requires space { length self.old.edges.items + 4 + length lasts.now.loads.items ≤ 5 * length self.old.heads.items }
         requires capacity { HasCapacity self.old (length self.old.heads.items) }
@@ -342,13 +346,13 @@ impl Edges {
         requires partial { IsPartialGraph latencies.now operations.now.ops.now (graph_of self.old) j }
         ensures partial { IsPartialGraph latencies.now operations.now.ops.now (graph_of self.new) (j + 1) }
         ensures count { length self.new.edges.items ≤ length self.old.edges.items + 4
-            + loads_before (kind (op_at operations.now.ops.now j)) lasts.now }
+            + loads_before kind lasts.now }
         ensures starts { length self.new.starts.items ≡ j + 2 }
         ensures heads { length self.new.heads.items ≡ length self.old.heads.items }
         ensures capacity { KeepsCapacity self.old self.new }
     {
         self.add_uses(operations, latencies, lasts, uses, j);
-        self.add_memory(operations, latencies, lasts, j);
+        self.add_memory(operations, latencies, lasts, kind, j);
         self.starts.push_reserved(self.edges.len() as u32);
     }
 
@@ -362,16 +366,17 @@ impl Edges {
     ) -> Result<(), NoMemory>
         requires few { length operations.now.ops.now ≤ MAX_OPS }
         requires renamed { IsRenamed operations.now.ops.now }
-        requires kinds { operations.now.kinds.now ≡ map kind operations.now.ops.now }
         requires own { operations.now.latencies.now ≡ map (latency latencies.now) operations.now.ops.now }
         ensures { OnOk result (IsGraphOf latencies.now operations.now.ops.now (graph_of self.new)) }
     {
         self.clear(operations.ops.len())?;
         lasts.clear(registers);
         for j in 0..operations.ops.len() {
-            let registers = OperandRegisters::of(&operations.ops[j]);
-            self.add_all(operations, latencies, lasts, registers.uses, j);
-            lasts.note(operations, registers.defines, j)?;
+            let op = operations.ops[j];
+            let registers = OperandRegisters::of(&op);
+            let kind = Kind::of(&op);
+            self.add_all(operations, latencies, lasts, kind, registers.uses, j);
+            lasts.note(kind, registers.defines, j)?;
         }
         Ok(())
     }

@@ -105,12 +105,10 @@ impl Tables {
         self.edges.grow();
         let operations = Operations {
             ops: &self.ops,
-            kinds: &self.kinds,
             latencies: &self.own,
         };
-        self.edges
-            .add_all(&operations, &self.latencies, lasts, registers.uses, j);
-        lasts.note(&operations, registers.defines, j)?;
+        self.edges.add_all(&operations, &self.latencies, lasts, kind, registers.uses, j);
+        lasts.note(kind, registers.defines, j)?;
         Ok(())
     }
 
@@ -238,7 +236,6 @@ impl Tables {
         fill_latencies(&mut self.own, &self.kinds, latencies)?;
         let operations = Operations {
             ops,
-            kinds: &self.kinds,
             latencies: &self.own,
         };
         self.edges

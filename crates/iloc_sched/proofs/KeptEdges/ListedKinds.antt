@@ -14,10 +14,6 @@ pub kind_listed : (ops : List Op) (kinds : List Kind) (j : ℕ) (d : Kind) → k
     → get_or kinds j d ≡ kind (op_at ops j)
 kind_listed ops kinds j d is there = ap (λ ks. get_or ks j d) is ∙ get_or-map kind ops j Nop d there
 
-pub kind_read : (ops : List Op) (kinds : List Kind) (j : ℕ) (q d : Kind) → kinds ≡ map kind ops → j < length ops
-    → get_or kinds j d ≡ q → kind (op_at ops j) ≡ q
-kind_read ops kinds j q d is there read = sym (kind_listed ops kinds j d is there) ∙ read
-
 -- latencies by the list of kinds are those of the operations
 pub latencies_by_kinds : (lat : Latencies) (ops : List Op) → map (latency_of lat) (map kind ops) ≡ map (latency lat) ops
 latencies_by_kinds lat [] = refl

@@ -152,13 +152,11 @@ module _ (ops : List Op) (op : Op) where
       ∙ ap (map (latency lat)) (sym ops_is)
 
   -- it is the next
-  pub is_next : (kinds kinds' : List Kind) (lasts : Lasts) (j : ℕ) (ops' : List Op) → ops' ≡ ops ++ op ∷ []
-      → kinds' ≡ kinds ++ kind op ∷ [] → kinds ≡ map kind ops → j ≡ length ops → IsRenamed (ops ++ op ∷ [])
-      → length ops < 10000 → IsLasts ops lasts (length ops) → IsNext ops' kinds' lasts j
-  is_next kinds kinds' lasts j ops' ops_is kinds_is kinds_were at renamed few known =
-      subst (λ xs. IsNext xs kinds' lasts j) (sym ops_is)
-      (subst (λ n. IsNext (ops ++ op ∷ []) kinds' lasts n) (sym at) (record {
-        kinds_known = kinds_is ∙ ap (λ ks. ks ++ kind op ∷ []) kinds_were ∙ sym (map-append kind ops (op ∷ []));
+  pub is_next : (lasts : Lasts) (j : ℕ) (ops' : List Op) → ops' ≡ ops ++ op ∷ [] → j ≡ length ops
+      → IsRenamed (ops ++ op ∷ []) → length ops < 10000 → IsLasts ops lasts (length ops) → IsNext ops' lasts j
+  is_next lasts j ops' ops_is at renamed few known =
+      subst (λ xs. IsNext xs lasts j) (sym ops_is)
+      (subst (λ n. IsNext (ops ++ op ∷ []) lasts n) (sym at) (record {
         renamed = renamed;
         few = omega (arith, size_more);
         there = omega (arith, size_more);

@@ -5,11 +5,10 @@ ghost use Rattle.iloc_timed.specs.Kinds.{kind};
 use iloc_ops::{NoMemory, Op};
 use iloc_timed::Kind;
 
-/// Operations with the kind and the latency of each.
+/// Operations with the latency of each.
 #[derive(Clone, Copy)]
 pub(crate) struct Operations<'a> {
     pub ops: &'a [Op],
-    pub kinds: &'a [Kind],
     pub latencies: &'a [u32],
 }
 

@@ -1,12 +1,11 @@
 //! The earlier operations that a later one may have to wait for.
-ghost use Rattle.std.specs.Prelude.{◌≡◌, ◌≤◌, ◌<◌, ◌+◌, length, map, List, OnOk};
+ghost use Rattle.std.specs.Prelude.{◌≡◌, ◌≤◌, ◌<◌, ◌+◌, length, List, OnOk};
 ghost use Rattle.iloc_ops.specs.declared.op.Op.{Op};
 ghost use Rattle.iloc_ops.specs.Registers.{defined as defined_by};
 ghost use Rattle.iloc_meaning.specs.Trace.{op_at};
-ghost use Rattle.iloc_timed.specs.Kinds.{kind};
+ghost use Rattle.iloc_timed.specs.Kinds.{kind as kind_of};
 
 use crate::by_register::ByRegister;
-use crate::edges::kinds::Operations;
 use iloc_ops::{MAX_OPS, NoMemory, Reg};
 use iloc_timed::Kind;
 use std::alloc::Global;
@@ -80,26 +79,18 @@ impl Lasts {
         Ok(())
     }
 
-    /// Operation j is one of the earlier ones from now on.
+    /// Operation j, of this kind, is one of the earlier ones from now on.
     #[inline(always)]
-    pub fn note(
-        &mut self,
-        operations: &Operations,
-        defined: Option<Reg>,
-        j: usize,
-    ) -> Result<(), NoMemory>
-        requires few { length operations.now.ops.now ≤ MAX_OPS }
-        requires there { j < length operations.now.ops.now }
-        requires kinds { operations.now.kinds.now ≡ map kind operations.now.ops.now }
-        requires defined { defined ≡ defined_by (op_at operations.now.ops.now j) }
-        requires lasts { IsLasts operations.now.ops.now self.old j }
-        ensures lasts { OnOk result (IsLasts operations.now.ops.now self.new (j + 1)) }
-        ensures loads { OnOk result (length self.new.loads.items + loads_before (kind (op_at operations.now.ops.now j)) self.old
+    pub fn note(&mut self, kind: Kind, defined: Option<Reg>, j: usize) -> Result<(), NoMemory>
+        requires few { j < MAX_OPS }
+        ensures lasts { OnOk result ((ops : List Op) → kind ≡ kind_of (op_at ops j) → defined ≡ defined_by (op_at ops j)
+            → IsLasts ops self.old j → IsLasts ops self.new (j + 1)) }
+        ensures loads { OnOk result (length self.new.loads.items + loads_before kind self.old
             ≤ length self.old.loads.items + 1) }
     {
         // The kind first, next to the edges by kind, so that both share jumps: in the other order `counts` mispredicts 0.3
         // branches more for each operation.
-        self.note_kind(operations.kinds[j], j as u32)?;
+        self.note_kind(kind, j as u32)?;
         self.note_definition(defined, j as u32)
     }
 }

@@ -1,41 +1,39 @@
-use Rattle.std.proofs.Common.{subst}
-use Rattle.iloc_timed.specs.declared.kind.Kind.TheVariants as K
+use Rattle.std.proofs.Common.{sym, ◌∙◌, subst}
 use Rattle.iloc_sched.specs.Steps.Members.{In}
 use Rattle.iloc_sched.specs.Steps.Edges.PartialGraph.{AddsFrom}
 use Rattle.iloc_sched.specs.Steps.Views.{graph_of}
-use Rattle.iloc_sched.proofs.KeptEdges.ListedKinds.{kind_read}
 use Rattle.iloc_sched.proofs.KeptEdges.AddedEdges.{memory_load, memory_output, memory_store}
 use Rattle.iloc_sched.proofs.edges.Edges.add_memory.Goals as goal
 
 pub returns-in-Load-clause-grows : goal.returns-in-Load-clause-grows
 returns-in-Load-clause-grows c =
     (memory_load _ _ _ _ c.requires.next.known c.requires.next.there _ (graph_of c.add_from.new.self)
-    c.requires.partial (kind_read _ _ _ K.Load _ c.requires.next.kinds_known c.requires.next.there c.in-Load.is) c.add_from.ensures.adds).0
+    c.requires.partial (sym c.requires.of ∙ c.in-Load.is) c.add_from.ensures.adds).0
 
 pub returns-in-Load-clause-covers : goal.returns-in-Load-clause-covers
 returns-in-Load-clause-covers c =
     (memory_load _ _ _ _ c.requires.next.known c.requires.next.there _ (graph_of c.add_from.new.self)
-    c.requires.partial (kind_read _ _ _ K.Load _ c.requires.next.kinds_known c.requires.next.there c.in-Load.is) c.add_from.ensures.adds).1
+    c.requires.partial (sym c.requires.of ∙ c.in-Load.is) c.add_from.ensures.adds).1
 
 pub returns-in-Output-clause-grows : goal.returns-in-Output-clause-grows
 returns-in-Output-clause-grows c =
     (memory_output _ _ _ _ c.requires.next.known c.requires.next.there _ (graph_of c.add_from-in-Output.new.self)
     (graph_of c.add_from-in-Output-2.new.self) c.requires.partial
-    (kind_read _ _ _ K.Output _ c.requires.next.kinds_known c.requires.next.there c.in-Output.is)
+    (sym c.requires.of ∙ c.in-Output.is)
     c.add_from-in-Output.ensures.adds c.add_from-in-Output-2.ensures.adds).0
 
 pub returns-in-Output-clause-covers : goal.returns-in-Output-clause-covers
 returns-in-Output-clause-covers c =
     (memory_output _ _ _ _ c.requires.next.known c.requires.next.there _ (graph_of c.add_from-in-Output.new.self)
     (graph_of c.add_from-in-Output-2.new.self) c.requires.partial
-    (kind_read _ _ _ K.Output _ c.requires.next.kinds_known c.requires.next.there c.in-Output.is)
+    (sym c.requires.of ∙ c.in-Output.is)
     c.add_from-in-Output.ensures.adds c.add_from-in-Output-2.ensures.adds).1
 
 pub returns-in-Store-clause-grows : goal.returns-in-Store-clause-grows
 returns-in-Store-clause-grows c =
     (memory_store _ _ _ _ c.requires.next.known c.requires.next.there _ (graph_of c.add_from-in-Store.new.self)
     (graph_of c.add_from-in-Store-2.new.self) (graph_of c.add_each.new.self) c.requires.partial
-    (kind_read _ _ _ K.Store _ c.requires.next.kinds_known c.requires.next.there c.in-Store.is)
+    (sym c.requires.of ∙ c.in-Store.is)
     c.add_from-in-Store.ensures.adds c.add_from-in-Store-2.ensures.adds
     (subst (λ xs. AddsFrom (In xs) (graph_of c.add_from-in-Store-2.new.self) (graph_of c.add_each.new.self) c.args.j
     1) c.deref.ensures.value c.add_each.ensures.adds)).0
@@ -44,7 +42,7 @@ pub returns-in-Store-clause-covers : goal.returns-in-Store-clause-covers
 returns-in-Store-clause-covers c =
     (memory_store _ _ _ _ c.requires.next.known c.requires.next.there _ (graph_of c.add_from-in-Store.new.self)
     (graph_of c.add_from-in-Store-2.new.self) (graph_of c.add_each.new.self) c.requires.partial
-    (kind_read _ _ _ K.Store _ c.requires.next.kinds_known c.requires.next.there c.in-Store.is)
+    (sym c.requires.of ∙ c.in-Store.is)
     c.add_from-in-Store.ensures.adds c.add_from-in-Store-2.ensures.adds
     (subst (λ xs. AddsFrom (In xs) (graph_of c.add_from-in-Store-2.new.self) (graph_of c.add_each.new.self) c.args.j
     1) c.deref.ensures.value c.add_each.ensures.adds)).1

@@ -1,4 +1,8 @@
-use Rattle.std.proofs.Common.{◌≡◌, length, refl, subst, arith}
+use Rattle.std.proofs.Common.{◌≡◌, ◌<◌, length, refl, ◌∙◌, ap, subst, arith}
+use Rattle.std.proofs.lemmas.List.{get_or_default}
+use Rattle.iloc_ops.specs.declared.op.Op.TheVariants.{Nop}
+use Rattle.iloc_ops.specs.Registers.{defined}
+use Rattle.iloc_timed.specs.Kinds.{kind}
 use Rattle.iloc_sched.specs.Steps.Edges.PartialGraph.{IsPartialGraph}
 use Rattle.iloc_sched.specs.Steps.Views.{graph_of}
 use Rattle.iloc_sched.proofs.KeptEdges.PartialGraphs.{kept_at_end}
@@ -17,6 +21,23 @@ loop-j-init c =
         edges = omega (arith, size, capacity.edges);
       };
       count = omega (arith, c.in_ok-clear.ensures.edges, c.clear-2.ensures.loads);
+    }
+
+pub loop-j-preserved : goal.loop-j-preserved
+loop-j-preserved c =
+    let ops = c.args.operations.now.ops.now in
+    let there : c.loop-j.j < length ops = omega arith in
+    record {
+      partial = c.add_all.ensures.partial;
+      lasts = c.in_ok-note.ensures.lasts ops (c.of-kind.ensures ∙ ap kind (get_or_default ops c.loop-j.j _ Nop there))
+          (c.of-registers.ensures.defines ∙ ap defined (get_or_default ops c.loop-j.j _ Nop there)) c.loop-j.invariant.lasts;
+      starts = omega (arith, c.add_all.ensures.starts);
+      capacity = let capacity = c.loop-j.invariant.capacity in let kept = c.add_all.ensures.capacity in record {
+        starts = omega (arith, capacity.starts, kept.starts, c.add_all.ensures.heads);
+        heads = omega (arith, capacity.heads, kept.heads, c.add_all.ensures.heads);
+        edges = omega (arith, capacity.edges, kept.edges, c.add_all.ensures.heads);
+      };
+      count = omega (arith, c.add_all.ensures.count, c.in_ok-note.ensures.loads, c.loop-j.invariant.count);
     }
 
 pub returns : goal.returns

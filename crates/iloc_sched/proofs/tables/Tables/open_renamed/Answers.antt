@@ -17,7 +17,7 @@ listed lat ops kinds own kinds_are own_is =
 
 pub fill-requires-clause-own : goal.fill-requires-clause-own
 fill-requires-clause-own c =
-    c.deref-3.ensures.value
+    c.deref-2.ensures.value
     ∙ listed c.args.latencies.now c.args.ops.now c.deref.result.now c.fill_latencies.new.own.items
     (c.deref.ensures.value ∙ c.in_ok-fill_kinds.ensures) c.in_ok-fill_latencies.ensures
 

@@ -1,31 +1,23 @@
-use Rattle.std.proofs.Common.{◌≡◌, ◌+◌, ◌∷◌, ◌++◌, [], List, length, ◌∙◌, ap, subst, arith}
+use Rattle.std.proofs.Common.{◌≡◌, ◌+◌, ◌∷◌, ◌++◌, [], List, length, ◌∙◌, ap, sym, subst, arith}
 use Rattle.std.specs.Global.{Vec}
 use Rattle.iloc_sched.specs.declared.edges.Edge.{Edge}
 use Rattle.iloc_ops.specs.declared.op.Op.{Op}
+use Rattle.iloc_ops.specs.Registers.{defined}
+use Rattle.iloc_meaning.specs.Trace.{op_at}
+use Rattle.iloc_timed.specs.Kinds.{kind}
 use Rattle.iloc_timed.specs.Latency.{latency_of}
 use Rattle.iloc_sched.specs.Steps.Edges.Lasts.{IsLasts}
 use Rattle.iloc_sched.specs.Steps.Edges.PartialGraph.{IsPartialGraph}
 use Rattle.iloc_sched.specs.Steps.Views.{graph_of}
 use Rattle.iloc_sched.proofs.KeptEdges.OneMoreInTables.{is_next, partial_grown, kinds_more, latencies_more, size_more}
+use Rattle.iloc_sched.proofs.Renamed.OneMoreOperation.{op_at_last}
 use Rattle.iloc_sched.proofs.tables.Tables.push.Goals as goal
 
 pub add_all-requires-clause-next : goal.add_all-requires-clause-next
 add_all-requires-clause-next c =
-    is_next c.args.self.now.ops.items c.args.op c.args.self.now.kinds.items c.deref-2.result.now c.args.lasts.now
+    is_next c.args.self.now.ops.items c.args.op c.args.lasts.now
     c.len-j.result c.deref.result.now (c.deref.ensures.value ∙ c.push_reserved.ensures.items)
-    (c.deref-2.ensures.value ∙ c.push_reserved-2.ensures.items
-    ∙ ap (λ k. c.args.self.now.kinds.items ++ k ∷ []) c.of-kind.ensures)
-    c.requires.filling.kinds (c.len-j.ensures ∙ c.args.self.now.ops.ok.0) c.requires.renamed c.requires.few
-    c.requires.filling.known
-
-pub note-requires-clause-lasts : goal.note-requires-clause-lasts
-note-requires-clause-lasts c =
-    (is_next c.args.self.now.ops.items c.args.op c.args.self.now.kinds.items c.deref-2.result.now c.args.lasts.now
-    c.len-j.result c.deref.result.now (c.deref.ensures.value ∙ c.push_reserved.ensures.items)
-    (c.deref-2.ensures.value ∙ c.push_reserved-2.ensures.items
-    ∙ ap (λ k. c.args.self.now.kinds.items ++ k ∷ []) c.of-kind.ensures)
-    c.requires.filling.kinds (c.len-j.ensures ∙ c.args.self.now.ops.ok.0) c.requires.renamed c.requires.few
-    c.requires.filling.known).known
+    (c.len-j.ensures ∙ c.args.self.now.ops.ok.0) c.requires.renamed c.requires.few c.requires.filling.known
 
 pub add_all-requires-clause-partial : goal.add_all-requires-clause-partial
 add_all-requires-clause-partial c =
@@ -37,9 +29,9 @@ add_all-requires-clause-partial c =
 pub add_all-requires-clause-own : goal.add_all-requires-clause-own
 add_all-requires-clause-own c =
     let lat = c.args.self.now.latencies in
-    latencies_more c.args.self.now.ops.items c.args.op lat c.args.self.now.own.items c.deref-3.result.now
+    latencies_more c.args.self.now.ops.items c.args.op lat c.args.self.now.own.items c.deref-2.result.now
     c.deref.result.now (c.deref.ensures.value ∙ c.push_reserved.ensures.items)
-    (c.deref-3.ensures.value ∙ c.push_reserved-3.ensures.items ∙ ap (λ n. c.args.self.now.own.items ++ n ∷ [])
+    (c.deref-2.ensures.value ∙ c.push_reserved-3.ensures.items ∙ ap (λ n. c.args.self.now.own.items ++ n ∷ [])
     (c.of.ensures.latency ∙ ap (latency_of lat) c.of-kind.ensures))
     c.requires.filling.own
 
@@ -51,6 +43,10 @@ returns-clause-filling c =
     let read : c.deref.result.now ≡ ops = c.deref.ensures.value in
     let more : length ops ≡ length c.args.self.now.ops.items + 1 =
     ap (length {A = Op}) c.push_reserved.ensures.items ∙ size_more c.args.self.now.ops.items c.args.op in
+    let last : op_at ops c.len-j.result ≡ c.args.op = ap (λ xs. op_at xs c.len-j.result) c.push_reserved.ensures.items
+    ∙ ap (op_at (c.args.self.now.ops.items ++ c.args.op ∷ [])) at ∙ op_at_last c.args.self.now.ops.items c.args.op in
+    let next = is_next c.args.self.now.ops.items c.args.op c.args.lasts.now c.len-j.result ops
+    c.push_reserved.ensures.items at c.requires.renamed c.requires.few c.requires.filling.known in
     let size : c.len-j.result + 1 ≡ length ops = omega arith in
     let edges : length c.grow.new.self.edges.items ≡ length c.args.self.now.edges.edges.items =
     ap (λ (v : Vec Edge). length v.items) c.grow.ensures.edges in
@@ -68,7 +64,8 @@ returns-clause-filling c =
           (subst (λ xs. IsPartialGraph lat xs (graph_of c.add_all.new.self) (c.len-j.result + 1)) read
           c.add_all.ensures.partial);
       known = subst (λ n. IsLasts ops c.note.new.self n) size
-          (subst (λ xs. IsLasts xs c.note.new.self (c.len-j.result + 1)) read c.in_ok-note.ensures.lasts);
+          (c.in_ok-note.ensures.lasts ops (c.of-kind.ensures ∙ ap kind (sym last))
+          (c.requires.registers.defines ∙ ap defined (sym last)) next.known);
       starts = omega (arith, c.add_all.ensures.starts);
       count = omega (arith, c.add_all.ensures.count, c.in_ok-note.ensures.loads, c.requires.filling.count);
     }
