@@ -1,10 +1,16 @@
 -- Up to four digits at the front, which are read at once, and the digits in a front of the bytes.
-use Rattle.std.proofs.Common.{◌≡◌, ◌∙◌, ◌≤◌, ◌<◌, ◌+◌, ◌-◌, ◌*◌, ℕ, zero, suc, Bool, true, false, cond, ◌&&◌, if◌then◌else◌, List, [], ◌∷◌, length, take, drop, length-drop, get_or, refl, sym, ap, ◌⊎◌, inl, inr, Some, None, nat_lt, arith}
+use Rattle.std.proofs.Common.{◌≡◌, ◌∙◌, ◌≤◌, ◌<◌, ◌+◌, ◌-◌, ◌*◌, ◌==◌, ℕ, zero, suc, Bool, true, false, cond, ◌&&◌, if◌then◌else◌, List, [], ◌∷◌, ◌++◌, length, take, drop, length-drop, get_or, refl, sym, ap, ap₂, subst, ◌⊎◌, inl, inr, Option, Some, None, nat_lt, arith}
 use Rattle.std.specs.Char.{is_ascii_digit}
-use Rattle.std.specs.Int.{from_bool}
+use Rattle.std.specs.Int.{from_bool, w64, from_le_bytes}
+use Rattle.std.specs.Int.Bits.{bit_xor}
+use Rattle.std.specs.List.{AllByRecursion}
+use Rattle.std.specs.Simd.Lanes.{number_l}
 use Rattle.std.proofs.lemmas.List.{length-take, take_all}
-use Rattle.std.proofs.lemmas.Bool.{ltb-true}
+use Rattle.std.proofs.lemmas.Bool.{agree_below_at, eqb-true, ltb-true}
+use Rattle.std.proofs.lemmas.Nat.{xor_of_8}
+use Rattle.iloc_text.specs.Steps.Digits.{digits_first, number_by}
 use Rattle.iloc_text.specs.Steps.Scan.{capped, digits_after, number_at}
+use Rattle.iloc_text.proofs.Lanes.{Bytes, eight, xor_lanes}
 
 -- d is the digit that c writes, where it writes one
 pub record DigitIn (c d : ℕ) : Type 0 where
@@ -146,3 +152,93 @@ number_in_front n k w bytes some inside (inr all) e =
     let whole = take_all n bytes all in
     counted k w bytes some (omega (arith, inside, ap length whole))
     (sym (ap (digits_after 0) whole) ∙ e ∙ ap (λ text. (w, drop k text)) whole)
+
+-- Up to four digits, of which it was found how many they are
+
+short_found : (bytes : List ℕ) (p q r s t : ℕ) → 5 ≤ length bytes → DigitIn (get_or bytes 0 0) p
+    → DigitIn (get_or bytes 1 0) q → DigitIn (get_or bytes 2 0) r → DigitIn (get_or bytes 3 0) s → DigitIn (get_or bytes 4 0) t
+    → nat_lt p 10 ≡ true → (((nat_lt q 10 && nat_lt r 10) && nat_lt s 10) && nat_lt t 10) ≡ false
+    → number_at bytes ≡ Some (value_of p q r s (nat_lt q 10) (nat_lt r 10) (nat_lt s 10), rest_of bytes q r s)
+short_found bytes p q r s t long da db dc dd de one h =
+    four_passed bytes p q r s long da db dc dd one
+    ∙ ap (λ found. Some found) (four_end bytes (value_of p q r s (nat_lt q 10) (nat_lt r 10) (nat_lt s 10)) q r s t long db dc dd de h)
+
+-- the number of a count of digits, and what stands behind them
+abbrev by_count : (bytes : List ℕ) (p q r s : ℕ) (count : ℕ) → ℕ → Type 0
+by_count bytes p q r s value count =
+    (AllByRecursion (λ x. x < 10) (take count (p ∷ q ∷ r ∷ s ∷ [])) → value ≡ number_by 0 (take count (p ∷ q ∷ r ∷ s ∷ [])))
+    → number_at bytes ≡ Some (value, drop count bytes)
+
+pub short_is : (bytes : List ℕ) (p q r s t u v value count : ℕ) → 5 ≤ length bytes → DigitIn (get_or bytes 0 0) p
+    → DigitIn (get_or bytes 1 0) q → DigitIn (get_or bytes 2 0) r → DigitIn (get_or bytes 3 0) s → DigitIn (get_or bytes 4 0) t
+    → 1 ≤ count → count ≤ 4 → count ≡ digits_first (p ∷ q ∷ r ∷ s ∷ t ∷ u ∷ v ∷ []) → by_count bytes p q r s value count
+short_is bytes p q r s t u v value count long da db dc dd de some few same =
+    by (nat_lt p 10) (nat_lt q 10) (nat_lt r 10) (nat_lt s 10) (nat_lt t 10) refl refl refl refl refl same
+  where
+    more : ℕ
+    more = digits_first (u ∷ v ∷ [])
+
+    shape : (x y z : Bool) → Option (ℕ × List ℕ)
+    shape x y z = Some (value_of p q r s x y z, drop (1 + from_bool x + from_bool (x && y) + from_bool ((x && y) && z)) bytes)
+
+    found : nat_lt p 10 ≡ true → (((nat_lt q 10 && nat_lt r 10) && nat_lt s 10) && nat_lt t 10) ≡ false
+        → number_at bytes ≡ shape (nat_lt q 10) (nat_lt r 10) (nat_lt s 10)
+    found one h = short_found bytes p q r s t long da db dc dd de one h
+
+    by : (x y z w e : Bool) → nat_lt p 10 ≡ x → nat_lt q 10 ≡ y → nat_lt r 10 ≡ z → nat_lt s 10 ≡ w → nat_lt t 10 ≡ e
+        → count ≡ cond x (1 + cond y (1 + cond z (1 + cond w (1 + cond e (1 + more) 0) 0) 0) 0) 0 → by_count bytes p q r s value count
+    by false y z w e px qx rx sx tx is = λ valued. absurd (omega (arith, some, is))
+    by true false z w e px qx rx sx tx is = subst (by_count bytes p q r s value) (sym is) (λ valued.
+        found px (ap (λ b. ((b && nat_lt r 10) && nat_lt s 10) && nat_lt t 10) qx)
+        ∙ ap (λ b. shape b (nat_lt r 10) (nat_lt s 10)) qx
+        ∙ ap (λ n. Some (n, drop 1 bytes)) (omega arith ∙ sym (valued (ltb-true p 10 px, tt))))
+    by true true false w e px qx rx sx tx is = subst (by_count bytes p q r s value) (sym is) (λ valued.
+        found px (ap₂ (λ a b. ((a && b) && nat_lt s 10) && nat_lt t 10) qx rx)
+        ∙ ap₂ (λ a b. shape a b (nat_lt s 10)) qx rx
+        ∙ ap (λ n. Some (n, drop 2 bytes)) (omega arith ∙ sym (valued (ltb-true p 10 px, (ltb-true q 10 qx, tt)))))
+    by true true true false e px qx rx sx tx is = subst (by_count bytes p q r s value) (sym is) (λ valued.
+        found px (rw (qx, rx, sx) refl)
+        ∙ ap₂ (λ a b. shape a b (nat_lt s 10)) qx rx ∙ ap (shape true true) sx
+        ∙ ap (λ n. Some (n, drop 3 bytes)) (omega arith ∙ sym (valued (ltb-true p 10 px, (ltb-true q 10 qx, (ltb-true r 10 rx, tt))))))
+    by true true true true false px qx rx sx tx is = subst (by_count bytes p q r s value) (sym is) (λ valued.
+        found px (rw (qx, rx, sx, tx) refl)
+        ∙ ap₂ (λ a b. shape a b (nat_lt s 10)) qx rx ∙ ap (shape true true) sx
+        ∙ ap (λ n. Some (n, drop 4 bytes)) (omega arith ∙ sym (valued (ltb-true p 10 px, (ltb-true q 10 qx, (ltb-true r 10 rx, (ltb-true s 10 sx, tt)))))))
+    by true true true true true px qx rx sx tx is = λ valued. absurd (omega (arith, few, is))
+
+-- the digit of a byte
+pub digit_xor : (c : ℕ) → c < 256 → DigitIn c (bit_xor c 48)
+digit_xor c h = record {
+  is = agree_below_at (λ b. nat_lt (bit_xor b 48) 10) is_ascii_digit 256 c refl h;
+  value = by (nat_lt (bit_xor c 48) 10) refl
+      (agree_below_at (λ b. cond (nat_lt (bit_xor b 48) 10) (b == bit_xor b 48 + 48) true) (λ b. true) 256 c refl h);
+}
+  where
+    by : (b : Bool) → nat_lt (bit_xor c 48) 10 ≡ b → cond (nat_lt (bit_xor c 48) 10) (c == bit_xor c 48 + 48) true ≡ true
+        → nat_lt (bit_xor c 48) 10 ≡ true → c ≡ bit_xor c 48 + 48
+    by b e same one = eqb-true c (bit_xor c 48 + 48) (ap (λ t. cond t (c == bit_xor c 48 + 48) true) (sym one) ∙ same)
+
+pub short_number : (bytes : List ℕ) (front digits count value : ℕ) → 8 ≤ length bytes → ((i : ℕ) → get_or bytes i 0 < 256)
+    → front ≡ from_le_bytes w64 (get_or bytes 0 0 ∷ get_or bytes 1 0 ∷ get_or bytes 2 0 ∷ get_or bytes 3 0 ∷ get_or bytes 4 0 ∷ get_or bytes 5 0 ∷ get_or bytes 6 0 ∷ get_or bytes 7 0 ∷ [])
+    → digits ≡ bit_xor front 3472328296227680304
+    → ((below : List ℕ) (top : ℕ) → Bytes below → length below ≡ 7 → top < 256 → digits ≡ number_l 256 (below ++ top ∷ []) → count ≡ digits_first below)
+    → 1 ≤ count → count ≤ 4
+    → ((a b c d rest : ℕ) → AllByRecursion (λ x. x < 10) (take count (a ∷ b ∷ c ∷ d ∷ [])) → Bytes (a ∷ b ∷ c ∷ d ∷ [])
+    → digits ≡ number_l 256 (a ∷ b ∷ c ∷ d ∷ rest ∷ []) → value ≡ number_by 0 (take count (a ∷ b ∷ c ∷ d ∷ [])))
+    → number_at bytes ≡ Some (value, drop count bytes)
+short_number bytes front digits count value long small is xored counted some few valued =
+    let at : ℕ → ℕ = λ i. get_or bytes i 0 in
+    let d : ℕ → ℕ = λ i. bit_xor (at i) 48 in
+    let zero_digit : 48 < 256 = omega arith in
+    let lane : (i : ℕ) → d i < 256 = λ i. xor_of_8 (at i) 48 (small i) zero_digit in
+    let digit : (i : ℕ) → DigitIn (at i) (d i) = λ i. digit_xor (at i) (small i) in
+    let whole : digits ≡ number_l 256 (d 0 ∷ d 1 ∷ d 2 ∷ d 3 ∷ d 4 ∷ d 5 ∷ d 6 ∷ d 7 ∷ []) =
+    xored ∙ ap (λ n. bit_xor n 3472328296227680304) (is ∙ omega arith)
+    ∙ xor_lanes (at 0 ∷ at 1 ∷ at 2 ∷ at 3 ∷ at 4 ∷ at 5 ∷ at 6 ∷ at 7 ∷ []) (48 ∷ 48 ∷ 48 ∷ 48 ∷ 48 ∷ 48 ∷ 48 ∷ 48 ∷ []) refl
+    (eight (small 0) (small 1) (small 2) (small 3) (small 4) (small 5) (small 6) (small 7))
+    (eight zero_digit zero_digit zero_digit zero_digit zero_digit zero_digit zero_digit zero_digit) in
+    let rest = d 4 + 256 * (d 5 + 256 * (d 6 + 256 * d 7)) in
+    short_is bytes (d 0) (d 1) (d 2) (d 3) (d 4) (d 5) (d 6) value count (omega (arith, long)) (digit 0) (digit 1) (digit 2) (digit 3) (digit 4)
+    some few
+    (counted (d 0 ∷ d 1 ∷ d 2 ∷ d 3 ∷ d 4 ∷ d 5 ∷ d 6 ∷ []) (d 7) (lane 0, (lane 1, (lane 2, (lane 3, (lane 4, (lane 5, (lane 6, tt))))))) refl (lane 7) whole)
+    (λ below. valued (d 0) (d 1) (d 2) (d 3) rest below (lane 0, (lane 1, (lane 2, (lane 3, tt)))) (whole ∙ omega arith))

@@ -25,6 +25,9 @@ pub mod ScheduleLines
 pub mod Every
 pub mod Within
 pub mod Digits
+pub mod Lanes
+pub mod FastPath
+pub mod Falling
 pub mod Apart
 pub mod TextReads
 pub mod Places

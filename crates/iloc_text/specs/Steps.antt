@@ -4,6 +4,8 @@ pub mod Opcodes
 pub mod Scan
 pub mod ScheduleScan
 pub mod Copied
+pub mod Digits
+pub mod FastPath
 pub mod Growth
 pub mod Open
 pub mod Verdicts

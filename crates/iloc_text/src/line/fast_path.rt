@@ -1,16 +1,14 @@
 //! The fast path of reading an operation: numbers of few digits, and few bytes before each, as most lines have them. They
 //! are looked at by places in a text that is long enough for all of them, so its length is tested once.
-ghost use Rattle.std.specs.Prelude.{◌≡◌, ◌<◌, ◌≤◌, ◌+◌, ◌++◌, ℕ, List, true, nat_lt, Some, IfSome, length, get_or, drop};
+ghost use Rattle.std.specs.Prelude.{◌≡◌, ◌<◌, ◌≤◌, ◌+◌, ◌++◌, ℕ, List, [], ◌∷◌, true, nat_lt, Some, IfSome, length, get_or, drop};
+ghost use Rattle.std.specs.Simd.Lanes.{number_l};
 ghost use Rattle.iloc_text.specs.declared.line.scan.TheConstants.{ABOVE_LIMIT};
-ghost use Rattle.iloc_ops.specs.Forms.Lead.{space, comma, arrow};
-ghost use Rattle.iloc_ops.specs.Forms.Value.{Use, Constant};
-ghost use Rattle.iloc_ops.specs.Forms.{◌▹◌};
-ghost use Rattle.iloc_text.specs.Steps.Scan.{some_blanks_at, comma_at, arrow_at, register_at, number_at, operand_at, called_at, is_within_limit};
+ghost use Rattle.iloc_text.specs.Steps.FastPath.{operand_of, first_operand, lead_of, shape_of};
+ghost use Rattle.iloc_text.specs.Steps.Scan.{after_blanks, some_blanks_at, comma_at, arrow_at, register_at, number_at, operand_at, called_at, is_within_limit};
 
-use crate::line::numbers::{fast_number_at, fast_register_number_at};
-use crate::line::opcode::shape_of;
+use crate::line::numbers::fast_number_at;
 use crate::line::scan::{arrow_at, comma_at, some_blanks_at};
-use iloc_ops::{Op, Opcode, Operands, op_of};
+use iloc_ops::{Op, Opcode, op_of};
 
 /// At most so many bytes are passed before a register or a constant: enough for a text in columns.
 const MOST_PASSED: usize = 20;
@@ -28,15 +26,16 @@ fn place_of(bytes: &[u8], rest: &[u8], most: usize) -> usize
     if place <= most { place } else { 0 }
 }
 
-/// The place after all blanks at the front; 0 if there are none, or too many.
+/// The place after all blanks at a place; 0 if there are none, or too many.
 #[cold]
 #[inline(never)]
-fn place_behind_blanks(bytes: &[u8]) -> usize
-    ensures is { 0 < result → some_blanks_at bytes.now ≡ Some (drop result bytes.now) }
-    ensures near { result ≤ MOST_PASSED }
+fn place_behind_blanks(bytes: &[u8], at: usize) -> usize
+    requires { at ≤ length bytes.now }
+    ensures is { 0 < result → some_blanks_at (drop at bytes.now) ≡ Some (drop result bytes.now) }
+    ensures near { result ≤ at + MOST_PASSED }
 {
-    match some_blanks_at(bytes) {
-        Some(rest) => place_of(bytes, rest, MOST_PASSED),
+    match some_blanks_at(&bytes[at..]) {
+        Some(rest) => place_of(bytes, rest, at + MOST_PASSED),
         None => 0,
     }
 }
@@ -69,25 +68,185 @@ fn place_behind_arrow(bytes: &[u8], at: usize) -> usize
     }
 }
 
-/// The number of the register at a place, and the place after it.
-#[inline(always)]
-fn register_from(bytes: &[u8], at: usize) -> Option<(u32, usize)>
-    requires { at + 4 ≤ length bytes.now }
-    ensures is { IfSome result (λ found. register_at (drop at bytes.now) ≡ Some (found.0, drop found.1 bytes.now)) }
-    ensures small { IfSome result (λ found. nat_lt found.0 ABOVE_LIMIT ≡ true) }
-    ensures near { IfSome result (λ found. found.1 ≤ at + 11) }
-{
-    if bytes[at] != b'r' {
-        return None;
-    }
-    let (value, count) = fast_register_number_at(&bytes[at + 1..])?;
-    Some((value, at + 1 + count))
+/// What precedes the second or the third number of an operation.
+#[derive(Clone, Copy)]
+enum Kind {
+    CommaRegister,
+    CommaConstant,
+    ArrowRegister,
 }
 
-/// The constant at a place, and the place after it.
+/// What mostly precedes a number: the bytes of `word`, whose bits are those of `mask`.
+struct Lead {
+    kind: Kind,
+    word: u64,
+    mask: u64,
+    length: usize,
+}
+
+const COMMA_REGISTER: Lead = Lead {
+    kind: Kind::CommaRegister,
+    word: 0x72_202c,
+    mask: 0xff_ffff,
+    length: 3,
+};
+
+const COMMA_CONSTANT: Lead = Lead {
+    kind: Kind::CommaConstant,
+    word: 0x202c,
+    mask: 0xffff,
+    length: 2,
+};
+
+const ARROW_REGISTER: Lead = Lead {
+    kind: Kind::ArrowRegister,
+    word: 0x72_203e_3d20,
+    mask: 0xff_ffff_ffff,
+    length: 5,
+};
+
+/// The operands of an opcode: how many there are, whether the first one is a register, and what precedes the others, if
+/// there are others.
+struct Shape {
+    count: u8,
+    register: bool,
+    second: Lead,
+    third: Lead,
+}
+
+const NOTHING: Shape = Shape {
+    count: 0,
+    register: false,
+    second: ARROW_REGISTER,
+    third: ARROW_REGISTER,
+};
+
+const CONSTANT: Shape = Shape {
+    count: 1,
+    register: false,
+    second: ARROW_REGISTER,
+    third: ARROW_REGISTER,
+};
+
+const IMMEDIATE: Shape = Shape {
+    count: 2,
+    register: false,
+    second: ARROW_REGISTER,
+    third: ARROW_REGISTER,
+};
+
+const COPIED: Shape = Shape {
+    count: 2,
+    register: true,
+    second: ARROW_REGISTER,
+    third: ARROW_REGISTER,
+};
+
+const SOURCES: Shape = Shape {
+    count: 3,
+    register: true,
+    second: COMMA_REGISTER,
+    third: ARROW_REGISTER,
+};
+
+const WITH_CONSTANT: Shape = Shape {
+    count: 3,
+    register: true,
+    second: COMMA_CONSTANT,
+    third: ARROW_REGISTER,
+};
+
+const STORED_AT: Shape = Shape {
+    count: 3,
+    register: true,
+    second: ARROW_REGISTER,
+    third: COMMA_CONSTANT,
+};
+
+/// The operands of the opcodes, in the order of their declaration.
+const SHAPES: &[Shape; 17] = &[
+    COPIED,
+    IMMEDIATE,
+    COPIED,
+    SOURCES,
+    SOURCES,
+    SOURCES,
+    SOURCES,
+    SOURCES,
+    CONSTANT,
+    NOTHING,
+    WITH_CONSTANT,
+    WITH_CONSTANT,
+    WITH_CONSTANT,
+    WITH_CONSTANT,
+    WITH_CONSTANT,
+    WITH_CONSTANT,
+    STORED_AT,
+];
+
+/// The operands of an opcode.
 #[inline(always)]
-fn constant_from(bytes: &[u8], at: usize) -> Option<(u32, usize)>
-    requires { at + 5 ≤ length bytes.now }
+fn shape_of(opcode: Opcode) -> &'static Shape
+    ensures { result.now ≡ shape_of opcode }
+{
+    &SHAPES[opcode as usize]
+}
+
+/// Eight bytes from a place on, the first of them the lowest.
+#[inline(always)]
+fn word_from(bytes: &[u8], at: usize) -> u64
+    requires { at + 8 ≤ length bytes.now }
+    ensures { result ≡ number_l 256 (get_or bytes.now at 0 ∷ get_or bytes.now (at + 1) 0 ∷ get_or bytes.now (at + 2) 0
+        ∷ get_or bytes.now (at + 3) 0 ∷ get_or bytes.now (at + 4) 0 ∷ get_or bytes.now (at + 5) 0
+        ∷ get_or bytes.now (at + 6) 0 ∷ get_or bytes.now (at + 7) 0 ∷ []) }
+{
+    u64::from_le_bytes([
+        bytes[at],
+        bytes[at + 1],
+        bytes[at + 2],
+        bytes[at + 3],
+        bytes[at + 4],
+        bytes[at + 5],
+        bytes[at + 6],
+        bytes[at + 7],
+    ])
+}
+
+/// The place after the letter of a register at a place; 0 if there is none.
+#[inline(always)]
+fn place_behind_letter(bytes: &[u8], at: usize) -> usize
+    requires { at < length bytes.now }
+    ensures is { 0 < result → register_at (drop at bytes.now) ≡ number_at (drop result bytes.now) }
+    ensures near { result ≤ at + 1 }
+{
+    if bytes[at] == b'r' { at + 1 } else { 0 }
+}
+
+/// The place after what precedes a number; 0 if there is nothing of this kind, or too much.
+#[cold]
+#[inline(never)]
+fn place_behind(kind: Kind, bytes: &[u8], at: usize) -> usize
+    requires { at + MOST_PASSED < length bytes.now }
+    ensures is { 0 < result → operand_at (operand_of kind) (drop at bytes.now) ≡ number_at (drop result bytes.now) }
+    ensures near { result ≤ at + MOST_PASSED + 1 }
+{
+    match kind {
+        Kind::CommaConstant => place_behind_comma(bytes, at),
+        Kind::CommaRegister => match place_behind_comma(bytes, at) {
+            0 => 0,
+            place => place_behind_letter(bytes, place),
+        },
+        Kind::ArrowRegister => match place_behind_arrow(bytes, at) {
+            0 => 0,
+            place => place_behind_letter(bytes, place),
+        },
+    }
+}
+
+/// The number at a place, and the place after it.
+#[inline(always)]
+fn number_from(bytes: &[u8], at: usize) -> Option<(u32, usize)>
+    requires { at + 8 ≤ length bytes.now }
     ensures is { IfSome result (λ found. number_at (drop at bytes.now) ≡ Some (found.0, drop found.1 bytes.now)) }
     ensures small { IfSome result (λ found. nat_lt found.0 ABOVE_LIMIT ≡ true) }
     ensures near { IfSome result (λ found. found.1 ≤ at + 10) }
@@ -96,158 +255,80 @@ fn constant_from(bytes: &[u8], at: usize) -> Option<(u32, usize)>
     Some((value, at + count))
 }
 
-/// Blanks and a register.
+/// What mostly precedes a number, or anything else that may, and the number.
 #[inline(always)]
-fn register_behind_blank(bytes: &[u8]) -> Option<(u32, usize)>
-    requires { MOST_PASSED + 4 ≤ length bytes.now }
-    ensures is { IfSome result (λ found. operand_at (space ▹ Use (record { 0 = 0 })) bytes.now ≡ Some (found.0, drop found.1 bytes.now)) }
-    ensures small { IfSome result (λ found. nat_lt found.0 ABOVE_LIMIT ≡ true) }
-    ensures near { IfSome result (λ found. found.1 ≤ MOST_PASSED + 11) }
-{
-    if (bytes[0] == b' ' || bytes[0] == b'\t') && bytes[1] == b'r' {
-        return register_from(bytes, 1);
-    }
-    match place_behind_blanks(bytes) {
-        0 => None,
-        place => register_from(bytes, place),
-    }
-}
-
-/// Blanks and a constant.
-#[inline(always)]
-fn constant_behind_blank(bytes: &[u8]) -> Option<(u32, usize)>
-    requires { MOST_PASSED + 5 ≤ length bytes.now }
-    ensures is { IfSome result (λ found. operand_at (space ▹ Constant 0) bytes.now ≡ Some (found.0, drop found.1 bytes.now)) }
-    ensures small { IfSome result (λ found. nat_lt found.0 ABOVE_LIMIT ≡ true) }
-    ensures near { IfSome result (λ found. found.1 ≤ MOST_PASSED + 10) }
-{
-    if (bytes[0] == b' ' || bytes[0] == b'\t') && bytes[1].is_ascii_digit() {
-        return constant_from(bytes, 1);
-    }
-    match place_behind_blanks(bytes) {
-        0 => None,
-        place => constant_from(bytes, place),
-    }
-}
-
-/// A comma at a place and a register.
-#[inline(always)]
-fn register_behind_comma(bytes: &[u8], at: usize) -> Option<(u32, usize)>
-    requires { at + MOST_PASSED + 4 ≤ length bytes.now }
-    ensures is { IfSome result (λ found. operand_at (comma ▹ Use (record { 0 = 0 })) (drop at bytes.now) ≡ Some (found.0, drop found.1 bytes.now)) }
+fn operand_from(lead: &Lead, bytes: &[u8], at: usize) -> Option<(u32, usize)>
+    requires lead { lead.now ≡ lead_of lead.now.kind }
+    requires long { at + MOST_PASSED + 9 ≤ length bytes.now }
+    ensures is { IfSome result (λ found. operand_at (operand_of lead.now.kind) (drop at bytes.now) ≡ Some (found.0, drop found.1 bytes.now)) }
     ensures small { IfSome result (λ found. nat_lt found.0 ABOVE_LIMIT ≡ true) }
     ensures near { IfSome result (λ found. found.1 ≤ at + MOST_PASSED + 11) }
 {
-    let start = at + 1 + usize::from(bytes[at + 1] == b' ');
-    if bytes[at] == b',' && bytes[start] == b'r' {
-        return register_from(bytes, start);
+    if word_from(bytes, at) & lead.mask == lead.word {
+        return number_from(bytes, at + lead.length);
     }
-    match place_behind_comma(bytes, at) {
+    match place_behind(lead.kind, bytes, at) {
         0 => None,
-        place => register_from(bytes, place),
+        place => number_from(bytes, place),
     }
 }
 
-/// A comma at a place and a constant.
+/// The place after blanks at a place; 0 if there are none, or too many.
 #[inline(always)]
-fn constant_behind_comma(bytes: &[u8], at: usize) -> Option<(u32, usize)>
-    requires { at + MOST_PASSED + 5 ≤ length bytes.now }
-    ensures is { IfSome result (λ found. operand_at (comma ▹ Constant 0) (drop at bytes.now) ≡ Some (found.0, drop found.1 bytes.now)) }
-    ensures small { IfSome result (λ found. nat_lt found.0 ABOVE_LIMIT ≡ true) }
-    ensures near { IfSome result (λ found. found.1 ≤ at + MOST_PASSED + 10) }
+fn first_place(bytes: &[u8], at: usize) -> usize
+    requires { at < length bytes.now }
+    ensures is { 0 < result → some_blanks_at (drop at bytes.now) ≡ Some (after_blanks (drop result bytes.now)) }
+    ensures near { result ≤ at + MOST_PASSED }
 {
-    let start = at + 1 + usize::from(bytes[at + 1] == b' ');
-    if bytes[at] == b',' && bytes[start].is_ascii_digit() {
-        return constant_from(bytes, start);
-    }
-    match place_behind_comma(bytes, at) {
-        0 => None,
-        place => constant_from(bytes, place),
+    if bytes[at] == b' ' || bytes[at] == b'\t' {
+        at + 1
+    } else {
+        place_behind_blanks(bytes, at)
     }
 }
 
-/// Whether the four bytes of an arrow with a space on both sides are at the place. They are compared at once: where they
-/// were compared one by one, reading executed 3 % more instructions.
+/// Blanks at a place, and the first number, which is that of a register or a constant.
 #[inline(always)]
-fn is_spaced_arrow(bytes: &[u8], at: usize) -> bool
-    requires { at + 4 ≤ length bytes.now }
-    ensures { result ≡ true → (get_or bytes.now at 0 ≡ 32) × (get_or bytes.now (at + 1) 0 ≡ 61)
-        × (get_or bytes.now (at + 2) 0 ≡ 62) × (get_or bytes.now (at + 3) 0 ≡ 32) }
-{
-    let front = [bytes[at], bytes[at + 1], bytes[at + 2], bytes[at + 3]];
-    u32::from_le_bytes(front) == u32::from_le_bytes(*b" => ")
-}
-
-/// An arrow at a place and a register.
-#[inline(always)]
-fn register_behind_arrow(bytes: &[u8], at: usize) -> Option<(u32, usize)>
-    requires { at + MOST_PASSED + 4 ≤ length bytes.now }
-    ensures is { IfSome result (λ found. operand_at (arrow ▹ Use (record { 0 = 0 })) (drop at bytes.now) ≡ Some (found.0, drop found.1 bytes.now)) }
+fn first_from(register: bool, bytes: &[u8], at: usize) -> Option<(u32, usize)>
+    requires { at + MOST_PASSED + 9 ≤ length bytes.now }
+    ensures is { IfSome result (λ found. operand_at (first_operand register) (drop at bytes.now) ≡ Some (found.0, drop found.1 bytes.now)) }
     ensures small { IfSome result (λ found. nat_lt found.0 ABOVE_LIMIT ≡ true) }
     ensures near { IfSome result (λ found. found.1 ≤ at + MOST_PASSED + 11) }
 {
-    if is_spaced_arrow(bytes, at) && bytes[at + 4] == b'r' {
-        return register_from(bytes, at + 4);
+    let place = first_place(bytes, at);
+    if place == 0 {
+        return None;
     }
-    match place_behind_arrow(bytes, at) {
-        0 => None,
-        place => register_from(bytes, place),
+    let letter = bytes[place] == b'r';
+    if letter != register {
+        return None;
     }
+    number_from(bytes, place + usize::from(letter))
 }
 
-/// The operation of an opcode and of the operands at the front, and the place after these.
+/// The operation of an opcode and of the operands at a place, and the place after these.
+///
+/// Nothing jumps by the opcode: where the operands of each shape were read by themselves, `run` mispredicted 0.4 branches more
+/// for each operation.
 #[inline(always)]
-#[tactic(auto, unfolding(crate::specs::Steps::Scan::called_at, crate::specs::Steps::Scan::operand_then))]
-fn called_by_places(opcode: Opcode, bytes: &[u8]) -> Option<(Op, usize)>
-    requires { LONGEST ≤ length bytes.now }
-    ensures is { IfSome result (λ found. called_at opcode bytes.now ≡ Some (found.0, drop found.1 bytes.now)) }
+pub fn fast_called_at(opcode: Opcode, bytes: &[u8], start: usize) -> Option<(Op, usize)>
+    requires { start + LONGEST ≤ length bytes.now }
+    ensures is { IfSome result (λ found. called_at opcode (drop start bytes.now) ≡ Some (found.0, drop found.1 bytes.now)) }
     ensures small { IfSome result (λ found. is_within_limit found.0 ≡ true) }
-    ensures near { IfSome result (λ found. found.1 ≤ length bytes.now) }
+    ensures near { IfSome result (λ found. found.1 ≤ start + LONGEST) }
 {
-    match shape_of(opcode) {
-        Operands::Nothing => Some((op_of(opcode, &[]), 0)),
-        Operands::Constant(_) => {
-            let (value, at) = constant_behind_blank(bytes)?;
-            Some((op_of(opcode, &[value]), at))
-        }
-        Operands::Immediate(..) => {
-            let (value, at) = constant_behind_blank(bytes)?;
-            let (dest, at) = register_behind_arrow(bytes, at)?;
-            Some((op_of(opcode, &[value, dest]), at))
-        }
-        Operands::Copied(..) | Operands::Stored(..) => {
-            let (source, at) = register_behind_blank(bytes)?;
-            let (target, at) = register_behind_arrow(bytes, at)?;
-            Some((op_of(opcode, &[source, target]), at))
-        }
-        Operands::Sources(..) => {
-            let (left, at) = register_behind_blank(bytes)?;
-            let (right, at) = register_behind_comma(bytes, at)?;
-            let (dest, at) = register_behind_arrow(bytes, at)?;
-            Some((op_of(opcode, &[left, right, dest]), at))
-        }
-        Operands::WithConstant(..) => {
-            let (left, at) = register_behind_blank(bytes)?;
-            let (value, at) = constant_behind_comma(bytes, at)?;
-            let (dest, at) = register_behind_arrow(bytes, at)?;
-            Some((op_of(opcode, &[left, value, dest]), at))
-        }
-        Operands::StoredAt(..) => {
-            let (value, at) = register_behind_blank(bytes)?;
-            let (addr, at) = register_behind_arrow(bytes, at)?;
-            let (offset, at) = constant_behind_comma(bytes, at)?;
-            Some((op_of(opcode, &[value, addr, offset]), at))
-        }
+    let shape = shape_of(opcode);
+    if shape.count == 0 {
+        return Some((op_of(opcode, &[0, 0, 0]), start));
     }
-}
-
-/// The operation whose opcode precedes the bytes, with the operands at their front, and what follows those.
-#[inline(always)]
-pub fn fast_called_at(opcode: Opcode, bytes: &[u8]) -> Option<(Op, &[u8])>
-    requires { LONGEST ≤ length bytes.now }
-    ensures is { IfSome result (λ found. called_at opcode bytes.now ≡ Some (found.0, found.1.now)) }
-    ensures small { IfSome result (λ found. is_within_limit found.0 ≡ true) }
-{
-    let (op, at) = called_by_places(opcode, bytes)?;
-    Some((op, &bytes[at..]))
+    let (first, at) = first_from(shape.register, bytes, start)?;
+    if shape.count == 1 {
+        return Some((op_of(opcode, &[first, 0, 0]), at));
+    }
+    let (second, at) = operand_from(&shape.second, bytes, at)?;
+    if shape.count == 2 {
+        return Some((op_of(opcode, &[first, second, 0]), at));
+    }
+    let (third, at) = operand_from(&shape.third, bytes, at)?;
+    Some((op_of(opcode, &[first, second, third]), at))
 }

@@ -1,8 +1,10 @@
 //! Numbers. Those of few digits, as most are, are read without a branch for each digit, since how many digits a number
 //! has is hard to predict: with one `run` takes 11 % more processor time on blocks of outputs. Some bytes follow them, so
 //! the end of the text needs no test.
-ghost use Rattle.std.specs.Prelude.{◌≡◌, ◌≤◌, ◌<◌, ◌-◌, ◌+◌, ◌*◌, true, if◌then◌else◌, nat_lt, option_map, Some, IfSome, length, drop};
-ghost use Rattle.std.specs.Char.{is_ascii_digit};
+ghost use Rattle.std.specs.Prelude.{◌≡◌, ◌≤◌, ◌<◌, ◌-◌, ◌+◌, ◌*◌, ◌++◌, ℕ, List, [], ◌∷◌, true, nat_lt, option_map, Some, IfSome, length, take, drop};
+ghost use Rattle.std.specs.List.{AllByRecursion};
+ghost use Rattle.std.specs.Simd.Lanes.{number_l};
+ghost use Rattle.iloc_text.specs.Steps.Digits.{digits_first, number_by};
 ghost use Rattle.iloc_text.specs.Steps.Scan.{capped, digits_after, number_at};
 
 use crate::line::scan::ABOVE_LIMIT;
@@ -45,26 +47,6 @@ fn with_digits(value: u32, bytes: &[u8]) -> (u32, usize)
     (value, count)
 }
 
-/// The digit that a byte writes; 10 or more where it writes none.
-#[inline(always)]
-fn digit_in(byte: u8) -> u8
-    ensures is { nat_lt result 10 ≡ is_ascii_digit byte }
-    ensures value { nat_lt result 10 ≡ true → byte ≡ result + 48 }
-{
-    byte.wrapping_sub(b'0')
-}
-
-/// The number that `digit` makes when it is appended to `value`, if it counts.
-#[inline(always)]
-fn grown(value: u32, digit: u8, counts: bool) -> u32
-    requires { value < 100000 }
-    ensures is { result ≡ (if counts then value * 10 + digit else value) }
-    ensures bound { result ≤ value * 10 + digit }
-{
-    let longer = value * 10 + u32::from(digit);
-    if counts { longer } else { value }
-}
-
 /// A number, which counts as `ABOVE_LIMIT` if it is greater.
 pub fn number_at(bytes: &[u8]) -> Option<(u32, &[u8])>
     ensures { option_map (λ found. (found.0, found.1.now)) result ≡ number_at bytes.now }
@@ -78,89 +60,87 @@ pub fn number_at(bytes: &[u8]) -> Option<(u32, &[u8])>
     }
 }
 
-/// A number within the limit and how many digits it has, if these are at most `MOST_DIGITS`: at most one more is looked at.
+/// A number within the limit and how many digits it has, at most `MOST_DIGITS`; 0 if there is none, or one that is longer.
+///
+/// A pair comes in registers, and an `Option` of it doesn't: with that `run` executes 2 % more instructions.
 #[cold]
 #[inline(never)]
-fn long_number_at(bytes: &[u8]) -> Option<(u32, usize)>
-    ensures is { IfSome result (λ found. number_at bytes.now ≡ Some (found.0, drop found.1 bytes.now)) }
-    ensures small { IfSome result (λ found. nat_lt found.0 ABOVE_LIMIT ≡ true) }
-    ensures near { IfSome result (λ found. found.1 ≤ MOST_DIGITS) }
+fn long_number_at(bytes: &[u8]) -> (u32, usize)
+    ensures is { 0 < result.1 → number_at bytes.now ≡ Some (result.0, drop result.1 bytes.now) }
+    ensures small { 0 < result.1 → nat_lt result.0 ABOVE_LIMIT ≡ true }
+    ensures near { result.1 ≤ MOST_DIGITS }
 {
     let front = &bytes[..bytes.len().min(MOST_DIGITS + 1)];
     let (value, count) = with_digits(0, front);
     if 0 < count && count <= MOST_DIGITS && value < ABOVE_LIMIT {
-        Some((value, count))
+        (value, count)
     } else {
-        None
+        (0, 0)
     }
 }
 
-/// A number of one digit or two, which are read at once, and how many they are: no more have most registers.
+/// How many of the lowest seven bytes are below 10 before one that isn't.
 #[inline(always)]
-fn two_digits_at(bytes: &[u8]) -> Option<(u32, usize)>
-    requires { 3 ≤ length bytes.now }
-    ensures is { IfSome result (λ found. number_at bytes.now ≡ Some (found.0, drop found.1 bytes.now)) }
-    ensures small { IfSome result (λ found. nat_lt found.0 ABOVE_LIMIT ≡ true) }
-    ensures near { IfSome result (λ found. found.1 ≤ 2) }
+fn count_digits(digits: u64) -> usize
+    ensures { (below : List ℕ) (top : ℕ) → AllByRecursion (λ d. d < 256) below → length below ≡ 7 → top < 256
+        → digits ≡ number_l 256 (below ++ top ∷ []) → result ≡ digits_first below }
 {
-    let (first, second, third) = (digit_in(bytes[0]), digit_in(bytes[1]), digit_in(bytes[2]));
-    let two = second < 10;
-    if first >= 10 || two & (third < 10) {
-        return None;
-    }
-    let value = grown(u32::from(first), second, two);
-    Some((value, 1 + usize::from(two)))
+    // The highest bit of each byte that is 10 or more.
+    let others = (((digits & 0x7f7f_7f7f_7f7f_7f7f) + 0x7676_7676_7676_7676) | digits)
+        & 0x0080_8080_8080_8080;
+    ((others + 0x8000_0000_0000_0000).trailing_zeros() >> 3) as usize
 }
 
-/// A number of one digit to four, which are read at once, and how many they are: no more have most constants.
+/// The number of so many digits, which are the lowest bytes, the lowest first.
 #[inline(always)]
-fn four_digits_at(bytes: &[u8]) -> Option<(u32, usize)>
-    requires { 5 ≤ length bytes.now }
+fn number_of(digits: u64, count: usize) -> u32
+    requires some { 1 ≤ count }
+    requires few { count ≤ 4 }
+    ensures is { (a b c d rest : ℕ) → AllByRecursion (λ x. x < 10) (take count (a ∷ b ∷ c ∷ d ∷ []))
+        → AllByRecursion (λ x. x < 256) (a ∷ b ∷ c ∷ d ∷ []) → digits ≡ number_l 256 (a ∷ b ∷ c ∷ d ∷ rest ∷ [])
+        → result ≡ number_by 0 (take count (a ∷ b ∷ c ∷ d ∷ [])) }
+    ensures small { result < 100000 }
+{
+    let last = (digits & 0xffff_ffff) as u32;
+    // Each of the four bytes, and ten times the one below it.
+    let twos = (last << (32 - 8 * count)).wrapping_mul(10 * 256 + 1);
+    ((twos >> 8) & 0xff) * 100 + (twos >> 24)
+}
+
+/// A number of one digit to four, which are read at once, and how many they are: no more have most numbers.
+#[inline(always)]
+fn short_number_at(bytes: &[u8]) -> Option<(u32, usize)>
+    requires { 8 ≤ length bytes.now }
     ensures is { IfSome result (λ found. number_at bytes.now ≡ Some (found.0, drop found.1 bytes.now)) }
     ensures small { IfSome result (λ found. nat_lt found.0 ABOVE_LIMIT ≡ true) }
     ensures near { IfSome result (λ found. found.1 ≤ 4) }
 {
-    let (first, second, third) = (digit_in(bytes[0]), digit_in(bytes[1]), digit_in(bytes[2]));
-    let (fourth, fifth) = (digit_in(bytes[3]), digit_in(bytes[4]));
-    let two = second < 10;
-    let three = two & (third < 10);
-    let four = three & (fourth < 10);
-    if first >= 10 || four & (fifth < 10) {
+    let front = u64::from_le_bytes([
+        bytes[0], bytes[1], bytes[2], bytes[3], bytes[4], bytes[5], bytes[6], bytes[7],
+    ]);
+    let digits = front ^ 0x3030_3030_3030_3030;
+    let count = count_digits(digits);
+    if count == 0 || count > 4 {
         return None;
     }
-    let value = grown(u32::from(first), second, two);
-    let value = grown(value, third, three);
-    let value = grown(value, fourth, four);
-    Some((
-        value,
-        1 + usize::from(two) + usize::from(three) + usize::from(four),
-    ))
+    Some((number_of(digits, count), count))
 }
 
-/// The number of a register, within the limit and of up to `MOST_DIGITS` digits, and how many these are.
-#[inline(always)]
-pub fn fast_register_number_at(bytes: &[u8]) -> Option<(u32, usize)>
-    requires { 3 ≤ length bytes.now }
-    ensures is { IfSome result (λ found. number_at bytes.now ≡ Some (found.0, drop found.1 bytes.now)) }
-    ensures small { IfSome result (λ found. nat_lt found.0 ABOVE_LIMIT ≡ true) }
-    ensures near { IfSome result (λ found. found.1 ≤ MOST_DIGITS) }
-{
-    if let Some(found) = two_digits_at(bytes) {
-        return Some(found);
-    }
-    long_number_at(bytes)
-}
-
-/// As `fast_register_number_at`, of a constant.
+/// A number within the limit and of up to `MOST_DIGITS` digits, and how many these are.
 #[inline(always)]
 pub fn fast_number_at(bytes: &[u8]) -> Option<(u32, usize)>
-    requires { 5 ≤ length bytes.now }
+    requires { 8 ≤ length bytes.now }
     ensures is { IfSome result (λ found. number_at bytes.now ≡ Some (found.0, drop found.1 bytes.now)) }
     ensures small { IfSome result (λ found. nat_lt found.0 ABOVE_LIMIT ≡ true) }
     ensures near { IfSome result (λ found. found.1 ≤ MOST_DIGITS) }
 {
-    if let Some(found) = four_digits_at(bytes) {
+    if let Some(found) = short_number_at(bytes) {
         return Some(found);
     }
-    long_number_at(bytes)
+    let (value, count) = long_number_at(bytes);
+    if count > 0 {
+        Some((value, count))
+    } else {
+        None
+    }
 }

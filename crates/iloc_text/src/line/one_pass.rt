@@ -23,6 +23,14 @@ fn behind_comment(bytes: &[u8]) -> Option<Option<&[u8]>>
     }
 }
 
+/// As `behind_line_end`, out of the way of what has a line end at once.
+#[inline(never)]
+fn behind_further_line_end(bytes: &[u8]) -> Option<Option<&[u8]>>
+    ensures { IfSome result (FirstIs (Blanks ⋅ OptionalComment) bytes.now) }
+{
+    behind_comment(after_blanks(bytes))
+}
+
 /// What follows the first line end, if there is one, and nothing but blanks and a comment precede it.
 #[inline(always)]
 fn behind_line_end(bytes: &[u8]) -> Option<Option<&[u8]>>
@@ -31,12 +39,12 @@ fn behind_line_end(bytes: &[u8]) -> Option<Option<&[u8]>>
     if let [b'\n', after @ ..] = bytes {
         return Some(Some(after));
     }
-    behind_comment(after_blanks(bytes))
+    behind_further_line_end(bytes)
 }
 
 /// The operation at the front, found on the fast path, and what follows the line end after it. This is what most lines
 /// are. Without the fast path `counts` takes 24 % more processor time on 65,535 blocks of some ten operations.
-#[inline(never)]
+#[inline(always)]
 fn fast_operation(bytes: &[u8]) -> Option<(Op, &[u8])>
     ensures { IfSome result (λ found. FirstBody bytes.now (Some found.0) (Some found.1)) }
 {
@@ -44,9 +52,9 @@ fn fast_operation(bytes: &[u8]) -> Option<(Op, &[u8])>
     if bytes.len() < LONGEST + 8 {
         return None;
     }
-    let (opcode, behind) = opcode_at(bytes)?;
-    let (op, rest) = fast_called_at(opcode, behind)?;
-    let after = behind_line_end(rest)??;
+    let (opcode, start) = opcode_at(bytes)?;
+    let (op, at) = fast_called_at(opcode, bytes, start)?;
+    let after = behind_line_end(&bytes[at..])??;
     Some((op, after))
 }
 

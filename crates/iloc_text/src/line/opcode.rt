@@ -1,5 +1,5 @@
 //! Opcodes as they are read.
-ghost use Rattle.std.specs.Prelude.{◌≡◌, ◌≤◌, ◌+◌, ◌-◌, ◌++◌, IfSome, length, replicate};
+ghost use Rattle.std.specs.Prelude.{◌≡◌, ◌≤◌, ◌-◌, ◌++◌, IfSome, length, drop, replicate};
 ghost use Rattle.iloc_ops.specs.Forms.{opcode_text};
 ghost use Rattle.iloc_ops.specs.Operands.{operands_in};
 ghost use Rattle.iloc_text.specs.Steps.Opcodes.{opcode_of, operands_of};
@@ -50,45 +50,61 @@ fn word_of(opcode: Opcode) -> [u8; 8]
     *WORDS[opcode as usize]
 }
 
+/// The opcodes by their places in `opcode_by_letters`.
+const BY_LETTERS: &[Opcode; 32] = &[
+    Opcode::Nop,
+    Opcode::Nop,
+    Opcode::Store,
+    Opcode::Nop,
+    Opcode::Mult,
+    Opcode::Nop,
+    Opcode::Nop,
+    Opcode::Nop,
+    Opcode::Nop,
+    Opcode::SubI,
+    Opcode::Lshift,
+    Opcode::LshiftI,
+    Opcode::Nop,
+    Opcode::Sub,
+    Opcode::Output,
+    Opcode::AddI,
+    Opcode::Nop,
+    Opcode::Nop,
+    Opcode::Add,
+    Opcode::Nop,
+    Opcode::Nop,
+    Opcode::LoadI,
+    Opcode::StoreAI,
+    Opcode::Nop,
+    Opcode::Rshift,
+    Opcode::RshiftI,
+    Opcode::Load,
+    Opcode::Nop,
+    Opcode::LoadAI,
+    Opcode::Nop,
+    Opcode::Nop,
+    Opcode::MultI,
+];
+
 /// The only opcode whose text may be the letters at the front, of which these are the first eight bytes. By the factor each
 /// opcode has a place of its own.
 #[inline(always)]
 fn opcode_by_letters(front: u64) -> Opcode {
-    use Opcode::{Add, AddI, Load, LoadAI, LoadI, Lshift, LshiftI, Mult, MultI, Nop, Output};
-    use Opcode::{Rshift, RshiftI, Store, StoreAI, Sub, SubI};
     // The bytes without the bit that each letter has are no letters.
     let others = !front & 0x4040_4040_4040_4040;
     let letters = front & ((others ^ others.wrapping_sub(1)) >> 7);
-    match letters.wrapping_mul(0xbe3e_dc0a_1ef2_a4f1) >> 59 {
-        2 => Store,
-        4 => Mult,
-        9 => SubI,
-        10 => Lshift,
-        11 => LshiftI,
-        13 => Sub,
-        14 => Output,
-        15 => AddI,
-        18 => Add,
-        21 => LoadI,
-        22 => StoreAI,
-        24 => Rshift,
-        25 => RshiftI,
-        26 => Load,
-        28 => LoadAI,
-        31 => MultI,
-        _ => Nop,
-    }
+    BY_LETTERS[(letters.wrapping_mul(0xbe3e_dc0a_1ef2_a4f1) >> 59) as usize]
 }
 
-/// The opcode at the front of the bytes, and what follows it.
+/// The opcode at the front of the bytes, and the place after it.
 ///
 /// Bytes are compared at once, and nothing jumps by the opcode: where the first letter picked a few opcodes to compare, `run`
 /// mispredicted 1.6 branches more for each operation.
 #[inline(always)]
-pub fn opcode_at(bytes: &[u8]) -> Option<(Opcode, &[u8])>
+pub fn opcode_at(bytes: &[u8]) -> Option<(Opcode, usize)>
     requires { 8 ≤ length bytes.now }
-    ensures is { IfSome result (λ found. bytes.now ≡ opcode_text found.0 ++ found.1.now) }
-    ensures near { IfSome result (λ found. length bytes.now ≤ length found.1.now + 7) }
+    ensures is { IfSome result (λ found. bytes.now ≡ opcode_text found.0 ++ drop found.1 bytes.now) }
+    ensures near { IfSome result (λ found. found.1 ≤ 7) }
 {
     let front = u64::from_le_bytes([
         bytes[0], bytes[1], bytes[2], bytes[3], bytes[4], bytes[5], bytes[6], bytes[7],
@@ -96,7 +112,7 @@ pub fn opcode_at(bytes: &[u8]) -> Option<(Opcode, &[u8])>
     let opcode = opcode_by_letters(front);
     let count = opcode.text().len();
     if front << (64 - 8 * count) == u64::from_le_bytes(word_of(opcode)) {
-        Some((opcode, &bytes[count..]))
+        Some((opcode, count))
     } else {
         None
     }

@@ -1,4 +1,5 @@
-use Rattle.std.proofs.Common.{Some, subst}
+use Rattle.std.proofs.Common.{◌-◌, length, drop, length-drop, Some, subst, arith}
+use Rattle.std.proofs.lemmas.List.{take_all}
 use Rattle.iloc_text.specs.Grammar.{◌⋅◌, Blanks, OptionalComment}
 use Rattle.iloc_text.specs.Steps.LineReads.{FirstIs}
 use Rattle.iloc_text.proofs.OnePass.{operation_first}
@@ -6,7 +7,11 @@ use Rattle.iloc_text.proofs.line.one_pass.fast_operation.Goals as goal
 
 pub returns : goal.returns
 returns c =
-    let rest = c.in_ok-op.rest.now in
-    operation_first c.args.bytes.now c.in_ok-opcode.behind.now rest (Some c.in_ok-after.after) c.in_ok-opcode.opcode
+    let bytes = c.args.bytes.now in
+    let at = c.in_ok-op.at in
+    let rest = drop at bytes in
+    operation_first bytes (drop c.in_ok-opcode.start bytes) rest (Some c.in_ok-after.after) c.in_ok-opcode.opcode
     c.in_ok-op.op c.in_ok-opcode.ensures.is c.in_ok-op.ensures.is c.in_ok-op.ensures.small
-    (subst (FirstIs (Blanks ⋅ OptionalComment) rest) c.in_ok-after.was c.in_ok-behind_line_end.ensures)
+    (subst (λ text. FirstIs (Blanks ⋅ OptionalComment) text (Some c.in_ok-after.after))
+    (take_all (length bytes - at) rest (omega (arith, length-drop at bytes)))
+    (subst (FirstIs (Blanks ⋅ OptionalComment) _) c.in_ok-after.was c.in_ok-behind_line_end.ensures))
