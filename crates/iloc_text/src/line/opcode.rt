@@ -1,8 +1,8 @@
 //! Opcodes as they are read.
-ghost use Rattle.std.specs.Prelude.{◌≡◌, ◌≤◌, ◌-◌, ◌++◌, IfSome, length, drop, replicate};
+ghost use Rattle.std.specs.Prelude.{◌≡◌, ◌≤◌, ◌++◌, IfSome, length, drop};
 ghost use Rattle.iloc_ops.specs.Forms.{opcode_text};
 ghost use Rattle.iloc_ops.specs.Operands.{operands_in};
-ghost use Rattle.iloc_text.specs.Steps.Opcodes.{opcode_of, operands_of};
+ghost use Rattle.iloc_text.specs.Steps.Opcodes.{opcode_of, operands_of, front_of};
 
 use iloc_ops::{OPCODES, Opcode, Operands, form_of, op_of};
 
@@ -21,33 +21,108 @@ pub fn opcode_of(word: &[u8]) -> Option<Opcode>
     OPCODES.iter().copied().find(|opcode| opcode.text() == word)
 }
 
-/// The texts of the opcodes, in the order of their declaration, each as the last of eight bytes.
-const WORDS: [&[u8; 8]; 17] = [
-    b"\0\0\0\0load",
-    b"\0\0\0loadI",
-    b"\0\0\0store",
-    b"\0\0\0\0\0add",
-    b"\0\0\0\0\0sub",
-    b"\0\0\0\0mult",
-    b"\0\0lshift",
-    b"\0\0rshift",
-    b"\0\0output",
-    b"\0\0\0\0\0nop",
-    b"\0\0\0\0addI",
-    b"\0\0\0\0subI",
-    b"\0\0\0multI",
-    b"\0lshiftI",
-    b"\0rshiftI",
-    b"\0\0loadAI",
-    b"\0storeAI",
+/// The bytes of a text, the first of them the lowest, all bits of as many, and how many they are.
+struct Front {
+    word: u64,
+    mask: u64,
+    length: usize,
+}
+
+/// The texts of the opcodes, in the order of their declaration.
+const FRONTS: &[Front; 17] = &[
+    Front {
+        word: 0x64616f6c,
+        mask: 0xffffffff,
+        length: 4,
+    },
+    Front {
+        word: 0x4964616f6c,
+        mask: 0xffffffffff,
+        length: 5,
+    },
+    Front {
+        word: 0x65726f7473,
+        mask: 0xffffffffff,
+        length: 5,
+    },
+    Front {
+        word: 0x646461,
+        mask: 0xffffff,
+        length: 3,
+    },
+    Front {
+        word: 0x627573,
+        mask: 0xffffff,
+        length: 3,
+    },
+    Front {
+        word: 0x746c756d,
+        mask: 0xffffffff,
+        length: 4,
+    },
+    Front {
+        word: 0x74666968736c,
+        mask: 0xffffffffffff,
+        length: 6,
+    },
+    Front {
+        word: 0x746669687372,
+        mask: 0xffffffffffff,
+        length: 6,
+    },
+    Front {
+        word: 0x74757074756f,
+        mask: 0xffffffffffff,
+        length: 6,
+    },
+    Front {
+        word: 0x706f6e,
+        mask: 0xffffff,
+        length: 3,
+    },
+    Front {
+        word: 0x49646461,
+        mask: 0xffffffff,
+        length: 4,
+    },
+    Front {
+        word: 0x49627573,
+        mask: 0xffffffff,
+        length: 4,
+    },
+    Front {
+        word: 0x49746c756d,
+        mask: 0xffffffffff,
+        length: 5,
+    },
+    Front {
+        word: 0x4974666968736c,
+        mask: 0xffffffffffffff,
+        length: 7,
+    },
+    Front {
+        word: 0x49746669687372,
+        mask: 0xffffffffffffff,
+        length: 7,
+    },
+    Front {
+        word: 0x494164616f6c,
+        mask: 0xffffffffffff,
+        length: 6,
+    },
+    Front {
+        word: 0x494165726f7473,
+        mask: 0xffffffffffffff,
+        length: 7,
+    },
 ];
 
-/// The text of an opcode as the last of eight bytes.
+/// The text of an opcode.
 #[inline(always)]
-fn word_of(opcode: Opcode) -> [u8; 8]
-    ensures { result ≡ replicate (8 - length (opcode_text opcode)) 0 ++ opcode_text opcode }
+fn front_of(opcode: Opcode) -> &'static Front
+    ensures { result.now ≡ front_of opcode }
 {
-    *WORDS[opcode as usize]
+    &FRONTS[opcode as usize]
 }
 
 /// The opcodes by their places in `opcode_by_letters`.
@@ -110,9 +185,9 @@ pub fn opcode_at(bytes: &[u8]) -> Option<(Opcode, usize)>
         bytes[0], bytes[1], bytes[2], bytes[3], bytes[4], bytes[5], bytes[6], bytes[7],
     ]);
     let opcode = opcode_by_letters(front);
-    let count = opcode.text().len();
-    if front << (64 - 8 * count) == u64::from_le_bytes(word_of(opcode)) {
-        Some((opcode, count))
+    let text = front_of(opcode);
+    if front & text.mask == text.word {
+        Some((opcode, text.length))
     } else {
         None
     }
