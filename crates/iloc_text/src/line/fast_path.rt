@@ -41,8 +41,7 @@ fn place_behind_blanks(bytes: &[u8], at: usize) -> usize
 }
 
 /// The place after a comma at a place and any blanks around it; 0 if there is none, or too many blanks.
-#[cold]
-#[inline(never)]
+#[inline(always)]
 fn place_behind_comma(bytes: &[u8], at: usize) -> usize
     requires { at ≤ length bytes.now }
     ensures is { 0 < result → comma_at (drop at bytes.now) ≡ Some (drop result bytes.now) }
@@ -55,8 +54,7 @@ fn place_behind_comma(bytes: &[u8], at: usize) -> usize
 }
 
 /// The place after an arrow at a place and any blanks around it; 0 if there is none, or too many blanks.
-#[cold]
-#[inline(never)]
+#[inline(always)]
 fn place_behind_arrow(bytes: &[u8], at: usize) -> usize
     requires { at ≤ length bytes.now }
     ensures is { 0 < result → arrow_at (drop at bytes.now) ≡ Some (drop result bytes.now) }
