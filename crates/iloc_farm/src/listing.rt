@@ -4,7 +4,6 @@ ghost use Rattle.iloc_ops.specs.Limits.{MAX_BLOCKS};
 ghost use Rattle.std.specs.Option.{option_copied};
 ghost use Rattle.std.specs.List.{flat_map};
 ghost use Rattle.std.specs.Fmt.{decimal};
-ghost use Rattle.iloc_timed.specs.Spelling.{row_line};
 ghost use Rattle.iloc_farm.specs.Commands.Counts.{counts_listing};
 ghost use Rattle.iloc_farm.specs.Listing as listed;
 
@@ -16,8 +15,8 @@ pub(crate) mod writing;
 
 use crate::listing::table::push_count;
 use iloc_meaning::Outcome;
-use iloc_ops::{IlocFile, Name, NoMemory, Op, push_number, write_text};
-use iloc_timed::{Latencies, MAX_ROWS, Row, Schedule, cycles, push_row_line};
+use iloc_ops::{IlocFile, Name, NoMemory, push_number, write_text};
+use iloc_timed::{Latencies, MAX_ROWS, Row, RowWriter, Schedule, cycles};
 use itoa::write_digits;
 use std::alloc::Global;
 
@@ -93,17 +92,6 @@ pub(crate) fn push_outcome(
     }
 }
 
-/// Appends a line for each row.
-fn push_rows(text: &mut Vec<u8>, ops: &[Op], rows: &[Row]) -> Result<(), NoMemory>
-    ensures { OnOk result
-        (text.new.items ≡ text.old.items ++ flat_map (row_line ops.now) rows.now) }
-{
-    for row in rows {
-        push_row_line(text, ops, row)?;
-    }
-    Ok(())
-}
-
 /// Whether no operation is issued in a row.
 fn is_empty(row: &Row) -> bool
     ensures { result ≡ listed.is_empty row.now }
@@ -126,6 +114,7 @@ fn held_rows(rows: &[Row]) -> &[Row]
 /// many cycles. Empty rows after the last operation are left out.
 pub(crate) fn push_schedule(
     text: &mut Vec<u8>,
+    writer: &mut RowWriter,
     number: usize,
     name: Option<&Name>,
     schedule: &Schedule,
@@ -138,7 +127,7 @@ pub(crate) fn push_schedule(
 {
     push_block_head(text, number, name)?;
     text.push(b'\n')?;
-    push_rows(text, schedule.ops(), held_rows(schedule.rows()))?;
+    writer.push_lines(text, schedule.ops(), held_rows(schedule.rows()))?;
     push_numbered(text, b"cycles ", cycles, b"\n")
 }
 
@@ -186,11 +175,13 @@ pub fn schedules_text(
         listed.schedules_listing latencies.now file.now.blocks schedules.now) }
 {
     let mut text = Vec::new(alloc);
+    let mut writer = RowWriter::new();
     let mut total = 0;
     for (index, block) in file.blocks.as_slice().iter().enumerate() {
         let schedule = &schedules[index];
         let cycles = cycles(schedule, latencies);
-        push_schedule(&mut text, index + 1, block.name.as_ref(), schedule, cycles)?;
+        let name = block.name.as_ref();
+        push_schedule(&mut text, &mut writer, index + 1, name, schedule, cycles)?;
         total += cycles;
     }
     push_total(&mut text, total)?;

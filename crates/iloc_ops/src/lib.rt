@@ -22,4 +22,6 @@ pub use no_memory::NoMemory;
 pub use op::{Op, Reg};
 pub use ops::Ops;
 pub use registers::{defines, uses};
-pub use spelling::{LONGEST_OPERATION, push_number, push_op, write_op, write_text};
+pub use spelling::{
+    LONGEST_OPERATION, Word, push_number, push_op, write_op, write_text, write_word,
+};

@@ -1,17 +1,20 @@
 //! How operations and numbers are written.
-ghost use Rattle.std.specs.Prelude.{◌≡◌, ◌++◌, OnOk, OnErr, [], ◌∷◌, drop, vec_len, vec_capacity, length, codes, ◌+◌, ◌<◌, ◌≤◌};
-ghost use Rattle.std.specs.Fmt.{decimal};
-ghost use Rattle.iloc_ops.specs.Forms.{◌▹◌};
-ghost use Rattle.iloc_ops.specs.Forms.Lead.{space, comma, arrow};
-ghost use Rattle.iloc_ops.specs.Forms.Value.{Use, Definition, Constant};
-ghost use Rattle.iloc_ops.specs.Spelling.{spelled_operands, spelling};
-ghost use Rattle.iloc_ops.specs.Operands.{operands_in};
+ghost use Rattle.std.specs.Prelude.{◌≡◌, ◌++◌, OnOk, OnErr, drop, vec_len, vec_capacity, length, slice_get, ◌+◌, ◌<◌, ◌≤◌};
+ghost use Rattle.iloc_ops.specs.Forms.{numbers};
+ghost use Rattle.iloc_ops.specs.Spelling.{spelling};
+ghost use Rattle.iloc_ops.specs.Steps.Laid.{IsShort, laid_out, operand_text};
 ghost use Rattle.iloc_ops.specs.declared.spelling.TheConstants.{LONGEST_OPERATION};
 
-use crate::forms::{Operands, form_of};
+mod digits;
+mod layout;
+
 use crate::no_memory::NoMemory;
 use crate::op::{Op, Reg};
-use itoa::{Buffer, Integer, write_digits};
+use digits::{write_number, write_wide_number};
+use itoa::{Buffer, Integer};
+use layout::{Layout, layout_of};
+
+pub use layout::{Word, write_word};
 
 /// An operation is spelled in at most so many bytes.
 pub const LONGEST_OPERATION: usize = 64;
@@ -55,105 +58,128 @@ pub fn write_op(line: &mut [u8], end: usize, op: &Op) -> usize
     ensures length { length line.new ≡ length line.old }
     ensures written { drop result line.new ≡ spelling op.now ++ drop end line.old }
 {
-    let (opcode, operands) = form_of(op);
-    let start = write_operands(line, end, operands);
-    write_text(line, start, opcode.text())
+    write_laid_out(line, end, *op, layout_of(op))
 }
 
-/// Writes the operands so that they end at `end`, the last of them first, and gives where they start. Apart from
-/// `form_of` it jumps by the form a second time: inlined, `schedule` mispredicts 0.75 to 0.85 branches less for each
-/// operation.
-#[inline(always)]
-fn write_operands(line: &mut [u8], end: usize, operands: Operands) -> usize
-    requires { (LONGEST_OPERATION ≤ end) × (end ≤ length line.old) }
-    ensures space { (result ≤ end) × (end ≤ result + 40) }
+/// Writes an operation as its layout has it. Inlined together with `layout_of` it would jump by the opcode, and mispredict 0.8 to
+/// 0.9 branches more for each operation.
+#[inline(never)]
+fn write_laid_out(line: &mut [u8], end: usize, op: Op, layout: &Layout) -> usize
+    requires { (LONGEST_OPERATION ≤ end) × (end ≤ length line.old) × IsShort layout.now }
+    ensures space { (result ≤ end) × (end ≤ result + LONGEST_OPERATION) }
     ensures length { length line.new ≡ length line.old }
-    ensures written { drop result line.new ≡ spelled_operands (operands_in operands) ++ drop end line.old }
+    ensures written { drop result line.new ≡ laid_out layout.now op ++ drop end line.old }
 {
-    match operands {
-        Operands::Nothing => end,
-        Operands::Constant(value) => write_operand(line, end, b" ", value),
-        Operands::Immediate(value, dest) => {
-            let end = write_operand(line, end, b" => r", dest.0);
-            write_operand(line, end, b" ", value)
-        }
-        Operands::Copied(source, dest) => write_transfer(line, end, source, dest),
-        Operands::Stored(value, addr) => write_transfer(line, end, value, addr),
-        Operands::Sources(left, right, dest) => write_two_sources(line, end, left, right, dest),
-        Operands::WithConstant(left, value, dest) => write_immediate(line, end, left, value, dest),
-        Operands::StoredAt(value, addr, offset) => {
-            let end = write_operand(line, end, b", ", offset);
-            write_transfer(line, end, value, addr)
-        }
+    let end = write_operand(line, end, &layout.third, third(op));
+    let end = write_operand(line, end, &layout.second, second(op));
+    let end = write_first_operand(line, end, &layout.first, first(op));
+    write_word(line, end, &layout.opcode)
+}
+
+/// The first number of an operation.
+#[inline(always)]
+fn first(op: Op) -> Option<u32>
+    ensures { result ≡ slice_get (numbers op) 0 }
+{
+    match op {
+        Op::LoadI { value: n, .. } | Op::Output { addr: n } => Some(n),
+        Op::Load { addr: r, .. }
+        | Op::LoadAI { addr: r, .. }
+        | Op::Store { value: r, .. }
+        | Op::StoreAI { value: r, .. }
+        | Op::Add { left: r, .. }
+        | Op::Sub { left: r, .. }
+        | Op::Mult { left: r, .. }
+        | Op::Lshift { left: r, .. }
+        | Op::Rshift { left: r, .. }
+        | Op::AddI { left: r, .. }
+        | Op::SubI { left: r, .. }
+        | Op::MultI { left: r, .. }
+        | Op::LshiftI { left: r, .. }
+        | Op::RshiftI { left: r, .. } => Some(r.0),
+        Op::Nop => None,
     }
 }
 
-/// Writes `source => target` after a space, so that it ends at `end`, and gives where it starts.
-fn write_transfer(line: &mut [u8], end: usize, source: Reg, target: Reg) -> usize
-    requires { (34 ≤ end) × (end ≤ length line.old) }
-    ensures space { (result ≤ end) × (end ≤ result + 27) }
-    ensures length { length line.new ≡ length line.old }
-    ensures written { drop result line.new
-        ≡ codes " r" ++ (decimal source.0 ++ (codes " => r" ++ (decimal target.0 ++ drop end line.old))) }
-{
-    let start = write_operand(line, end, b" => r", target.0);
-    write_operand(line, start, b" r", source.0)
-}
-
-/// Writes `left, right => dest` after a space, so that it ends at `end`, and gives where it starts.
-fn write_two_sources(line: &mut [u8], end: usize, left: Reg, right: Reg, dest: Reg) -> usize
-    requires { (LONGEST_OPERATION ≤ end) × (end ≤ length line.old) }
-    ensures space { (result ≤ end) × (end ≤ result + 40) }
-    ensures length { length line.new ≡ length line.old }
-    ensures written { drop result line.new
-        ≡ spelled_operands (space ▹ Use left ∷ comma ▹ Use right ∷ arrow ▹ Definition dest ∷ []) ++ drop end line.old }
-{
-    let end = write_operand(line, end, b" => r", dest.0);
-    let end = write_operand(line, end, b", r", right.0);
-    write_operand(line, end, b" r", left.0)
-}
-
-/// Writes `left, value => dest` after a space, so that it ends at `end`, and gives where it starts.
-fn write_immediate(line: &mut [u8], end: usize, left: Reg, value: u32, dest: Reg) -> usize
-    requires { (LONGEST_OPERATION ≤ end) × (end ≤ length line.old) }
-    ensures space { (result ≤ end) × (end ≤ result + 40) }
-    ensures length { length line.new ≡ length line.old }
-    ensures written { drop result line.new
-        ≡ spelled_operands (space ▹ Use left ∷ comma ▹ Constant value ∷ arrow ▹ Definition dest ∷ []) ++ drop end line.old }
-{
-    let end = write_operand(line, end, b" => r", dest.0);
-    let end = write_operand(line, end, b", ", value);
-    write_operand(line, end, b" r", left.0)
-}
-
-/// Writes `lead` and the number so that they end at `end`, and gives where they start.
+/// The second number of an operation.
 #[inline(always)]
-fn write_operand(line: &mut [u8], end: usize, lead: &[u8], number: u32) -> usize
-    requires { (length lead.now + 10 ≤ end) × (end ≤ length line.old) }
-    ensures space { (result ≤ end) × (end ≤ result + (length lead.now + 10)) }
-    ensures length { length line.new ≡ length line.old }
-    ensures written { drop result line.new ≡ lead.now ++ (decimal number ++ drop end line.old) }
+fn second(op: Op) -> Option<u32>
+    ensures { result ≡ slice_get (numbers op) 1 }
 {
-    let start = write_number(line, end, number);
-    write_text(line, start, lead)
-}
-
-/// Writes the number so that it ends at `end`, and gives where it starts. With no branch on whether a number below 100
-/// has one digit or two, `schedule` mispredicts 0.1 branches less for each operation on tiny blocks and 0.4 on others.
-#[inline(always)]
-#[tactic(auto, using(crate::proofs::ShortDecimals::decimal_is_short))]
-fn write_number(line: &mut [u8], end: usize, number: u32) -> usize
-    requires { (10 ≤ end) × (end ≤ length line.old) }
-    ensures space { (result ≤ end) × (end ≤ result + 10) }
-    ensures length { length line.new ≡ length line.old }
-    ensures written { drop result line.new ≡ decimal number ++ drop end line.old }
-{
-    if number >= 100 {
-        return write_digits(u64::from(number), line, end);
+    match op {
+        Op::Load { dest: r, .. }
+        | Op::LoadI { dest: r, .. }
+        | Op::Store { addr: r, .. }
+        | Op::StoreAI { addr: r, .. }
+        | Op::Add { right: r, .. }
+        | Op::Sub { right: r, .. }
+        | Op::Mult { right: r, .. }
+        | Op::Lshift { right: r, .. }
+        | Op::Rshift { right: r, .. } => Some(r.0),
+        Op::AddI { value: n, .. }
+        | Op::SubI { value: n, .. }
+        | Op::MultI { value: n, .. }
+        | Op::LshiftI { value: n, .. }
+        | Op::RshiftI { value: n, .. }
+        | Op::LoadAI { offset: n, .. } => Some(n),
+        Op::Output { .. } | Op::Nop => None,
     }
-    // As its last two of three digits, where the first of the two may be a zero to leave out.
-    let start = write_digits(u64::from(number) + 100, line, end);
-    start + 1 + usize::from(number < 10)
+}
+
+/// The third number of an operation.
+#[inline(always)]
+fn third(op: Op) -> Option<u32>
+    ensures { result ≡ slice_get (numbers op) 2 }
+{
+    match op {
+        Op::Add { dest: r, .. }
+        | Op::Sub { dest: r, .. }
+        | Op::Mult { dest: r, .. }
+        | Op::Lshift { dest: r, .. }
+        | Op::Rshift { dest: r, .. }
+        | Op::AddI { dest: r, .. }
+        | Op::SubI { dest: r, .. }
+        | Op::MultI { dest: r, .. }
+        | Op::LshiftI { dest: r, .. }
+        | Op::RshiftI { dest: r, .. }
+        | Op::LoadAI { dest: r, .. } => Some(r.0),
+        Op::StoreAI { offset: n, .. } => Some(n),
+        Op::Load { .. } | Op::LoadI { .. } | Op::Store { .. } | Op::Output { .. } | Op::Nop => None,
+    }
+}
+
+/// Writes `lead` and the number, if there is one, so that they end at `end`, and gives where they start.
+#[inline(always)]
+fn write_operand(line: &mut [u8], end: usize, lead: &Word, number: Option<u32>) -> usize
+    requires { (18 ≤ end) × (end ≤ length line.old) × (lead.now.length ≤ 8) }
+    ensures space { (result ≤ end) × (end ≤ result + 18) }
+    ensures length { length line.new ≡ length line.old }
+    ensures written { drop result line.new ≡ operand_text lead.now number ++ drop end line.old }
+{
+    match number {
+        Some(number) => {
+            let end = write_number(line, end, number);
+            write_word(line, end, lead)
+        }
+        None => end,
+    }
+}
+
+/// As `write_operand`, and as fast with a number of four digits, which only a first operand mostly has.
+#[inline(always)]
+fn write_first_operand(line: &mut [u8], end: usize, lead: &Word, number: Option<u32>) -> usize
+    requires { (18 ≤ end) × (end ≤ length line.old) × (lead.now.length ≤ 8) }
+    ensures space { (result ≤ end) × (end ≤ result + 18) }
+    ensures length { length line.new ≡ length line.old }
+    ensures written { drop result line.new ≡ operand_text lead.now number ++ drop end line.old }
+{
+    match number {
+        Some(number) => {
+            let end = write_wide_number(line, end, number);
+            write_word(line, end, lead)
+        }
+        None => end,
+    }
 }
 
 /// Writes the text, and gives where it starts.

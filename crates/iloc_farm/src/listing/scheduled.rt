@@ -8,7 +8,7 @@ use crate::listing::text::{FoldedText, Listing, ScheduleEntry};
 use crate::listing::{count_of, push_numbered, push_schedule, push_total};
 use bytes::BytesMut;
 use iloc_ops::{Block, NoMemory};
-use iloc_timed::{Latencies, Schedule};
+use iloc_timed::{Latencies, RowWriter, Schedule};
 use std::alloc::Global;
 
 /// Appends the comment that follows a schedule's cycles where a bound on them is known.
@@ -32,6 +32,7 @@ fn push_bound(text: &mut Vec<u8>, bound: Option<u64>, cycles: u64) -> Result<(),
 #[derive(Drop)]
 pub(crate) struct EntryMaker {
     alloc: Global,
+    writer: RowWriter,
     /// The entry of a block, until it is kept.
     text: Vec<u8>,
     /// What the next entries are cut from.
@@ -42,6 +43,7 @@ impl EntryMaker {
     pub(crate) fn new(alloc: Global) -> EntryMaker {
         EntryMaker {
             alloc,
+            writer: RowWriter::new(),
             text: Vec::new(alloc),
             piece: BytesMut::new(alloc),
         }
@@ -66,7 +68,8 @@ impl EntryMaker {
         self.text.clear();
         let cycles = count_of(schedule, latencies);
         let count = u64::from(cycles);
-        push_schedule(&mut self.text, number, block.name.as_ref(), schedule, count)?;
+        let name = block.name.as_ref();
+        push_schedule(&mut self.text, &mut self.writer, number, name, schedule, count)?;
         push_bound(&mut self.text, bound, count)?;
         let folds = cycles as usize / 4 > block.ops.len();
         let text = FoldedText::of(self.alloc, &mut self.piece, &self.text, folds)?;

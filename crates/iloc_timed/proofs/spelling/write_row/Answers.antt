@@ -19,8 +19,8 @@ pub returns-clause-written : goal.returns-clause-written
 returns-clause-written c = parts (spelling (op_in c.args.ops.now c.args.row.now.zero))
     (spelling (op_in c.args.ops.now c.args.row.now.one))
     (drop c.args.end c.args.line.now)
-    (drop c.write_text-end.result c.write_text-end.new.line) (drop c.write_slot-end.result c.write_slot-end.new.line)
-    (drop c.write_text-end-2.result c.write_text-end-2.new.line)
-    (drop c.write_slot-end-2.result c.write_slot-end-2.new.line) (drop c.write_text.result c.write_text.new.line)
-    c.write_text-end.ensures.written c.write_slot-end.ensures.written c.write_text-end-2.ensures.written
-    c.write_slot-end-2.ensures.written c.write_text.ensures.written
+    (drop c.write_word-end.result c.write_word-end.new.line) (drop c.write_slot-end.result c.write_slot-end.new.line)
+    (drop c.write_word-end-2.result c.write_word-end-2.new.line)
+    (drop c.write_slot-end-2.result c.write_slot-end-2.new.line) (drop c.write_word.result c.write_word.new.line)
+    c.write_word-end.ensures.written c.write_slot-end.ensures.written c.write_word-end-2.ensures.written
+    c.write_slot-end-2.ensures.written c.write_word.ensures.written
