@@ -27,7 +27,6 @@ pub mod Within
 pub mod Digits
 pub mod Lanes
 pub mod FastPath
-pub mod Falling
 pub mod Apart
 pub mod TextReads
 pub mod Places
