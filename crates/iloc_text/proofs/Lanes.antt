@@ -1,11 +1,11 @@
 -- Bytes side by side in a number, the first of them the lowest, and the digits among them.
-use Rattle.std.proofs.Common.{◌≡◌, ◌∙◌, ◌≤◌, ◌<◌, ◌+◌, ◌-◌, ◌*◌, ◌/◌, ◌%◌, ◌^◌, ◌==◌, ℕ, zero, suc, Bool, true, false, cond, List, [], ◌∷◌, ◌++◌, length, take, map, refl, sym, ap, ap₂, nat_lt, arith}
+use Rattle.std.proofs.Common.{◌≡◌, ◌∙◌, ◌≤◌, ◌<◌, ◌+◌, ◌-◌, ◌*◌, ◌/◌, ◌%◌, ◌^◌, ◌==◌, ℕ, zero, suc, Bool, true, false, cond, List, [], ◌∷◌, ◌++◌, length, take, refl, sym, ap, ap₂, nat_lt, arith}
 use Rattle.std.specs.List.{AllByRecursion}
 use Rattle.std.specs.Simd.Lanes.{number_l, zip2}
 use Rattle.std.specs.Int.Bits.{bit_and, bit_or, bit_xor, and_zero_r}
 use Rattle.std.specs.Int.Count.{count_trailing_zeros}
-use Rattle.std.proofs.lemmas.Bool.{agree_below_at, eqb-true}
-use Rattle.std.proofs.lemmas.Nat.{and_block, or_block, xor_block, and_le_r, or_of_8, and_mask, mod-mul-add, div-mul-add, mod-pow-add}
+use Rattle.std.proofs.lemmas.Bool.{agree_below_at, eqb-true, ltb-true}
+use Rattle.std.proofs.lemmas.Nat.{and_block, or_block, xor_block, and_mod, or_mod, and_le_r, or_of_8, and_mask, mod-mul-add, div-mul-add, mod-pow-add}
 use Rattle.iloc_text.specs.Steps.Digits.{digits_first, number_by}
 
 abbrev pub Bytes : List ℕ → Type 0
@@ -17,27 +17,6 @@ eight a b c d e f g h = (a, (b, (c, (d, (e, (f, (g, (h, tt))))))))
 
 turned : (a n : ℕ) → a + 256 * n ≡ n * 2 ^ 8 + a
 turned a n = omega arith
-
-and_lanes : (xs ys : List ℕ) → length xs ≡ length ys → Bytes xs → Bytes ys
-    → bit_and (number_l 256 xs) (number_l 256 ys) ≡ number_l 256 (zip2 bit_and xs ys)
-and_lanes [] ys e hx hy = refl
-and_lanes (x ∷ xs) [] e hx hy = absurd (omega (arith, e))
-and_lanes (x ∷ xs) (y ∷ ys) e hx hy =
-    ap₂ bit_and (turned x (number_l 256 xs)) (turned y (number_l 256 ys))
-    ∙ and_block 8 (number_l 256 xs) (number_l 256 ys) x y hx.0 hy.0
-    ∙ ap (λ n. n * 2 ^ 8 + bit_and x y) (and_lanes xs ys (omega (arith, e)) hx.1 hy.1)
-    ∙ sym (turned (bit_and x y) (number_l 256 (zip2 bit_and xs ys)))
-
-or_lanes : (xs ys : List ℕ) → length xs ≡ length ys → Bytes xs → Bytes ys
-    → bit_or (number_l 256 xs) (number_l 256 ys) ≡ number_l 256 (zip2 bit_or xs ys)
-or_lanes [] [] e hx hy = refl
-or_lanes [] (y ∷ ys) e hx hy = absurd (omega (arith, e))
-or_lanes (x ∷ xs) [] e hx hy = absurd (omega (arith, e))
-or_lanes (x ∷ xs) (y ∷ ys) e hx hy =
-    ap₂ bit_or (turned x (number_l 256 xs)) (turned y (number_l 256 ys))
-    ∙ or_block 8 (number_l 256 xs) (number_l 256 ys) x y hx.0 hy.0
-    ∙ ap (λ n. n * 2 ^ 8 + bit_or x y) (or_lanes xs ys (omega (arith, e)) hx.1 hy.1)
-    ∙ sym (turned (bit_or x y) (number_l 256 (zip2 bit_or xs ys)))
 
 pub xor_lanes : (xs ys : List ℕ) → length xs ≡ length ys → Bytes xs → Bytes ys
     → bit_xor (number_l 256 xs) (number_l 256 ys) ≡ number_l 256 (zip2 bit_xor xs ys)
@@ -70,41 +49,14 @@ front_is (t ∷ ts) (b ∷ bs) ht hb long e =
     (sym split ∙ ap (λ j. (b + 256 * n) % 2 ^ j) size ∙ e) in
     ap₂ (λ x xs. x ∷ xs) parts.0 (front_is ts bs ht.1 hb.1 (omega (arith, long)) parts.1)
 
--- Bytes that are 10 or more
+-- The first byte that is 10 or more
 
 abbrev flag : ℕ → ℕ
-flag d = bit_and (bit_or (bit_and d 127 + 118) d) 128
+flag d = bit_and (bit_or ((d + 118) % 256) d) 128
 
 flag_is : (d : ℕ) → d < 256 → flag d ≡ cond (nat_lt d 10) 0 128
 flag_is d h = eqb-true (flag d) (cond (nat_lt d 10) 0 128)
     (agree_below_at (λ n. flag n == cond (nat_lt n 10) 0 128) (λ n. true) 256 d refl h)
-
-masked : (d : ℕ) → bit_and d 127 + 118 < 256
-masked d = omega (arith, and_le_r d 127)
-
-flags : (p q r s t u v w : ℕ) → Bytes (p ∷ q ∷ r ∷ s ∷ t ∷ u ∷ v ∷ w ∷ [])
-    → bit_and (bit_or (bit_and (number_l 256 (p ∷ q ∷ r ∷ s ∷ t ∷ u ∷ v ∷ w ∷ [])) 9187201950435737471 + 8536140394893047414) (number_l 256 (p ∷ q ∷ r ∷ s ∷ t ∷ u ∷ v ∷ w ∷ []))) 36170086419038336 + 9223372036854775808
-    ≡ number_l 256 (flag p ∷ flag q ∷ flag r ∷ flag s ∷ flag t ∷ flag u ∷ flag v ∷ 128 ∷ [])
-flags p q r s t u v w h =
-    let all = p ∷ q ∷ r ∷ s ∷ t ∷ u ∷ v ∷ w ∷ [] in
-    let m : ℕ → ℕ = λ d. bit_and d 127 in
-    let y : ℕ → ℕ = λ d. m d + 118 in
-    let o : ℕ → ℕ = λ d. bit_or (y d) d in
-    let seven = and_lanes all (127 ∷ 127 ∷ 127 ∷ 127 ∷ 127 ∷ 127 ∷ 127 ∷ 127 ∷ []) refl h
-    (eight (omega arith) (omega arith) (omega arith) (omega arith) (omega arith) (omega arith) (omega arith) (omega arith)) in
-    let added : number_l 256 (m p ∷ m q ∷ m r ∷ m s ∷ m t ∷ m u ∷ m v ∷ m w ∷ []) + 8536140394893047414
-    ≡ number_l 256 (y p ∷ y q ∷ y r ∷ y s ∷ y t ∷ y u ∷ y v ∷ y w ∷ []) = omega arith in
-    let either = or_lanes (y p ∷ y q ∷ y r ∷ y s ∷ y t ∷ y u ∷ y v ∷ y w ∷ []) all refl
-    (eight (masked p) (masked q) (masked r) (masked s) (masked t) (masked u) (masked v) (masked w)) h in
-    let small : (d : ℕ) → d < 256 → o d < 256 = λ d below. or_of_8 (y d) d (masked d) below in
-    let highest = and_lanes (o p ∷ o q ∷ o r ∷ o s ∷ o t ∷ o u ∷ o v ∷ o w ∷ []) (128 ∷ 128 ∷ 128 ∷ 128 ∷ 128 ∷ 128 ∷ 128 ∷ 0 ∷ []) refl
-    (eight (small p h.0) (small q h.1.0) (small r h.1.1.0) (small s h.1.1.1.0) (small t h.1.1.1.1.0) (small u h.1.1.1.1.1.0) (small v h.1.1.1.1.1.1.0) (small w h.1.1.1.1.1.1.1.0))
-    (eight (omega arith) (omega arith) (omega arith) (omega arith) (omega arith) (omega arith) (omega arith) (omega arith)) in
-    ap (λ n. bit_and (bit_or (n + 8536140394893047414) (number_l 256 all)) 36170086419038336 + 9223372036854775808) seven
-    ∙ ap (λ n. bit_and (bit_or n (number_l 256 all)) 36170086419038336 + 9223372036854775808) added
-    ∙ ap (λ n. bit_and n 36170086419038336 + 9223372036854775808) either
-    ∙ ap (λ n. n + 9223372036854775808) highest
-    ∙ omega (arith, and_zero_r (o w))
 
 even : (k n : ℕ) → count_trailing_zeros (suc k) (n * 2) ≡ suc (count_trailing_zeros k n)
 unfolding count_trailing_zeros
@@ -144,44 +96,88 @@ byte_ends k n =
     ap₂ count_trailing_zeros long moved ∙ seven_even (suc k) (n * 2 + 1)
     ∙ ap (λ z. suc (suc (suc (suc (suc (suc (suc z))))))) (odd k n)
 
-zeros_of : (ds : List ℕ) → Bytes ds
-    → count_trailing_zeros (8 * (length ds + 1)) (number_l 256 (map flag ds ++ 128 ∷ [])) ≡ 8 * digits_first ds + 7
-zeros_of [] h = byte_ends 0 0
-zeros_of (d ∷ ds) h = by (nat_lt d 10) refl (zeros_of ds h.1)
+-- a number of as many equal bytes, below another one
+abbrev filled : ℕ → ℕ → List ℕ → ℕ
+filled each last [] = last
+filled each last (d ∷ ds) = each + 256 * filled each last ds
+
+-- the lowest byte of what is found, and the others
+lowest : (d n k m g : ℕ) → d < 256 → bit_and (bit_or (d + 256 * n + (118 + 256 * k)) (d + 256 * n)) (128 + 256 * m) + (0 + 256 * g)
+    ≡ flag d + 256 * (bit_and (bit_or (n + k + (d + 118) / 256) n) m + g)
+lowest d n k m g h =
+    let high = n + k + (d + 118) / 256 in
+    let low = (d + 118) % 256 in
+    let small : low < 256 = omega arith in
+    let summed : d + 256 * n + (118 + 256 * k) ≡ high * 2 ^ 8 + low = omega arith in
+    let either = ap₂ bit_or summed (turned d n) ∙ or_block 8 high n low d small h in
+    let highest = ap₂ bit_and either (turned 128 m)
+    ∙ and_block 8 (bit_or high n) m (bit_or low d) 128 (or_of_8 low d small h) (omega arith) in
+    ap (λ x. x + (0 + 256 * g)) highest ∙ omega arith
+
+zeros_of : (ds : List ℕ) (top : ℕ) → Bytes ds
+    → count_trailing_zeros (8 * (length ds + 1)) (bit_and (bit_or (number_l 256 (ds ++ top ∷ []) + filled 118 118 ds) (number_l 256 (ds ++ top ∷ []))) (filled 128 0 ds) + filled 0 128 ds)
+    ≡ 8 * digits_first ds + 7
+zeros_of [] top h =
+    ap (λ x. count_trailing_zeros 8 (x + 128)) (and_zero_r (bit_or (number_l 256 (top ∷ []) + 118) (number_l 256 (top ∷ []))))
+    ∙ byte_ends 0 0
+zeros_of (d ∷ ds) top h = by (nat_lt d 10) refl (zeros_of ds top h.1)
   where
-    rest : ℕ
-    rest = number_l 256 (map flag ds ++ 128 ∷ [])
+    n : ℕ
+    n = number_l 256 (ds ++ top ∷ [])
+
+    rest : ℕ → ℕ
+    rest carry = bit_and (bit_or (n + filled 118 118 ds + carry) n) (filled 128 0 ds) + filled 0 128 ds
 
     long : 8 * (length (d ∷ ds) + 1) ≡ 8 + 8 * (length ds + 1)
     long = omega arith
 
-    by : (b : Bool) → nat_lt d 10 ≡ b → count_trailing_zeros (8 * (length ds + 1)) rest ≡ 8 * digits_first ds + 7
-        → count_trailing_zeros (8 * (length (d ∷ ds) + 1)) (flag d + 256 * rest)
+    whole : bit_and (bit_or (d + 256 * n + (118 + 256 * filled 118 118 ds)) (d + 256 * n)) (128 + 256 * filled 128 0 ds) + (0 + 256 * filled 0 128 ds)
+        ≡ flag d + 256 * rest ((d + 118) / 256)
+    whole = lowest d n (filled 118 118 ds) (filled 128 0 ds) (filled 0 128 ds) h.0
+
+    by : (b : Bool) → nat_lt d 10 ≡ b
+        → count_trailing_zeros (8 * (length ds + 1)) (bit_and (bit_or (n + filled 118 118 ds) n) (filled 128 0 ds) + filled 0 128 ds) ≡ 8 * digits_first ds + 7
+        → count_trailing_zeros (8 * (length (d ∷ ds) + 1)) (bit_and (bit_or (d + 256 * n + (118 + 256 * filled 118 118 ds)) (d + 256 * n)) (128 + 256 * filled 128 0 ds) + (0 + 256 * filled 0 128 ds))
         ≡ 8 * cond b (1 + digits_first ds) 0 + 7
     by true e more =
-        let none : flag d + 256 * rest ≡ 256 * rest = ap (λ f. f + 256 * rest) (flag_is d h.0 ∙ ap (λ t. cond t 0 128) e) ∙ omega arith in
-        ap₂ count_trailing_zeros long none ∙ byte_skipped (8 * (length ds + 1)) rest
+        let none : (d + 118) / 256 ≡ 0 = omega (arith, ltb-true d 10 e) in
+        let same : n + filled 118 118 ds + (d + 118) / 256 ≡ n + filled 118 118 ds = omega (arith, none) in
+        let skipped : flag d + 256 * rest ((d + 118) / 256) ≡ 256 * (bit_and (bit_or (n + filled 118 118 ds) n) (filled 128 0 ds) + filled 0 128 ds) =
+        ap₂ (λ f x. f + 256 * (bit_and (bit_or x n) (filled 128 0 ds) + filled 0 128 ds)) (flag_is d h.0 ∙ ap (λ t. cond t 0 128) e) same ∙ omega arith in
+        ap₂ count_trailing_zeros long (whole ∙ skipped)
+        ∙ byte_skipped (8 * (length ds + 1)) (bit_and (bit_or (n + filled 118 118 ds) n) (filled 128 0 ds) + filled 0 128 ds)
         ∙ ap (λ z. 8 + z) more ∙ omega arith
     by false e more =
-        let one : flag d + 256 * rest ≡ 128 + 256 * rest = ap (λ f. f + 256 * rest) (flag_is d h.0 ∙ ap (λ t. cond t 0 128) e) in
-        ap₂ count_trailing_zeros long one ∙ byte_ends (8 * (length ds + 1)) rest
+        ap₂ count_trailing_zeros long (whole ∙ ap (λ f. f + 256 * rest ((d + 118) / 256)) (flag_is d h.0 ∙ ap (λ t. cond t 0 128) e))
+        ∙ byte_ends (8 * (length ds + 1)) (rest ((d + 118) / 256))
 
-pub digits_counted : (digits : ℕ) (below : List ℕ) (top : ℕ) → Bytes below → length below ≡ 7 → top < 256
+-- a sum that wraps beyond the bytes
+unwrapped : (a n m : ℕ) → n < 18446744073709551616 → m < 18446744073709551616
+    → bit_and (bit_or (a % 18446744073709551616) n) m ≡ bit_and (bit_or a n) m
+unwrapped a n m hn hm =
+    let within : n % 2 ^ 64 ≡ n = omega (arith, hn) in
+    let mask : m % 2 ^ 64 ≡ m = omega (arith, hm) in
+    let either : bit_or a n % 2 ^ 64 ≡ bit_or (a % 2 ^ 64) n = or_mod a n 64 ∙ ap (bit_or (a % 2 ^ 64)) within in
+    let both : bit_and (bit_or a n) m % 2 ^ 64 ≡ bit_and (bit_or a n % 2 ^ 64) m = and_mod (bit_or a n) m 64 ∙ ap (bit_and (bit_or a n % 2 ^ 64)) mask in
+    let small : bit_and (bit_or a n) m % 2 ^ 64 ≡ bit_and (bit_or a n) m = omega (arith, and_le_r (bit_or a n) m, hm) in
+    ap (λ x. bit_and x m) (sym either) ∙ sym both ∙ small
+
+pub digits_counted : (digits : ℕ) (below : List ℕ) (top : ℕ) → digits < 18446744073709551616 → Bytes below → length below ≡ 7
     → digits ≡ number_l 256 (below ++ top ∷ [])
-    → count_trailing_zeros 64 (bit_and (bit_or (bit_and digits 9187201950435737471 + 8536140394893047414) digits) 36170086419038336 + 9223372036854775808) / 8 ≡ digits_first below
-digits_counted digits (p ∷ q ∷ r ∷ s ∷ t ∷ u ∷ v ∷ []) top h long high e =
-    let all : Bytes (p ∷ q ∷ r ∷ s ∷ t ∷ u ∷ v ∷ top ∷ []) = eight h.0 h.1.0 h.1.1.0 h.1.1.1.0 h.1.1.1.1.0 h.1.1.1.1.1.0 h.1.1.1.1.1.1.0 high in
-    let found = ap (λ n. count_trailing_zeros 64 (bit_and (bit_or (bit_and n 9187201950435737471 + 8536140394893047414) n) 36170086419038336 + 9223372036854775808)) e
-    ∙ ap (count_trailing_zeros 64) (flags p q r s t u v top all) ∙ zeros_of (p ∷ q ∷ r ∷ s ∷ t ∷ u ∷ v ∷ []) h in
+    → count_trailing_zeros 64 (bit_and (bit_or ((digits + 8536140394893047414) % 18446744073709551616) digits) 36170086419038336 + 9223372036854775808) / 8 ≡ digits_first below
+digits_counted digits (p ∷ q ∷ r ∷ s ∷ t ∷ u ∷ v ∷ []) top fits h long e =
+    let found = ap (λ x. count_trailing_zeros 64 (x + 9223372036854775808)) (unwrapped (digits + 8536140394893047414) digits 36170086419038336 fits (omega arith))
+    ∙ ap (λ n. count_trailing_zeros 64 (bit_and (bit_or (n + 8536140394893047414) n) 36170086419038336 + 9223372036854775808)) e
+    ∙ zeros_of (p ∷ q ∷ r ∷ s ∷ t ∷ u ∷ v ∷ []) top h in
     ap (λ n. n / 8) found ∙ omega arith
-digits_counted digits [] top h long high e = absurd (omega (arith, long))
-digits_counted digits (p ∷ []) top h long high e = absurd (omega (arith, long))
-digits_counted digits (p ∷ q ∷ []) top h long high e = absurd (omega (arith, long))
-digits_counted digits (p ∷ q ∷ r ∷ []) top h long high e = absurd (omega (arith, long))
-digits_counted digits (p ∷ q ∷ r ∷ s ∷ []) top h long high e = absurd (omega (arith, long))
-digits_counted digits (p ∷ q ∷ r ∷ s ∷ t ∷ []) top h long high e = absurd (omega (arith, long))
-digits_counted digits (p ∷ q ∷ r ∷ s ∷ t ∷ u ∷ []) top h long high e = absurd (omega (arith, long))
-digits_counted digits (p ∷ q ∷ r ∷ s ∷ t ∷ u ∷ v ∷ w ∷ more) top h long high e = absurd (omega (arith, long))
+digits_counted digits [] top fits h long e = absurd (omega (arith, long))
+digits_counted digits (p ∷ []) top fits h long e = absurd (omega (arith, long))
+digits_counted digits (p ∷ q ∷ []) top fits h long e = absurd (omega (arith, long))
+digits_counted digits (p ∷ q ∷ r ∷ []) top fits h long e = absurd (omega (arith, long))
+digits_counted digits (p ∷ q ∷ r ∷ s ∷ []) top fits h long e = absurd (omega (arith, long))
+digits_counted digits (p ∷ q ∷ r ∷ s ∷ t ∷ []) top fits h long e = absurd (omega (arith, long))
+digits_counted digits (p ∷ q ∷ r ∷ s ∷ t ∷ u ∷ []) top fits h long e = absurd (omega (arith, long))
+digits_counted digits (p ∷ q ∷ r ∷ s ∷ t ∷ u ∷ v ∷ w ∷ more) top fits h long e = absurd (omega (arith, long))
 
 -- The number of up to four digits
 

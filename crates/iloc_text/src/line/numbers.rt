@@ -85,9 +85,9 @@ fn count_digits(digits: u64) -> usize
     ensures { (below : List ℕ) (top : ℕ) → AllByRecursion (λ d. d < 256) below → length below ≡ 7 → top < 256
         → digits ≡ number_l 256 (below ++ top ∷ []) → result ≡ digits_first below }
 {
-    // The highest bit of each byte that is 10 or more.
-    let others = (((digits & 0x7f7f_7f7f_7f7f_7f7f) + 0x7676_7676_7676_7676) | digits)
-        & 0x0080_8080_8080_8080;
+    // The highest bit of the first byte that is 10 or more. None of the bytes before it carries, and what those after it give
+    // doesn't matter.
+    let others = (digits.wrapping_add(0x7676_7676_7676_7676) | digits) & 0x0080_8080_8080_8080;
     ((others + 0x8000_0000_0000_0000).trailing_zeros() >> 3) as usize
 }
 
