@@ -24,6 +24,7 @@ use std::alloc::Global;
 const LONGEST_LINE: usize = 48;
 
 /// Appends a number with a word before it and one after it, in one go.
+#[inline(always)]
 #[tactic(auto, using(crate::proofs::Numbers::decimal_is_short))]
 pub(crate) fn push_numbered(
     text: &mut Vec<u8>,

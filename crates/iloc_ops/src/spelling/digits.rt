@@ -5,7 +5,8 @@ ghost use Rattle.iloc_ops.specs.Steps.Laid.{three_digits};
 
 use itoa::write_digits;
 
-/// Of each number below 1,000 how many digits it has, and three digits.
+/// Of each number below 1,000 how many digits it has, and three digits. With a table of pairs of digits `schedule` executes 3 %
+/// more instructions, and with a branch on how many digits there are it mispredicts 0.3 branches more for each operation.
 static SHORT: [u8; 4000] =
     *b"100010011002100310041005100610071008100920102011201220132014201520162017201820192020202120222023202420252026202720282029\
     203020312032203320342035203620372038203920402041204220432044204520462047204820492050205120522053205420552056205720582059\
