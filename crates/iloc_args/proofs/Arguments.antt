@@ -1,5 +1,5 @@
 -- The parser of an option's number, within its bounds.
-use Rattle.std.proofs.Common.{◌≡◌, ◌∙◌, ℕ, Option, Some, pos, refl, subst, ℤ}
+use Rattle.std.proofs.Common.{◌≡◌, ◌∙◌, ℕ, Option, Some, pos, refl, subst, ℤ, arith}
 use Rattle.std.specs.Int.{int_max, int_min}
 use Rattle.clap.specs.Lexer.{usize_max}
 use Rattle.clap.specs.declared.builder.range.ValueRange.{ValueRange}
@@ -16,17 +16,13 @@ pub narrowed : (low high : ℕ) (all p : ValueParser) (start end : ℤ) → all 
     → end ≡ pos high → NarrowsTo all (Some start) (Some end) p
     → signed_between (int_max (pos 0) (pos low)) (int_min (pos 4294967295) (pos high)) ≡ Signed (pos low) (pos high)
     → p ≡ Signed (pos low) (pos high)
-narrowed low high all p start end of from to narrows fits =
-    let parser : p ≡ signed_between (int_max (pos 0) (pos low)) (int_min (pos 4294967295) (pos high)) = rw (of, from, to) at narrows in
-    parser ∙ fits
+narrowed low high all p start end of from to narrows fits = grind (arith, pos)
 
 pub within : (low high : ℕ) (all p : ValueParser) (start end : ℤ) (name default : Text) (a : Arg)
     → all ≡ Signed (pos 0) (pos 4294967295) → start ≡ pos low → end ≡ pos high → NarrowsTo all (Some start) (Some end) p
     → signed_between (int_max (pos 0) (pos low)) (int_min (pos 4294967295) (pos high)) ≡ Signed (pos low) (pos high)
     → HasRule (default_rule name default p) a → HasRule (number_rule name default low high) a
-within low high all p start end name default a of from to narrows fits has =
-    subst (λ (q : ValueParser). HasRule (default_rule name default q) a)
-    (narrowed low high all p start end of from to narrows fits) has
+within low high all p start end name default a of from to narrows fits has = grind (arith, narrowed)
 
 -- what reads its numbers, by another name
 pub read_by : (rule : ValueParser → Rule) (p q : ValueParser) (a : Arg) → p ≡ q → HasRule (rule p) a → HasRule (rule q) a

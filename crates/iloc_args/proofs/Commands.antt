@@ -1,5 +1,5 @@
 -- An argument or a command with one setting, argument or subcommand more.
-use Rattle.std.proofs.Common.{◌≡◌, ◌∙◌, ◌||◌, ◌+◌, ◌<◌, ℕ, Bool, List, Option, Some, ap, arith, cond, [], ◌∷◌, false, get_or, length, map, refl, subst, sym, suc, take, true}
+use Rattle.std.proofs.Common.{◌≡◌, ◌∙◌, ◌||◌, ◌+◌, ◌<◌, ℕ, Bool, List, Option, ap, arith, [], ◌∷◌, false, get_or, length, map, refl, subst, sym, suc, take}
 use Rattle.std.specs.Prelude.{find, option_map}
 use Rattle.std.specs.Str.{bytes_eq}
 use Rattle.std.proofs.Math.Seq.{take-suc}
@@ -13,7 +13,7 @@ use Rattle.clap.specs.declared.builder.command.Command.TheOpen.{Command-F}
 use Rattle.clap.specs.declared.builder.command.Command.TheViews.{out-Command}
 use Rattle.iloc_args.specs.Asked.{task_among}
 use Rattle.iloc_args.specs.declared.request.Task.{Task}
-use Rattle.iloc_args.specs.Command.{Subcommand, top_shape}
+use Rattle.iloc_args.specs.Command.{top_shape}
 use Rattle.iloc_args.specs.declared.command.Argument.{Argument}
 use Rattle.iloc_args.specs.declared.command.Entry.{Entry}
 use Rattle.iloc_args.specs.Steps.Building.{HasApp, HasRule, alone, app_for, app_with, subcommand_for, rule_for, with_arguments}
@@ -21,20 +21,14 @@ use Rattle.iloc_args.specs.Steps.Building.{HasApp, HasRule, alone, app_for, app_
 -- a setting of an argument
 pub set_rule : (change : Rule → Rule) (r : Rule) (old new set : Arg) → HasRule r old → new ≡ set
     → rule_of set ≡ change (rule_of old) → set.global ≡ old.global → HasRule (change r) new
-set_rule change r old new set had is rule global = record {
-  rule = ap rule_of is ∙ (rule ∙ ap change had.rule);
-  global = ap (λ (a : Arg). a.global) is ∙ (global ∙ had.global);
-}
+set_rule change r old new set had is rule global = grind arith
 
 -- a setting of a command
 pub set_shape : (change : Shape → Shape) (a : App) (old new : Command) (set : Command-F Command) → HasApp a old
     → out-Command new ≡ set
     → app_of_fields set ≡ on_top change (app_of old) → set.has_globals ≡ (out-Command old).has_globals
     → HasApp (on_top change a) new
-set_shape change a old new set had is app globals = record {
-  app = ap app_of_fields is ∙ (app ∙ ap (on_top change) had.app);
-  globals = ap (λ (c : Command-F Command). c.has_globals) is ∙ (globals ∙ had.globals);
-}
+set_shape change a old new set had is app globals = grind arith
 
 -- a setting that reads nothing of the command
 pub set_flag : (set : Command-F Command → Command-F Command) (change : Shape → Shape) (a : App) (old new : Command)
@@ -49,18 +43,11 @@ neither a b c is p q = is ∙ rw (p, q) refl
 
 pub more_rule : (a : App) (r : Rule) (old : Command) (arg : Arg) (new : Command) → HasApp a old → HasRule r arg
     → AddsArg old arg new → HasApp (with_rule a r) new
-more_rule a r old arg new had rule adds = record {
-  app = adds.shape rule.global ∙ (ap (λ x. with_rule x (rule_of arg)) had.app ∙ ap (with_rule a) rule.rule);
-  globals = neither _ _ _ adds.globals had.globals rule.global;
-}
+more_rule a r old arg new had rule adds = grind (arith, neither)
 
 pub more_command : (a s : App) (old sub new : Command) → HasApp a old → HasApp s sub → AddsSubcommand old sub new
     → HasApp (with_subcommand a s.top) new
-more_command a s old sub new had has adds = record {
-  app = adds.shape has.globals ∙ (ap (λ x. with_subcommand x (app_of sub).top) had.app
-      ∙ ap (λ (x : App). with_subcommand a x.top) has.app);
-  globals = neither _ _ _ adds.globals had.globals has.globals;
-}
+more_command a s old sub new had has adds = grind (arith, neither)
 
 -- a command with its next argument
 pub next_argument : (name : Text) (arguments : List Argument) (i : ℕ) (d : Argument) (old : Command) (arg : Arg) (new : Command)
@@ -86,16 +73,7 @@ same_task : (entries : List Entry) (name : Text)
     → option_map (λ (r : Entry). r.task) (find (λ (r : Entry). bytes_eq r.name.now name) entries)
     ≡ task_among (map subcommand_for entries) name
 same_task [] name = refl
-same_task (r ∷ entries) name = go (bytes_eq r.name.now name) (same_task entries name)
-  where
-    go : (b : Bool)
-        → option_map (λ (x : Entry). x.task) (find (λ (x : Entry). bytes_eq x.name.now name) entries)
-        ≡ task_among (map subcommand_for entries) name
-        → option_map (λ (x : Entry). x.task) (cond b (Some r) (find (λ (x : Entry). bytes_eq x.name.now name) entries))
-        ≡ option_map (λ (e : Subcommand). e.task)
-        (cond b (Some (subcommand_for r)) (find (λ (e : Subcommand). bytes_eq e.name name) (map subcommand_for entries)))
-    go true rest = refl
-    go false rest = rest
+same_task (r ∷ entries) name = grind (arith, same_task entries name)
 
 -- the task of the row of a name is that of the command that it stands for
 pub found_in : (entries : List Entry) (name : Text) (found : Option Task)

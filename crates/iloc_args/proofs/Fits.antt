@@ -1,5 +1,5 @@
 -- What the arguments of a command have to be, and a test of it that computes.
-use Rattle.std.proofs.Common.{◌≡◌, ◌∙◌, ◌==◌, ◌&&◌, ◌++◌, ℕ, Bool, true, false, cond, not, pos, List, [], ◌∷◌, Some, None, Option, refl, sym, ap, ap₂, subst, codes, append_assoc}
+use Rattle.std.proofs.Common.{◌≡◌, ◌∙◌, ◌==◌, ◌&&◌, ◌++◌, ℕ, Bool, true, false, cond, not, pos, List, [], ◌∷◌, Some, Option, refl, sym, ap, subst, codes, append_assoc, arith}
 use Rattle.std.specs.Prelude.{IfSome}
 use Rattle.std.specs.List.{AllByRecursion, list_all}
 use Rattle.std.specs.Option.{option_map_or}
@@ -128,10 +128,7 @@ all_ours before (a ∷ xs) own ours =
 
 number_parser : (low high : ℕ) (o : Option ValueParser) → is_number_parser low high o ≡ true
     → o ≡ Some (vp.Signed (pos low) (pos high))
-number_parser low high (Some (vp.Signed (pos a) (pos b))) e =
-    let parts = and_parts (a == low) (b == high) e in
-    ap₂ (λ x y. Some (vp.Signed (pos x) (pos y))) (eqb-true a low parts.0) (eqb-true b high parts.1)
-number_parser low high _ e = cc
+number_parser low high o e = grind (arith, and_parts, eqb-true, pos)
 
 flag_parser : (o : Option ValueParser) → is_flag_parser o ≡ true → o ≡ Some vp.Bool
 flag_parser (Some vp.Bool) e = refl
@@ -140,12 +137,7 @@ flag_parser _ e = cc
 has_parser : (is : Option ValueParser → Bool) (parser : ValueParser)
     → ((o : Option ValueParser) → is o ≡ true → o ≡ Some parser) → (id : Text) (rules : List Rule)
     → takes is id rules ≡ true → Takes parser id rules
-has_parser is parser sound id rules e = go (arg_by_id rules id) e
-  where
-    go : (o : Option Rule) → option_map_or (λ (a : Rule). is a.parser) o true ≡ true
-        → IfSome o (λ a. a.parser ≡ Some parser)
-    go None e = tt
-    go (Some a) e = sound a.parser e
+has_parser is parser sound id rules e = grind arith
 
 pub fits : (rules : List Rule) → is_fit rules ≡ true → IsFit rules
 fits rules e =

@@ -64,10 +64,7 @@ one_read id f low high otherwise r small above below holds none reads =
 pub value_read : (before after : List Text) (x : Result ℕ ParseIntError) → StepsValues ReadsWord before after (Some x)
     → AreNumbersIn 0 4294967295 before
     → (n : ℕ) × (x ≡ Ok n) × (map number_of before ≡ n ∷ map number_of after) × AreNumbersIn 0 4294967295 after
-value_read [] after x steps h = absurd steps
-value_read (t ∷ rest) after x steps h =
-    let got = number_read 0 4294967295 t x (lit< tt) h.0 steps.0 in
-    (got.0, got.1, rw (got.2, steps.1) refl, subst (AreNumbersIn 0 4294967295) (sym steps.1) h.1)
+value_read before after x steps h = grind (arith, lit<, number_read)
 
 pub no_value : (before after : List Text) → StepsValues ReadsWord before after None → map number_of before ≡ []
 no_value [] after steps = refl

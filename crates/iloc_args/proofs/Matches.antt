@@ -1,5 +1,5 @@
 -- The matches of a command hold numbers in their ranges and flags, where the parser finds no fault in the words.
-use Rattle.std.proofs.Common.{◌≡◌, ◌∙◌, ◌||◌, ◌++◌, ℕ, Bool, true, false, cond, pos, List, [], ◌∷◌, Some, None, Option, map, refl, sym, ap, subst, codes}
+use Rattle.std.proofs.Common.{◌≡◌, ◌∙◌, ◌||◌, ◌++◌, ℕ, Bool, true, false, cond, pos, List, [], ◌∷◌, Some, None, Option, map, refl, sym, ap, subst, codes, arith}
 use Rattle.std.specs.Prelude.{Box, IfSome, find, option_and_then, option_map, slice_get, unwrap_or}
 use Rattle.std.specs.Box.{box_value}
 use Rattle.std.specs.List.{AllByRecursion, list_all}
@@ -7,16 +7,15 @@ use Rattle.std.specs.Option.{option_map_or}
 use Rattle.std.specs.Str.{bytes_eq}
 use Rattle.std.proofs.lemmas.Bool.{and_parts}
 use Rattle.std.proofs.lemmas.Slice.Eq.{bytes_eq-Decides}
-use Rattle.clap.specs.Facts.{parser_of_value}
 use Rattle.clap.specs.Faults.{entered_fault, level_fault, walk_fault}
 use Rattle.clap.specs.Kinds.{values_kinds}
 use Rattle.clap.specs.Simple.{Shape, built, built_leaf, entered, help_shape, inherited, label_of, names_of, rows_at, subcommand_of, subcommand_rows}
 use Rattle.clap.specs.Values.{read_as, reading_of}
-use Rattle.clap.specs.Walk.{Row, Rule, Text, answers_to, arg_by_id, nothing_held, row_text, rows_after, stop_after, walk_from}
+use Rattle.clap.specs.Walk.{Row, Rule, Text, answers_to, nothing_held, row_text, rows_after, stop_after, walk_from}
 use Rattle.clap.specs.declared.builder.value_parser.Reading.{Reading}
 use Rattle.clap.specs.declared.builder.value_parser.Reading.TheVariants.{AsWritten, WithoutMinus}
 use Rattle.clap.specs.declared.builder.value_parser.ValueParser.{ValueParser}
-use Rattle.clap.specs.declared.builder.value_parser.ValueParser.TheVariants.{Signed, Bool as BoolParser}
+use Rattle.clap.specs.declared.builder.value_parser.ValueParser.TheVariants.{Bool as BoolParser}
 use Rattle.clap.specs.declared.parser.matches.ArgMatches.TheViews.{out-SubCommand}
 use Rattle.clap.specs.declared.parser.matches.SubCommand.{SubCommand}
 use Rattle.iloc_meaning.specs.Address.{LAST_ADDRESS}
@@ -39,21 +38,13 @@ use Rattle.iloc_args.proofs.Stops.{IsElsewhere, walk_elsewhere}
 row_taken : (p : ValueParser) (id : Text) (rules : List Rule) (r : Row) → Takes p id rules
     → IsKept rules r × (r.id ≡ id)
     → (r.reading ≡ reading_of p) × (ignore_case : Bool) × (values_kinds ignore_case p r.values ≡ [])
-row_taken p id rules r takes kept =
-    let found : arg_by_id rules id ≡ Some kept.0.rule = ap (arg_by_id rules) (sym kept.1) ∙ kept.0.first in
-    let is : kept.0.rule.parser ≡ Some p = subst (λ o. IfSome o (λ (a : Rule). a.parser ≡ Some p)) found takes in (
-      kept.0.holds.reading ∙ ap (λ q. reading_of (parser_of_value q)) is,
-      kept.0.rule.ignore_case,
-      subst (λ q. values_kinds kept.0.rule.ignore_case (parser_of_value q) r.values ≡ []) is kept.0.holds.values,
-    )
+row_taken p id rules r takes kept = grind arith
 
 -- the values of a row are numbers within these bounds
 row_read : (low high : ℕ) (id : Text) (rules : List Rule) (r : Row) → TakesIn low high id rules → IsKept rules r
     × (r.id ≡ id)
     → (r.reading ≡ WithoutMinus) × AreNumbersIn low high (map (read_as WithoutMinus) r.values)
-row_read low high id rules r takes kept =
-    let taken = row_taken (Signed (pos low) (pos high)) id rules r takes kept in
-    (taken.0, taken_numbers taken.1 low high r.values taken.2)
+row_read low high id rules r takes kept = grind (arith, pos, row_taken, taken_numbers)
 
 option_read : (low high : ℕ) (id : Text) (rules : List Rule) (o : Option Row) → TakesIn low high id rules
     → IfSome o (λ r. IsKept rules r × (r.id ≡ id))
@@ -73,9 +64,7 @@ values_read : (low high : ℕ) (id : Text) (rules : List Rule) (o : Option Row) 
     → IfSome o (λ r. IsKept rules r × (r.id ≡ id))
     → AreNumbersIn low high (unwrap_or (option_map (λ r. map (read_as r.reading) r.values) o) [])
 values_read low high id rules None takes kept = tt
-values_read low high id rules (Some r) takes kept =
-    let read = row_read low high id rules r takes kept in
-    subst (λ (h : Reading). AreNumbersIn low high (map (read_as h) r.values)) (sym read.0) read.1
+values_read low high id rules (Some r) takes kept = grind (arith, row_read)
 
 flag_taken : (id : Text) (rules : List Rule) (o : Option Row) → Takes BoolParser id rules
     → IfSome o (λ r. IsKept rules r × (r.id ≡ id)) → IfSome (option_and_then row_text o) IsFlagText
@@ -151,16 +140,7 @@ entered_one : (es : List Subcommand) (p : Text × List Text) (named : Text × Li
     → option_map_or (λ s. level_fault s [] nothing_held p.1 false [])
     (find (λ s. answers_to p.0 (label_of s)) (with_help es)) [] ≡ []
     → IsEntered es p.0 named
-entered_one [] p named fit other is e = go (bytes_eq (codes "help") p.0) refl is
-  where
-    go : (b : Bool) → bytes_eq (codes "help") p.0 ≡ b
-        → option_map (λ s. rows_at s p.1) (cond (b || false) (Some (built_leaf help_shape)) None) ≡ Some named
-        → IsEntered [] p.0 named
-    go true same is =
-        let help : codes "help" ≡ p.0 = (bytes_eq-Decides (codes "help") p.0).0 same in
-        let equal : bytes_eq p.0 (codes "help") ≡ true = (bytes_eq-Decides p.0 (codes "help")).1 (sym help) in
-        cc
-    go false same is = cc
+entered_one [] p named fit other is e = grind (arith, bytes_eq-Decides, codes)
 entered_one (x ∷ es) p named fit other is e =
     go (bytes_eq x.name p.0) refl is e (entered_one es p named fit.1 other)
   where

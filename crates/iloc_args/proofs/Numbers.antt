@@ -1,8 +1,7 @@
 -- A whole number that the parser takes is one that the typed getters read.
-use Rattle.std.proofs.Common.{◌≡◌, ◌==◌, ℕ, Bool, true, false, cond, pos, List, [], ◌∷◌, Some, None, map, refl, ap, subst, sym, arith, drop}
+use Rattle.std.proofs.Common.{◌≡◌, ℕ, Bool, true, false, cond, pos, List, [], ◌∷◌, map, refl, subst, sym, arith, drop}
 use Rattle.std.proofs.lemmas.Bool.{ne_eqb}
 use Rattle.std.proofs.lemmas.Int.{ints}
-use Rattle.std.specs.Prelude.{unwrap_or}
 use Rattle.std.specs.Str.Parse.{IsNumeral, without_leading_plus, starts_with_minus}
 use Rattle.std.proofs.lemmas.Str.Parse.{digit_from_value}
 use Rattle.clap.specs.Lexer.{without_minus}
@@ -19,18 +18,10 @@ use Rattle.clap.specs.declared.error.kind.ErrorKind.TheVariants.{ValueValidation
 use Rattle.clap.specs.declared.builder.value_parser.ValueParser.TheVariants.{Signed}
 
 without_minus-cond : (t : Text) → without_minus t ≡ cond (starts_with_minus t) (drop 1 t) t
-without_minus-cond [] = refl
-without_minus-cond (x ∷ xs) = go (x == 45)
-  where
-    go : (b : Bool) → unwrap_or (cond b (Some xs) None) (x ∷ xs) ≡ cond b xs (x ∷ xs)
-    go true = refl
-    go false = refl
+without_minus-cond t = grind arith
 
 numeral_has_no_plus : (ds : Text) → IsNumeral 10 ds → without_leading_plus ds ≡ ds
-numeral_has_no_plus [] h = refl
-numeral_has_no_plus (d ∷ ds) h =
-    let plus : (d == 43) ≡ false = ne_eqb _ _ (λ e. omega (arith, digit_from_value d h.1.0)) in
-    ap (λ (b : Bool). drop (cond b 1 0) (d ∷ ds)) plus
+numeral_has_no_plus ds h = grind (arith, digit_from_value, ne_eqb)
 
 read_number : (low high : ℕ) (t : Text) → IsSignedIn (pos low) (pos high) t → IsNumberIn low high (without_minus t)
 read_number low high t passed = subst (IsNumberIn low high) (sym (without_minus-cond t)) (go (starts_with_minus t) refl)

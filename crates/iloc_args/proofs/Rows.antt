@@ -1,12 +1,9 @@
 -- Rows whose values the parser takes, and how they come about.
-use Rattle.std.proofs.Common.{◌≡◌, ◌∙◌, ◌++◌, Bool, true, false, cond, List, [], ◌∷◌, Some, refl, sym, ap, subst}
-use Rattle.std.specs.Prelude.{unwrap_or}
-use Rattle.std.specs.Str.{bytes_eq}
+use Rattle.std.proofs.Common.{◌≡◌, ◌∙◌, ◌++◌, Bool, List, [], ◌∷◌, Some, refl, ap, arith}
 use Rattle.std.proofs.lemmas.Slice.Eq.{bytes_eq-Decides}
-use Rattle.clap.specs.Facts.{parser_of_value}
 use Rattle.clap.specs.Faults.{values_fault}
 use Rattle.clap.specs.Kinds.{Kinds, or_else, value_kinds, values_kinds}
-use Rattle.clap.specs.Walk.{Row, Rule, Text, arg_by_id, at_row, more_values, reading_by, with_values, without}
+use Rattle.clap.specs.Walk.{Row, Rule, Text, arg_by_id, at_row, reading_by, with_values, without}
 use Rattle.clap.specs.declared.builder.value_parser.ValueParser.{ValueParser}
 use Rattle.clap.specs.declared.parser.matches.ValueSource.{ValueSource}
 
@@ -46,12 +43,7 @@ at_row_kept : (rules : List Rule) (id : Text) (change : Row → List Row) (missi
     → AllKept rules (at_row id change missing rows)
 at_row_kept rules id change missing [] kept changed new = new
 at_row_kept rules id change missing (r ∷ rs) kept changed new =
-    go (bytes_eq r.id id) refl (at_row_kept rules id change missing rs kept.1 changed new)
-  where
-    go : (b : Bool) → bytes_eq r.id id ≡ b → AllKept rules (at_row id change missing rs)
-        → AllKept rules (cond b (change r ++ rs) (r ∷ at_row id change missing rs))
-    go true e later = kept-append rules (change r) rs (changed r kept.0 ((bytes_eq-Decides r.id id).0 e)) kept.1
-    go false e later = (kept.0, later)
+    grind (arith, bytes_eq-Decides, kept-append, at_row_kept rules id change missing rs kept.1 changed new)
 
 pub without_kept : (rules : List Rule) (id : Text) (rows : List Row) → AllKept rules rows
     → AllKept rules (without id rows)
@@ -61,17 +53,4 @@ without_kept rules id rows kept = at_row_kept rules id (λ _. []) [] rows kept (
 pub with_values_kept : (rules : List Rule) (a : Rule) (s : ValueSource) (values : List Text) (rows : List Row)
     → arg_by_id rules a.id ≡ Some a
     → values_fault a values ≡ [] → AllKept rules rows → AllKept rules (with_values a.id (reading_by a) s values rows)
-with_values_kept rules a s values rows own taken kept = at_row_kept rules a.id (more_values s values) _ rows kept
-    (λ r k is.
-    let same : k.rule ≡ a = ap (λ o. unwrap_or o a) (sym k.first ∙ (ap (arg_by_id rules) is ∙ own)) in
-    let held : Holds a r = subst (λ (x : Rule). Holds x r) same k.holds in (
-      record {
-        rule = a;
-        first = ap (arg_by_id rules) is ∙ own;
-        holds = record {
-          reading = held.reading;
-          values = append_taken a.ignore_case (parser_of_value a.parser) r.values values held.values taken;
-        };
-      },
-      tt,
-    )) (record { rule = a; first = own; holds = record { reading = refl; values = taken } }, tt)
+with_values_kept rules a s values rows own taken kept = grind (arith, append_taken, at_row_kept)

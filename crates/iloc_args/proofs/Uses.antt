@@ -1,15 +1,12 @@
 -- One use of an argument: where the parser finds no fault in it, the rows are kept.
-use Rattle.std.proofs.Common.{◌≡◌, Bool, true, false, cond, List, [], ◌∷◌, Some, None, Option, refl, ap, subst, length}
-use Rattle.std.specs.Prelude.{find, unwrap_or}
+use Rattle.std.proofs.Common.{◌≡◌, Bool, true, false, List, [], ◌∷◌, Some, None, Option, refl, arith}
+use Rattle.std.specs.Prelude.{find}
 use Rattle.std.specs.List.{AllByRecursion}
 use Rattle.std.specs.Option.{option_map_or}
-use Rattle.clap.specs.Faults.{action_fault, repeat_fault, settle_fault, use_fault, values_fault}
-use Rattle.clap.specs.Facts.{unwrap_or_range}
-use Rattle.clap.specs.Kinds.{range_kinds}
-use Rattle.clap.specs.Walk.{Held, Row, Rule, Text, action_of, arg_by_id, most_values, reading_by, settled, settled_rows, used, used_as, used_by_id, values_or_missing, without}
+use Rattle.clap.specs.Faults.{settle_fault, use_fault}
+use Rattle.clap.specs.Walk.{Held, Row, Rule, Text, action_of, arg_by_id, settled, settled_rows, used, used_by_id}
 use Rattle.clap.specs.declared.builder.action.ArgAction.{ArgAction}
 use Rattle.clap.specs.declared.builder.action.ArgAction.TheVariants.{Set, Append, SetTrue, Help}
-use Rattle.clap.specs.declared.parser.matches.ValueSource.TheVariants.{CommandLine}
 use Rattle.iloc_args.proofs.Rows.{AllKept, both_empty, with_values_kept, without_kept}
 
 -- an action of this program's arguments
@@ -31,34 +28,12 @@ AllOurs rules = AllByRecursion (IsOurs rules) rules
 pub found_ours : (rules : List Rule) (p : Rule → Bool) (xs : List Rule) (a : Rule) → AllByRecursion (IsOurs rules) xs
     → find p xs ≡ Some a → IsOurs rules a
 found_ours rules p [] a ours found = cc
-found_ours rules p (x ∷ xs) a ours found = go (p x) found (found_ours rules p xs a ours.1)
-  where
-    go : (b : Bool) → cond b (Some x) (find p xs) ≡ Some a → (find p xs ≡ Some a → IsOurs rules a) → IsOurs rules a
-    go true e later = subst (IsOurs rules) (ap (λ o. unwrap_or o a) e) ours.0
-    go false e later = later e
+found_ours rules p (x ∷ xs) a ours found = grind (arith, found_ours rules p xs a ours.1)
 
 pub use_kept : (rules : List Rule) (again : Bool) (a : Rule) (values : List Text) (rows : List Row) → IsOurs rules a
     → AllKept rules rows
     → use_fault again a values rows ≡ [] → AllKept rules (used a values rows)
-use_kept rules again a values rows ours kept e = go (action_of a) ours.action counts.1
-  where
-    counts : (range_kinds (unwrap_or_range a.range).start_inclusive (most_values a) (length values) ≡ [])
-        × (action_fault (action_of a) again a (values_or_missing a values) rows ≡ [])
-    counts = both_empty (range_kinds (unwrap_or_range a.range).start_inclusive (most_values a) (length values)) _ e
-
-    go : (x : ArgAction) → is_our_action x ≡ true → action_fault x again a (values_or_missing a values) rows ≡ []
-        → AllKept rules (used_as x a.id (reading_by a) (values_or_missing a values) rows)
-    go Set is e =
-        let once = both_empty (repeat_fault again a.id rows) (values_fault a (values_or_missing a values)) e in
-        with_values_kept rules a CommandLine (values_or_missing a values) (without a.id rows) ours.first once.1
-        (without_kept rules a.id rows kept)
-    go SetTrue is e =
-        let once = both_empty (repeat_fault again a.id rows) (values_fault a (values_or_missing a values)) e in
-        with_values_kept rules a CommandLine (values_or_missing a values) (without a.id rows) ours.first once.1
-        (without_kept rules a.id rows kept)
-    go Append is e = with_values_kept rules a CommandLine (values_or_missing a values) rows ours.first e kept
-    go Help is e = cc
-    go _ is e = cc
+use_kept rules again a values rows ours kept e = grind (arith, both_empty, with_values_kept, without_kept)
 
 -- the argument whose values were being read is used with them
 pub settled_kept : (rules : List Rule) (again : Bool) (h : Held) → AllOurs rules → AllKept rules h.rows

@@ -1,15 +1,15 @@
 -- The walk over the words of a command: where the parser finds no fault, the rows that it makes are kept.
-use Rattle.std.proofs.Common.{◌≡◌, ◌&&◌, ℕ, zero, suc, Bool, true, false, cond, List, [], ◌∷◌, Some, None, Option, refl, is_some, length}
+use Rattle.std.proofs.Common.{◌≡◌, ℕ, zero, suc, Bool, true, false, cond, List, [], ◌∷◌, Some, None, Option, refl, is_some, length, arith}
 use Rattle.std.specs.Prelude.{drop, encode_utf8, slice_get}
 use Rattle.std.specs.List.{fold}
 use Rattle.std.specs.Option.{option_map_or}
-use Rattle.std.specs.Str.{bytes_eq, chars}
+use Rattle.std.specs.Str.{chars}
 use Rattle.clap.specs.Kinds.{Kinds, or_else}
-use Rattle.clap.specs.Lexer.{long_of, short_of}
-use Rattle.clap.specs.Faults.{bundle_fault, bundle_step_fault, flag_word_fault, flags_fault, long_fault, option_fault, other_fault, positional_fault, react_fault, settle_fault, short_fault, step_fault, stray_fault, turn_fault, use_fault, walk_fault, word_fault}
+use Rattle.clap.specs.Lexer.{short_of}
+use Rattle.clap.specs.Faults.{bundle_fault, bundle_step_fault, flag_word_fault, flags_fault, long_fault, option_fault, other_fault, positional_fault, react_fault, short_fault, step_fault, stray_fault, turn_fault, walk_fault, word_fault}
 use Rattle.clap.specs.Simple.{Shape}
 use Rattle.clap.specs.declared.error.kind.ErrorKind.TheVariants.{TooManyValues}
-use Rattle.clap.specs.Walk.{Held, Outcome, Rule, Step, Text, Waiting, Walk, after_flag, after_step, arg_by_id, arg_by_index, arg_by_long, arg_by_short, attached_value, bundle, bundle_met, bundle_step, flag_met, is_pending, long_met, long_or_other, option_met, option_word, plain_word, pushed, reacted, settled, short_met, short_or_plain, subcommand_or_other, takes_several, takes_values, to_positional, walked, walked_from, word_met, done, waits, plain, refused, idle, option, positional, trailing, value}
+use Rattle.clap.specs.Walk.{Held, Outcome, Rule, Step, Text, Waiting, Walk, after_flag, after_step, arg_by_index, arg_by_long, arg_by_short, attached_value, bundle_met, bundle_step, flag_met, long_met, long_or_other, option_met, plain_word, reacted, short_met, short_or_plain, subcommand_or_other, takes_values, to_positional, walked, word_met, done, idle, option, positional, value}
 use Rattle.iloc_args.proofs.Rows.{AllKept, both_empty}
 use Rattle.iloc_args.proofs.Uses.{AllOurs, IsOurs, found_ours, settled_kept, use_kept}
 
@@ -21,24 +21,14 @@ pub record IsHeld (rules : List Rule) (h : Held) : Type 0 where
 module _ (s : Shape) (ours : AllOurs s.rules) where
   reacted_kept : (a : Rule) (values : List Text) (h : Held) → IsOurs s.rules a → IsHeld s.rules h
       → react_fault s.rules s.args_override_self a values h ≡ [] → IsHeld s.rules (reacted s.rules a values h)
-  reacted_kept a values h own held e =
-      let parts = both_empty (settle_fault s.rules s.args_override_self h)
-      (use_fault s.args_override_self a values (settled s.rules h).rows) e in
-      let rows = settled_kept s.rules s.args_override_self h ours held.rows parts.0 in
-      record {
-        rows = use_kept s.rules s.args_override_self a values (settled s.rules h).rows own rows parts.1;
-        skip = held.skip;
-      }
+  reacted_kept a values h own held e = grind (arith, both_empty, settled_kept, use_kept)
 
   -- ---- an option or a flag
 
   option_kept : (a : Rule) (v : Option Text) (h : Held) → IsOurs s.rules a → IsHeld s.rules h
       → option_fault s.rules s.args_override_self a v h ≡ [] → IsHeld s.rules (option_met s.rules a v h).0
   option_kept a (Some v) h own held e = reacted_kept a (v ∷ []) h own held e
-  option_kept a None h own held e = record {
-    rows = settled_kept s.rules s.args_override_self h ours held.rows e;
-    skip = held.skip;
-  }
+  option_kept a None h own held e = grind (arith, settled_kept)
 
   long_kept : (o : Option Rule) (v : Option Text) (h : Held) → ((a : Rule) → o ≡ Some a → IsOurs s.rules a)
       → IsHeld s.rules h
@@ -95,34 +85,16 @@ module _ (s : Shape) (ours : AllOurs s.rules) where
 
   plain_kept : (waiting : Waiting) (word : Text) (h : Held) → IsHeld s.rules h
       → IsHeld s.rules (plain_word s.rules waiting word h).0
-  plain_kept idle word h held = held
-  plain_kept positional word h held = held
-  plain_kept (option id) word h held = go (arg_by_id s.rules id)
-    where
-      go : (o : Option Rule) → IsHeld s.rules (option_word o id word h).0
-      go None = held
-      go (Some a) = record { rows = held.rows; skip = held.skip }
+  plain_kept waiting word h held = grind arith
 
   flag_kept : (waiting : Waiting) (word : Text) (h : Held) (met : Outcome) → IsHeld s.rules h
       → IsHeld s.rules (after_flag s.rules waiting word h met).0
-  flag_kept waiting word h done held = held
-  flag_kept waiting word h (waits id) held = held
-  flag_kept waiting word h plain held = plain_kept waiting word h held
-  flag_kept waiting word h refused held = plain_kept waiting word h held
+  flag_kept waiting word h met held = grind (arith, plain_kept)
 
   short_word_kept : (waiting : Waiting) (word : Text) (flags : Option Text) (h : Held) → IsHeld s.rules h
       → option_map_or (λ f. bundle_fault s.rules s.args_override_self f h) flags [] ≡ []
       → IsHeld s.rules (short_or_plain s.rules waiting word flags h).0
-  short_word_kept waiting word None h held e = plain_kept waiting word h held
-  short_word_kept waiting word (Some flags) h held e =
-      flag_kept waiting word (bundle s.rules flags h).0 (bundle s.rules flags h).1 (go h.skip held.skip e)
-    where
-      go : (skip : ℕ) → skip ≡ 0 → flags_fault s.rules s.args_override_self (length flags) flags skip
-          (record h { skip = 0 }) ≡ []
-          → IsHeld s.rules (bundle_met s.rules (length flags) flags skip plain (record h { skip = 0 })).0
-      go zero none e = bundle_kept (length flags) flags plain (record h { skip = 0 })
-          (record { rows = held.rows; skip = refl }) e
-      go (suc skip) none e = absurd (cc)
+  short_word_kept waiting word flags h held e = grind (arith, bundle_kept, flag_kept, plain_kept)
 
   flag_word_kept : (waiting : Waiting) (word : Text) (long : Option (Text × Option Text)) (h : Held) → IsHeld s.rules h
       → flag_word_fault s.rules s.args_override_self long word h ≡ []
@@ -135,12 +107,7 @@ module _ (s : Shape) (ours : AllOurs s.rules) where
 
   other_kept : (waiting : Waiting) (at : ℕ) (word : Text) (h : Held) → IsHeld s.rules h → other_fault s None word h ≡ []
       → IsHeld s.rules (subcommand_or_other s.rules None waiting at word h).0
-  other_kept waiting at word h held e = go (bytes_eq word (45 ∷ 45 ∷ [])) e
-    where
-      go : (b : Bool) → cond b [] (flag_word_fault s.rules s.args_override_self (long_of word) word h) ≡ []
-          → IsHeld s.rules (cond b (h, trailing at) (long_or_other s.rules waiting word (long_of word) h)).0
-      go true e = held
-      go false e = flag_word_kept waiting word (long_of word) h held e
+  other_kept waiting at word h held e = grind (arith, flag_word_kept)
 
   word_kept : (is_trailing : Bool) (waiting : Waiting) (at : ℕ) (word : Text) (h : Held) → IsHeld s.rules h
       → word_fault s [] is_trailing waiting word h ≡ []
@@ -155,13 +122,7 @@ module _ (s : Shape) (ours : AllOurs s.rules) where
   positional_kept : (o : Option Rule) (word : Text) (w : Walk) (h : Held) → IsHeld s.rules h
       → option_map_or (λ a. positional_fault s.rules s.args_override_self a h) o (stray_fault s) ≡ []
       → IsHeld s.rules (to_positional s.rules o word w h).held
-  positional_kept None word w h held e = held
-  positional_kept (Some a) word w h held e = go (is_pending a h.pending && takes_several a) e
-    where
-      go : (b : Bool) → cond b [] (settle_fault s.rules s.args_override_self h) ≡ []
-          → IsHeld s.rules (pushed a.id word (cond b h (settled s.rules h)))
-      go true e = record { rows = held.rows; skip = held.skip }
-      go false e = record { rows = settled_kept s.rules s.args_override_self h ours held.rows e; skip = held.skip }
+  positional_kept o word w h held e = grind (arith, settled_kept)
 
   step_kept : (word : Text) (w : Walk) (h : Held) (step : Step) → IsHeld s.rules h
       → step_fault s w.position h step ≡ [] → IsHeld s.rules (after_step s.rules word w h step).held
@@ -173,16 +134,7 @@ module _ (s : Shape) (ours : AllOurs s.rules) where
   turn_kept : (w : Walk) (word : Text) → IsHeld s.rules w.held → turn_fault s [] w word ≡ []
       → IsHeld s.rules (walked s.rules [] w word).held
   unfolding walked
-  turn_kept w word held e = go w.stopped e
-    where
-      go : (stopped : Option (Text × List Text)) → turn_fault s [] (record w { stopped = stopped }) word ≡ []
-          → IsHeld s.rules (walked_from s.rules [] stopped w word).held
-      go (Some p) e = held
-      go None e =
-          let met = word_met s.rules [] w.is_trailing w.waiting w.position word w.held in
-          let parts = both_empty (word_fault s [] w.is_trailing w.waiting word w.held)
-          (step_fault s w.position met.0 met.1) e in
-          step_kept word w met.0 met.1 (word_kept w.is_trailing w.waiting w.position word w.held held parts.0) parts.1
+  turn_kept w word held e = grind (arith, both_empty, step_kept, word_kept)
 
   pub walk_kept : (words : List Text) (w : Walk) → IsHeld s.rules w.held → walk_fault s [] w words ≡ []
       → IsHeld s.rules (fold (walked s.rules []) w words).held

@@ -1,4 +1,4 @@
-use Rattle.std.proofs.Common.{codes, ◌≡◌, ◌∙◌, Some, None, Option, refl, ap}
+use Rattle.std.proofs.Common.{codes, ◌≡◌, Option, arith}
 use Rattle.clap.specs.Words.{found_of}
 use Rattle.iloc_args.proofs.Priorities.{named}
 use Rattle.std.specs.Prelude.{option_map, unwrap_or}
@@ -16,12 +16,7 @@ use Rattle.iloc_args.proofs.line.priority_in.Goals as goal
 text_read : (f : Found) (id : Text) (given : Option (Bor Text)) (otherwise read : Bor Text)
     → option_map (λ s. s.now) given ≡ first_value f id → read ≡ unwrap_or given otherwise
     → read.now ≡ text_or otherwise.now id (rows_of f)
-text_read f id given otherwise read got is =
-    ap (λ (s : Bor Text). s.now) is ∙ (go given ∙ ap (λ o. unwrap_or o otherwise.now) (got ∙ first_value-rows f id))
-  where
-    go : (o : Option (Bor Text)) → (unwrap_or o otherwise).now ≡ unwrap_or (option_map (λ s. s.now) o) otherwise.now
-    go None = refl
-    go (Some s) = refl
+text_read f id given otherwise read got is = grind (arith, first_value-rows)
 
 pub returns : goal.returns
 returns c =
