@@ -1,6 +1,6 @@
 -- Places can be counted: no more is emitted than is issued, and that in a row.
-use Rattle.std.proofs.Common.{◌≡◌, ◌<◌, ◌≤◌, Bool, ℕ, zero, suc, ◌+◌, ◌*◌, ◌^◌, List, [], ◌∷◌, length, length-append, Option, Some, None, option_to_list, arith, refl, ap, inl, inr}
-use Rattle.std.specs.Prelude.{ℤ, slice_get, map}
+use Rattle.std.proofs.Common.{◌≡◌, ◌<◌, ◌≤◌, Bool, ℕ, zero, suc, ◌+◌, ◌*◌, ◌^◌, List, [], ◌∷◌, length, length-append, Option, Some, None, option_to_list, arith, refl, ap}
+use Rattle.std.specs.Prelude.{ℤ, slice_get}
 use Rattle.std.proofs.lemmas.Bool.{cases_lt}
 use Rattle.std.proofs.lemmas.List.{length-map}
 use Rattle.std.proofs.lemmas.Option.{slice_get_past}
@@ -10,23 +10,18 @@ use Rattle.iloc_meaning.specs.declared.effect.Effect.{Effect}
 use Rattle.iloc_meaning.specs.declared.effect.Effect.TheVariants.{Faults}
 use Rattle.iloc_meaning.specs.declared.outcome.Outcome.{Outcome}
 use Rattle.iloc_meaning.specs.declared.outcome.Outcome.TheVariants as O
-use Rattle.iloc_meaning.specs.Outcome.{outcome, has_fault, emitted, emitted_by}
-use Rattle.iloc_meaning.specs.Trace.{Executed, before, op_at}
-use Rattle.iloc_meaning.proofs.Cases.{by_bool}
+use Rattle.iloc_meaning.specs.Outcome.{outcome, emitted, emitted_by}
+use Rattle.iloc_meaning.specs.Trace.{Executed, before}
 use Rattle.iloc_timed.specs.Limits.{MAX_ROWS}
 use Rattle.iloc_timed.specs.declared.latencies.Latencies.{Latencies}
 use Rattle.iloc_timed.specs.declared.row.Row.{Row}
-use Rattle.iloc_timed.specs.Rows.{row_at, slots}
-use Rattle.iloc_timed.specs.Timed.{Issued, issue, issued_before, executed_in, timed_outcome}
+use Rattle.iloc_timed.specs.Rows.{slots}
+use Rattle.iloc_timed.specs.Timed.{issued_before, timed_outcome}
 use Rattle.iloc_judge.specs.declared.verdict.comparison.Comparison.{Comparison}
-use Rattle.iloc_judge.specs.declared.verdict.comparison.Comparison.TheVariants as of
 use Rattle.iloc_judge.specs.declared.verdict.difference.Difference.{Difference}
-use Rattle.iloc_judge.specs.declared.verdict.difference.Difference.TheVariants.{Output}
 use Rattle.iloc_judge.specs.declared.verdict.Verdict.{Verdict}
-use Rattle.iloc_judge.specs.declared.verdict.Verdict.TheVariants.{Units, Lawful, Unlawful, Undecided}
 use Rattle.iloc_judge.specs.Verdict.Comparison.{IsComparison}
 use Rattle.iloc_judge.specs.Verdict.Difference.{IsDifference}
-use Rattle.iloc_judge.specs.Verdict.Memory.{memory_of}
 use Rattle.iloc_judge.specs.Verdict.{IsVerdict}
 use Rattle.iloc_judge.specs.Steps.Counted.{IsCounted, CanBeCompared, CanBeListed}
 
@@ -59,56 +54,23 @@ length-slots row =
 few_issued : (lat : Latencies) (memory : List ℤ) (ops : List Op) (rows : List Row) (c : ℕ)
     → length (issued_before lat memory ops rows c) ≤ 2 * c
 few_issued lat memory ops rows zero = omega arith
-few_issued lat memory ops rows (suc c) =
-    let log : List Issued = issued_before lat memory ops rows c in
-    let issued : ℕ → Issued = λ i. issue lat memory c log (op_at ops i) in
-    omega (
-      arith,
-      length-append (map issued (slots (row_at rows c))) log,
-      length-map (slots (row_at rows c)) issued,
-      length-slots (row_at rows c),
-      few_issued lat memory ops rows c,
-    )
+few_issued lat memory ops rows (suc c) = grind (arith, length-append, length-map, length-slots, few_issued lat memory ops rows c)
 
 block_emits : (block : List Op) (memory : List ℤ) → EmitsAtMost (length block) (outcome block memory)
-block_emits block memory = by_bool (has_fault (before memory block (length block)))
-    (λ t. rw t tt)
-    (λ f. rw f (omega (arith, few_emitted (before memory block (length block)), length-before memory block (length block))))
+block_emits block memory = grind (arith, few_emitted, length-before)
 
 rows_emit : (lat : Latencies) (ops : List Op) (rows : List Row) (memory : List ℤ)
     → EmitsAtMost (2 * length rows) (timed_outcome lat ops rows memory)
-rows_emit lat ops rows memory =
-    let log : List Issued = issued_before lat memory ops rows (length rows) in
-    by_bool (has_fault (executed_in log))
-    (λ t. rw t tt)
-    (λ f. rw f (omega (
-      arith,
-      few_emitted (executed_in log),
-      length-map log (λ (e : Issued). e.executed),
-      few_issued lat memory ops rows (length rows),
-    )))
+rows_emit lat ops rows memory = grind (arith, few_emitted, few_issued, length-map)
 
 -- where two lists differ one of them has an item
 apart_within : (xs ys : List ℤ) (i : ℕ) (x y : Option ℤ) → slice_get xs i ≡ x → slice_get ys i ≡ y → (x ≡ y → ⊥)
     → i < length xs + length ys
-apart_within xs ys i x y first second apart = elim (cases_lt i (length xs + length ys)) [
-  | inl within ↦ within
-  | inr past ↦
-      let none : slice_get xs i ≡ None = slice_get_past xs i (omega arith) in
-      let neither : slice_get ys i ≡ None = slice_get_past ys i (omega arith) in
-      absurd (apart (cc))
-]
+apart_within xs ys i x y first second apart = grind (arith, cases_lt, slice_get_past)
 
 few_counted : (outputs : Bool) (n m : ℕ) (got wanted : Outcome) (difference : Difference) → n + m + 1 < 2 ^ 64 → EmitsAtMost n got
     → EmitsAtMost m wanted → IsDifference outputs got wanted difference → IsCounted difference
-few_counted outputs n m O.Fault O.Fault difference small few fewer is = absurd is
-few_counted outputs n m O.Fault (O.Finished wanteds memory) difference small few fewer is = rw is tt
-few_counted outputs n m (O.Finished gots memory) O.Fault difference small few fewer is = rw is tt
-few_counted outputs n m (O.Finished gots memory) (O.Finished wanteds end) (Output index got wanted) small few fewer is =
-    let within : index < length gots + length wanteds =
-    apart_within gots wanteds index got wanted is.first is.second is.apart in
-    omega arith
-few_counted outputs n m (O.Finished gots memory) (O.Finished wanteds end) _ small few fewer is = tt
+few_counted outputs n m got wanted difference small few fewer is = grind (arith, apart_within)
 
 difference_counted : (outputs : Bool) (lat : Latencies) (block ops : List Op) (rows : List Row) (memory : List ℤ) (difference : Difference)
     → length block ≤ MAX_OPS → length rows ≤ MAX_ROWS
@@ -120,18 +82,9 @@ difference_counted outputs lat block ops rows memory difference short few is =
 compared_listed : (outputs : Bool) (lat : Latencies) (memory : List ℤ) (block ops : List Op) (rows : List Row) (found : Comparison)
     → length block ≤ MAX_OPS → length rows ≤ MAX_ROWS → IsComparison outputs lat block ops rows memory found
     → CanBeCompared found
-compared_listed outputs lat memory block ops rows (of.Differs difference) short few is =
-    difference_counted outputs lat block ops rows memory difference short few is.1
-compared_listed outputs lat memory block ops rows (of.DiffersOn probe difference) short few is =
-    difference_counted outputs lat block ops rows (memory_of probe) difference short few is.2
-compared_listed outputs lat memory block ops rows _ short few is = tt
+compared_listed outputs lat memory block ops rows found short few is = grind (arith, difference_counted)
 
 pub verdict_listed : (outputs : Bool) (lat : Latencies) (memory : List ℤ) (block ops : List Op) (rows : List Row) (verdict : Verdict)
     → length block ≤ MAX_OPS → length rows ≤ MAX_ROWS → IsVerdict outputs lat block ops rows memory verdict
     → CanBeListed rows verdict
-verdict_listed outputs lat memory block ops rows (Units c) short few is = is.within
-verdict_listed outputs lat memory block ops rows Lawful short few is = tt
-verdict_listed outputs lat memory block ops rows (Unlawful reasons found) short few is =
-    compared_listed outputs lat memory block ops rows found short few is.3
-verdict_listed outputs lat memory block ops rows (Undecided found) short few is =
-    compared_listed outputs lat memory block ops rows found short few is.1
+verdict_listed outputs lat memory block ops rows verdict short few is = grind (arith, compared_listed)

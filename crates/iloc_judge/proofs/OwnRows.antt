@@ -1,10 +1,10 @@
 -- Rows that issue what a schedule of ours does keep the rules of the units.
-use Rattle.std.proofs.Common.{◌≡◌, ◌&&◌, true, false, ℕ, List, length}
+use Rattle.std.proofs.Common.{ℕ, List, length, arith}
 use Rattle.iloc_ops.specs.declared.op.Op.{Op}
 use Rattle.iloc_timed.specs.declared.latencies.Latencies.{Latencies}
 use Rattle.iloc_timed.specs.declared.row.Row.{Row}
-use Rattle.iloc_timed.specs.Rows.{keeps_units, row_at, IsTable}
-use Rattle.iloc_timed.specs.Schedule.{in_range, AreInRange, AreOnce, IsFirstBadRow}
+use Rattle.iloc_timed.specs.Rows.{IsTable}
+use Rattle.iloc_timed.specs.Schedule.{AreInRange, AreOnce, IsFirstBadRow}
 use Rattle.iloc_timed.proofs.Standing.{numbered_from}
 use Rattle.iloc_sched.specs.Lawful.{IsLawful}
 use Rattle.iloc_validation.specs.ByTheBook.{IsByTheBook, IssueTheSame}
@@ -12,11 +12,7 @@ use Rattle.iloc_validation.proofs.SameIssues.{own_by_the_book}
 
 no_bad_row : (ops : List Op) (rows : List Row) (c : ℕ) → IsTable ops rows → AreInRange (length ops) rows
     → IsFirstBadRow ops rows c → ⊥
-no_bad_row ops rows c table inside bad =
-    let first : in_range (length ops) (row_at rows c) ≡ true = inside c bad.within in
-    let second : keeps_units ops (row_at rows c) ≡ true = table.units c in
-    let third : (in_range (length ops) (row_at rows c) && keeps_units ops (row_at rows c)) ≡ false = bad.bad in
-    cc
+no_bad_row ops rows c table inside bad = grind arith
 
 -- ours is a lawful schedule of a block
 pub own_rows_keep_units : (lat : Latencies) (block ops ops' : List Op) (rows rows' : List Row) (c : ℕ) → IsLawful lat block ops rows

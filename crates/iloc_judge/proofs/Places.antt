@@ -1,5 +1,5 @@
 -- Lists in which no place differs.
-use Rattle.std.proofs.Common.{◌≡◌, ◌<◌, ℕ, suc, ◌*◌, ◌/◌, List, [], ◌∷◌, length, get_or, max, ℤ, pos, arith, refl, sym, ap, ◌∙◌, inl, inr}
+use Rattle.std.proofs.Common.{◌≡◌, ◌<◌, ℕ, suc, ◌*◌, ◌/◌, List, [], ◌∷◌, length, get_or, max, ℤ, pos, arith, refl, sym, ap, ◌∙◌}
 use Rattle.std.specs.Prelude.{slice_get}
 use Rattle.std.proofs.lemmas.Bool.{cases_lt}
 use Rattle.std.proofs.lemmas.List.{ext_get_or}
@@ -18,10 +18,7 @@ same_gets (x ∷ xs) (y ∷ ys) same =
 -- below the longer one's end
 pub same_outputs : (xs ys : List ℤ) (n : ℕ) → n ≡ max (length xs) (length ys)
     → ((k : ℕ) → k < n → slice_get xs k ≡ slice_get ys k) → xs ≡ ys
-same_outputs xs ys n count same = same_gets xs ys (λ k. elim (cases_lt k n) [
-  | inl below ↦ same k below
-  | inr past ↦ slice_get_past xs k (omega arith) ∙ sym (slice_get_past ys k (omega arith))
-])
+same_outputs xs ys n count same = grind (arith, cases_lt, same_gets, slice_get_past)
 
 -- at each address
 pub same_memories : (xs ys : List ℤ) (n : ℕ) → n ≡ length xs → length xs ≡ length ys

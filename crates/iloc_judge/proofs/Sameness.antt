@@ -1,5 +1,5 @@
 -- Rows that are found to be the same do what the block does, and rows pass only if they may.
-use Rattle.std.proofs.Common.{◌≡◌, ◌⊎◌, ◌&&◌, Bool, true, false, List, ℕ, refl, sym, ap, ◌∙◌, inl, inr, ◌==◌, ◌<◌, ◌≤◌, zero, suc, ◌+◌, length, take, get_or, subst, arith}
+use Rattle.std.proofs.Common.{◌≡◌, ◌⊎◌, ◌&&◌, Bool, true, false, List, ℕ, sym, ap, ◌∙◌, inl, inr, ◌==◌, ◌<◌, ◌≤◌, zero, suc, ◌+◌, length, take, get_or, subst, arith}
 use Rattle.std.specs.Prelude.{ℤ, count_by}
 use Rattle.std.proofs.lemmas.Bool.{true≢false, and_from, and_parts, eqb-true, le-leb, cases_lt}
 use Rattle.iloc_ops.specs.declared.op.Op.{Op}
@@ -12,14 +12,11 @@ use Rattle.iloc_timed.specs.Schedule.{Table}
 use Rattle.iloc_rows.specs.declared.proposal.Proposed.{Proposed}
 use Rattle.iloc_validation.specs.ByTheBook.{IsByTheBook}
 use Rattle.iloc_validation.proofs.Outcomes.{keeps_the_outcome}
-use Rattle.iloc_judge.specs.declared.verdict.comparison.Comparison.TheVariants as of
 use Rattle.iloc_judge.specs.declared.verdict.comparison.Comparison.{Comparison}
 use Rattle.iloc_judge.specs.Verdict.Comparison.{AgreesOnAll, IsComparison}
 use Rattle.iloc_judge.specs.Verdict.Difference.{AreAlike}
 use Rattle.iloc_judge.specs.declared.verdict.Verdict.{Verdict}
-use Rattle.iloc_judge.specs.declared.verdict.Verdict.TheVariants.{Units, Lawful, Unlawful, Undecided}
 use Rattle.iloc_judge.specs.declared.verdict.kind.VerdictKind.{VerdictKind}
-use Rattle.iloc_judge.specs.declared.verdict.kind.VerdictKind.TheVariants as kind
 use Rattle.iloc_judge.specs.Verdict.Void.{CanBeJudged}
 use Rattle.iloc_judge.specs.Verdict.{IsVerdict}
 use Rattle.iloc_judge.specs.declared.checked.Checked.{Checked}
@@ -93,26 +90,14 @@ prints_do_the_same false lat block ops rows table alone agree = absurd cc
 
 book_does_the_same : (outputs : Bool) (lat : Latencies) (block ops : List Op) (rows : List Row) → IsByTheBook lat block ops rows
     → DoTheSame outputs lat block ops rows
-book_does_the_same outputs lat block ops rows book = record {
-  table = book.2.table;
-  agree = λ words fits. alike_of_equal outputs (keeps_the_outcome lat block ops rows words book);
-}
+book_does_the_same outputs lat block ops rows book = grind (arith, alike_of_equal, keeps_the_outcome)
 
 -- where they are compared as the same, or print
 compared_same : (lawful outputs : Bool) (lat : Latencies) (memory : List ℤ) (block ops : List Op) (rows : List Row)
     (found : Comparison) → IsTable ops rows → IsComparison outputs lat block ops rows memory found
     → is_passing lawful (compared_kind found) ≡ true
     → DoTheSame outputs lat block ops rows × CanBeJudged outputs block memory × (lawful ≡ false)
-compared_same true outputs lat memory block ops rows of.Same table right pass = absurd cc
-compared_same false outputs lat memory block ops rows of.Same table right pass = (
-  record { table = table; agree = λ words fits. alike_of_equal outputs (right.1 words fits) },
-  right.0,
-  refl,
-)
-compared_same true outputs lat memory block ops rows of.Prints table right pass = absurd cc
-compared_same false outputs lat memory block ops rows of.Prints table right pass =
-    (prints_do_the_same outputs lat block ops rows table right.1 right.2, right.0, refl)
-compared_same lawful outputs lat memory block ops rows _ table right pass = absurd cc
+compared_same lawful outputs lat memory block ops rows found table right pass = grind (arith, alike_of_equal, prints_do_the_same)
 
 -- what holds of rows that pass with this verdict
 abbrev PassesAs : (lawful outputs : Bool) → Latencies → List ℤ → List Op → List Op → List Row → Type 0
@@ -122,13 +107,7 @@ PassesAs lawful outputs lat memory block ops rows = IsByTheBook lat block ops ro
 passes_as : (lawful asked outputs : Bool) (lat : Latencies) (memory : List ℤ) (block ops : List Op) (rows : List Row) (verdict : Verdict)
     → IsVerdict outputs lat block ops rows memory verdict → is_passing lawful (kind_of asked verdict) ≡ true
     → PassesAs lawful outputs lat memory block ops rows
-passes_as lawful asked outputs lat memory block ops rows (Units c) right pass = absurd cc
-passes_as lawful asked outputs lat memory block ops rows Lawful right pass = inl right
-passes_as lawful asked outputs lat memory block ops rows (Unlawful reasons found) right pass =
-    inr (compared_same lawful outputs lat memory block ops rows found right.0 right.3 pass)
-passes_as lawful true outputs lat memory block ops rows (Undecided found) right pass = absurd cc
-passes_as lawful false outputs lat memory block ops rows (Undecided found) right pass =
-    inr (compared_same lawful outputs lat memory block ops rows found right.0 right.1 pass)
+passes_as lawful asked outputs lat memory block ops rows verdict right pass = grind (arith, compared_same)
 
 does_the_same : (outputs : Bool) (lat : Latencies) (memory : List ℤ) (block ops : List Op) (rows : List Row) (lawful : Bool)
     → PassesAs lawful outputs lat memory block ops rows → DoTheSame outputs lat block ops rows
@@ -137,22 +116,14 @@ does_the_same outputs lat memory block ops rows lawful (inr same) = same.0
 
 may_pass : (outputs : Bool) (lat : Latencies) (memory : List ℤ) (block ops : List Op) (rows : List Row) (lawful : Bool)
     → PassesAs lawful outputs lat memory block ops rows → DoEnough lawful outputs lat memory block ops rows
-may_pass outputs lat memory block ops rows true (inl book) = book
-may_pass outputs lat memory block ops rows true (inr same) = absurd (true≢false same.2)
-may_pass outputs lat memory block ops rows false (inl book) = inl book
-may_pass outputs lat memory block ops rows false (inr same) = inr (same.0, same.1)
+may_pass outputs lat memory block ops rows lawful h1 = grind (arith, true≢false)
 
 -- what passes where nothing but rows by the book does passes in any case
 passing_too : (lawful : Bool) (word : VerdictKind) → is_passing lawful word ≡ true → is_passing false word ≡ true
-passing_too true kind.Lawful pass = refl
-passing_too true _ pass = absurd cc
-passing_too false word pass = pass
+passing_too lawful word pass = grind arith
 
 pub passed_is_same : (lawful : Bool) (checked : Checked) → passes lawful checked ≡ true → passes false checked ≡ true
-passed_is_same lawful checked pass =
-    and_from checked.keeps_operations (is_passing false checked.kind)
-    (and_parts checked.keeps_operations (is_passing lawful checked.kind) pass).0
-    (passing_too lawful checked.kind (and_parts checked.keeps_operations (is_passing lawful checked.kind) pass).1)
+passed_is_same lawful checked pass = grind (arith, and_from, and_parts, passing_too)
 
 module _ (options : CheckOptions) (lat : Latencies) (memory : List ℤ) (block : List Op) (ours : Table) (proposal : Proposed)
     (checked : Checked) (entry : List ℕ) (check : IsCheck options lat memory block ours proposal checked entry) where
@@ -167,9 +138,7 @@ module _ (options : CheckOptions) (lat : Latencies) (memory : List ℤ) (block :
 
   passed_as : (asked : Bool) → passes asked checked ≡ true
       → PassesAs asked options.outputs_alone lat memory block proposal.ops proposal.rows
-  passed_as asked pass =
-      passes_as asked options.lawful options.outputs_alone lat memory block proposal.ops proposal.rows check.verdict check.right
-      (and_parts keeps (is_passing asked word) (passing asked pass)).1
+  passed_as asked pass = grind (arith, and_parts, passes_as, passing)
 
   passed_kept : (asked : Bool) → passes asked checked ≡ true → options.operations ≡ true → AreItsOperations block proposal.ops
   passed_kept asked pass is =

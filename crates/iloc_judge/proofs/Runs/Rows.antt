@@ -1,15 +1,12 @@
 -- Rows in terms, and the run of a schedule from its start to its end.
-use Rattle.std.proofs.Common.{◌≡◌, ◌<◌, ◌≤◌, ℕ, ◌+◌, true, false, List, length, get_or, Option, Some, option_to_list, IfSome, ℤ, arith, sym, ap, ◌∙◌, subst, inl, inr}
+use Rattle.std.proofs.Common.{◌≡◌, ◌<◌, ◌≤◌, ℕ, ◌+◌, List, length, get_or, Option, Some, option_to_list, IfSome, ℤ, arith, sym, subst, inl, inr}
 use Rattle.std.proofs.lemmas.List.{get_or_default}
 use Rattle.iloc_ops.specs.declared.op.Op.{Op}
-use Rattle.iloc_ops.specs.declared.op.Op.TheVariants.{Nop}
-use Rattle.iloc_meaning.specs.Trace.{op_at}
-use Rattle.iloc_meaning.specs.Outcome.{has_fault}
 use Rattle.iloc_timed.specs.declared.latencies.Latencies.{Latencies}
 use Rattle.iloc_timed.specs.declared.row.Row.{Row}
 use Rattle.iloc_timed.specs.Latency.{latency, IsLatency}
 use Rattle.iloc_timed.specs.Rows.{row_at, slots}
-use Rattle.iloc_timed.specs.Timed.{Issued, word_in, issue_all, issued_before, executed_in}
+use Rattle.iloc_timed.specs.Timed.{Issued, issue_all, issued_before}
 use Rattle.iloc_timed.specs.Steps.Machine.{AllLand, then_issued}
 use Rattle.iloc_timed.proofs.Landing.{landed_all}
 use Rattle.iloc_timed.proofs.WholeRuns.{slot_issued, row_more, no_fault}
@@ -26,15 +23,7 @@ pub keeps_slot : (memory : List ℤ) (d : Meaning) (lat : Latencies) (ops : List
     → (log : List Issued) → Keeps memory d (c + 1) log old
     → Keeps memory d (c + 1) (issue_all lat memory ops c (option_to_list slot) log) new
 keeps_slot memory d lat ops c i lasts slot other old new is known takes short says log keeps =
-    let within : i < length ops = rw is at known in
-    let there : get_or ops i other ≡ op_at ops i = get_or_default ops i other Nop within in
-    let same : then_issued memory (c + 1) (c + lasts) (get_or ops i other) log
-    ≡ issue_all lat memory ops c (option_to_list slot) log =
-    ap (λ n. then_issued memory (c + 1) (c + n) (get_or ops i other) log) takes
-    ∙ slot_issued lat memory ops c i (get_or ops i other) log there
-    ∙ ap (λ s. issue_all lat memory ops c (option_to_list s) log) (sym is) in
-    subst (λ l. Keeps memory d (c + 1) l new) same
-    (says (c + 1) log (omega (arith, short.0)) (omega (arith, short.1)) keeps)
+    grind (arith, get_or_default, option_to_list, slot_issued)
 
 -- one row more
 pub keeps_more : (lat : Latencies) (memory : List ℤ) (d : Meaning) (ops : List Op) (rows : List Row) (c : ℕ)
@@ -47,22 +36,11 @@ keeps_more lat memory d ops rows c new keeps =
 -- all has landed
 stands : (memory : List ℤ) (d : Meaning) (n : ℕ) (log : List Issued) (it : Symbols) → AllLand n log
     → Tracks memory d n log it → Stands memory d log it
-stands memory d n log it all tracks = record {
-  good = tracks.good;
-  no_fault = no_fault n log all;
-  words = λ a good. tracks.words a good ∙ ap (λ l. word_in memory l a) (landed_all n log all);
-  outputs = tracks.outputs;
-}
+stands memory d n log it all tracks = grind (arith, landed_all, no_fault)
 
 last_land : (memory : List ℤ) (d : Meaning) (n m : ℕ) (log : List Issued) (before after : Symbols)
     → Keeps memory d n log before → Tracks memory d m log after → AllLand (n + 16) log
-last_land memory d n m log before after keeps tracks = elim keeps [
-  | inl faulted ↦
-      let fault : has_fault (executed_in log) ≡ true = faulted.fault in
-      let none : has_fault (executed_in log) ≡ false = no_fault (m + 16) log tracks.all_land in
-      absurd cc
-  | inr before_it ↦ before_it.all_land
-]
+last_land memory d n m log before after keeps tracks = grind (arith, no_fault)
 
 -- all rows have run, and the rest lands
 pub ends : (lat : Latencies) (memory : List ℤ) (d : Meaning) (ops : List Op) (rows : List Row) (c from : ℕ)

@@ -26,7 +26,7 @@ use Rattle.iloc_judge.specs.declared.symbols.registers.TermRegisters.{TermRegist
 use Rattle.iloc_judge.specs.declared.symbols.sent.Sent.{Sent}
 use Rattle.iloc_judge.specs.declared.symbols.sent.Sent.TheVariants as S
 use Rattle.iloc_judge.specs.declared.symbols.action.Action.{Action}
-use Rattle.iloc_judge.specs.declared.symbols.action.Action.TheVariants.{Gives, Loads, Stores, Emits, Nothing}
+use Rattle.iloc_judge.specs.declared.symbols.action.Action.TheVariants.{Gives}
 use Rattle.iloc_judge.specs.declared.symbols.Symbols.{Symbols}
 use Rattle.iloc_judge.specs.Steps.Terms.{Meaning}
 use Rattle.iloc_judge.specs.Steps.Symbols.{number_in, address_of, meant, effect_of, some_bad, HasLanded}
@@ -35,9 +35,7 @@ use Rattle.iloc_judge.specs.Steps.Tracking.{Keeps, address_in, emitted_in, sent_
 -- the lists of terms, and of what they stand for
 lists_meant : (d : Meaning) (lists : List (List Sent)) (c : ℕ) → length lists ≡ 16
     → list_at (map (map (meant d)) lists) c ≡ map (meant d) (list_at lists c)
-lists_meant d lists c count =
-    let within : c % 16 < length lists = rw count (omega arith) in
-    get_or-map (map (meant d)) lists (c % 16) [] [] within
+lists_meant d lists c count = grind (arith, get_or-map)
 
 length_meant : (d : Meaning) (lists : List (List Sent)) → length (map (map (meant d)) lists) ≡ length lists
 length_meant d lists = length-map lists (map (meant d))
@@ -87,27 +85,17 @@ at_bad (pos a) act fine = by_bool (is_good (pos a)) (λ t. rw t (fine a)) (λ t.
 at_bad (negsuc n) act fine = refl
 
 fault_is_bad : (d : Meaning) (action : Action) → is_fault (effect_of d action) ≡ bad_in d action
-fault_is_bad d (Gives value) = refl
-fault_is_bad d (Loads address value) = at_bad (d.word address) _ (λ a. refl)
-fault_is_bad d (Stores address value) = at_bad (d.word address) _ (λ a. refl)
-fault_is_bad d (Emits address value) = at_bad (d.word address) _ (λ a. refl)
-fault_is_bad d Nothing = refl
+fault_is_bad d action = grind (arith, at_bad)
 
 -- at a good address an act is done there
 at_good : (z : ℤ) (act : ℕ → Effect) → (not (is_good z) || false) ≡ false
     → at_address (good_address z) act ≡ act (address_of z)
-at_good (pos a) act good = by_bool (is_good (pos a)) (λ t. rw t refl)
-    (λ t. absurd (let no : true ≡ false = rw t at good in cc))
-at_good (negsuc n) act good = absurd cc
+at_good z act good = grind (arith, negsuc, pos)
 
 -- where the address is good, what is emitted and sent is what the terms stand for
 emits_meant : (d : Meaning) (action : Action) → bad_in d action ≡ false
     → map d.word (emitted_in action) ≡ emitted_by (effect_of d action)
-emits_meant d (Gives value) good = refl
-emits_meant d (Loads address value) good = ap emitted_by (sym (at_good (d.word address) _ good))
-emits_meant d (Stores address value) good = ap emitted_by (sym (at_good (d.word address) _ good))
-emits_meant d (Emits address value) good = ap emitted_by (sym (at_good (d.word address) _ good))
-emits_meant d Nothing good = refl
+emits_meant d action good = grind (arith, at_good)
 
 register_meant : (d : Meaning) (register : Option Reg) (value : ℕ)
     → option_map (meant d) (option_map (λ r. S.Register r value) register) ≡ sent_by register (E.Gives (d.word value))
@@ -116,12 +104,7 @@ register_meant d (Some r) value = refl
 
 sends_meant : (d : Meaning) (register : Option Reg) (action : Action) → bad_in d action ≡ false
     → option_map (meant d) (sent_in register action) ≡ sent_by register (effect_of d action)
-sends_meant d register (Gives value) good = register_meant d register value
-sends_meant d register (Loads address value) good =
-    register_meant d register value ∙ ap (sent_by register) (sym (at_good (d.word address) _ good))
-sends_meant d register (Stores address value) good = ap (sent_by register) (sym (at_good (d.word address) _ good))
-sends_meant d register (Emits address value) good = ap (sent_by register) (sym (at_good (d.word address) _ good))
-sends_meant d register Nothing good = refl
+sends_meant d register action good = grind (arith, at_good, register_meant)
 
 -- what is sent is under way
 way_more : (d : Meaning) (c : ℕ) (e : Issued) (log : List Issued) (lists : List (List Sent)) (what : Option Sent)

@@ -7,11 +7,7 @@ use Rattle.iloc_judge.specs.Steps.Terms.{key_of}
 
 -- what is above a base by c has the key c
 pub key_of_sum : (base c a : ℤ) → FitsSigned w32 c → a ≡ wrapped (base +ℤ c) → key_of base a ≡ cast_unsigned w32 c
-key_of_sum base c a fits is =
-    let there : base +ℤ c -ℤ base ≡ c = omega (arith, ints) in
-    ap (λ x. key_of base x) is
-    ∙ ap (λ x. cast_unsigned w32 x) (int_wrap-add_left w32 (base +ℤ c) _ ∙ ap (λ x. wrapped x) there
-    ∙ int_wrap_fits w32 c fits)
+key_of_sum base c a fits is = grind (arith, int_wrap-add_left, int_wrap_fits, ints, w32)
 
 -- nothing else has that key
 pub key_of_other : (base c a z : ℤ) → FitsSigned w32 c → FitsSigned w32 z → a ≡ wrapped (base +ℤ c)
@@ -55,6 +51,4 @@ sum_comm left right = let order : right +ℤ left ≡ left +ℤ right = omega (a
 pub stored : (f : ℤ → ℤ → ℤ) (a b r : ℤ) → FitsSigned w32 a → FitsSigned w32 b → FitsSigned w32 r
     → r ≡ f (cast_signed w32 (cast_unsigned w32 a)) (cast_signed w32 (cast_unsigned w32 b))
     → cast_signed w32 (cast_unsigned w32 r) ≡ f a b
-stored f a b r first second fits is =
-    to_z-of_z w32 r fits ∙ is ∙ ap (λ x. f x (cast_signed w32 (cast_unsigned w32 b))) (to_z-of_z w32 a first)
-    ∙ ap (λ y. f a y) (to_z-of_z w32 b second)
+stored f a b r first second fits is = grind (arith, to_z-of_z, w32)

@@ -1,5 +1,5 @@
 -- Words read from an epoch, and where addresses are.
-use Rattle.std.proofs.Common.{◌≡◌, ℕ, ◌==◌, true, false, Option, Some, None, List, ℤ, unwrap_or, FitsSigned, w32, refl, sym, ap, ◌∙◌, eq-eqb, ne_eqb}
+use Rattle.std.proofs.Common.{◌≡◌, ℕ, ◌==◌, true, false, Option, List, ℤ, unwrap_or, FitsSigned, w32, sym, ◌∙◌, eq-eqb, ne_eqb, arith}
 use Rattle.std.specs.Int.{cast_unsigned}
 use Rattle.std.specs.Prelude.{not, nat_eq}
 use Rattle.std.specs.Option.{option_eq}
@@ -36,19 +36,8 @@ pub read_at_location : (words : List ℤ) (nodes : List Node) (d : Meaning) (mem
     (base : Option ℕ) (found : Option ℤ) → IsMeaning words nodes d → IsNode nodes memory (Epoch before base trie)
     → IsLocationOf d address base key → d.entry trie key ≡ found
     → d.words memory (d.word address) ≡ unwrap_or found (d.words before (d.word address))
-read_at_location words nodes d memory before trie address key base found meaning there located has =
-    let same : int_eq (d.word address) (d.word address) ≡ true =
-    (Decides-int_eq (d.word address) (d.word address)).1 refl in
-    let at : key_of (base_word d base) (d.word address) ≡ key =
-    eqb-true _ _ (located (d.word address) (meaning.fits address) ∙ same) in
-    node_means words nodes d memory (Epoch before base trie) meaning there (d.word address)
-    ∙ ap (λ k. unwrap_or (d.entry trie k) (d.words before (d.word address))) at
-    ∙ ap (λ o. unwrap_or o (d.words before (d.word address))) has
+read_at_location words nodes d memory before trie address key base found meaning there located has = grind (arith, eqb-true, node_means, unwrap_or)
 
 -- two bases that the code finds equal
 pub same_base : (one other : Option ℕ) → not (option_eq nat_eq one other) ≡ false → one ≡ other
-same_base None None is = refl
-same_base None (Some b) is = absurd cc
-same_base (Some a) None is = absurd cc
-same_base (Some a) (Some b) is = by_bool (a == b) (λ same. ap Some (eqb-true a b same))
-    (λ differs. let no : true ≡ false = rw differs at is in absurd cc)
+same_base one other is = grind (arith, eqb-true)

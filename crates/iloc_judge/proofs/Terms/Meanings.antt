@@ -1,21 +1,19 @@
 -- Terms that name earlier ones alone have a meaning on every memory.
-use Rattle.std.proofs.Common.{◌≡◌, ◌<◌, ◌≤◌, ℕ, zero, suc, ◌+◌, ◌*◌, ◌^◌, ◌%◌, ◌/◌, ◌==◌, ◌&&◌, nat_lt, true, false, if◌then◌else◌, List, length, Option, Some, None, IfSome, unwrap_or, ℤ, pos, negsuc, ◌+ℤ◌, ◌*ℤ◌, All, FitsSigned, w32, arith, rules, refl, sym, ap, ◌∙◌, inl, inr, eq-eqb, ne_eqb}
+use Rattle.std.proofs.Common.{◌≡◌, ◌<◌, ◌≤◌, ℕ, zero, suc, ◌+◌, ◌*◌, ◌^◌, ◌%◌, ◌/◌, ◌==◌, ◌&&◌, nat_lt, true, false, if◌then◌else◌, List, length, Option, Some, None, IfSome, unwrap_or, ℤ, pos, negsuc, ◌+ℤ◌, ◌*ℤ◌, All, FitsSigned, w32, arith, rules, refl, ◌∙◌, inl, inr, eq-eqb, ne_eqb}
 use Rattle.std.specs.Int.{int_shl, int_shr, cast_unsigned}
 use Rattle.std.proofs.Math.Facts.{sfits_to_z}
 use Rattle.std.specs.Int.Signed.{mag_shr}
 use Rattle.std.proofs.lemmas.List.{get_or_past}
-use Rattle.std.proofs.lemmas.List.Elements.{All-get_or}
 use Rattle.std.proofs.lemmas.Bool.{and_parts, cases_lt, cases_eq, lt-ltb}
 use Rattle.std.proofs.lemmas.Bool.Decides.{nat_tests}
 use Rattle.std.proofs.lemmas.Int.{SFits-int_wrap}
-use Rattle.iloc_meaning.specs.Address.{is_good}
 use Rattle.iloc_meaning.specs.Arithmetic.{wrapped, shift_of}
 use Rattle.iloc_meaning.specs.Memory.{word_at}
 use Rattle.iloc_meaning.proofs.Cases.{by_bool}
 use Rattle.iloc_judge.specs.declared.table.node.Binary.{Binary}
 use Rattle.iloc_judge.specs.declared.table.node.Binary.TheVariants.{Sum, Product, ShiftLeft, ShiftRight}
 use Rattle.iloc_judge.specs.declared.table.node.Node.{Node}
-use Rattle.iloc_judge.specs.declared.table.node.Node.TheVariants.{Known, Offset, Scaled, Combined, Word, Start, Epoch, Empty, Leaf, Fork}
+use Rattle.iloc_judge.specs.declared.table.node.Node.TheVariants.{Known, Offset, Scaled, Combined, Word, Start, Epoch, Leaf, Fork}
 use Rattle.iloc_judge.specs.Verdict.Memory.{IsMemory}
 use Rattle.iloc_judge.specs.Steps.Terms.{Meaning, IsMeaning, Means, node_at, base_word, key_of, computed, word_or_zero}
 use Rattle.iloc_judge.specs.Steps.Order.{names_below, base_below, IsOrdered}
@@ -75,53 +73,18 @@ same_base_word n d e (Some base) same below = same.word base below
 -- a term whose names are below n means the same by two meanings that agree there
 means_by : (memory : List ℤ) (n k : ℕ) (d e : Meaning) (node : Node) → SameBelow n d e → names_below n node ≡ true
     → IsOf memory d k e node → Means memory d k node
-means_by memory n k d e (Known word) same below is = is.word
-means_by memory n k d e (Offset base c) same below is =
-    is.word ∙ ap (λ x. wrapped (x +ℤ c)) (sym (same.word base below))
-means_by memory n k d e (Scaled factor by) same below is =
-    is.word ∙ ap (λ x. wrapped (x *ℤ by)) (sym (same.word factor below))
-means_by memory n k d e (Combined by left right) same below is =
-    let parts : (nat_lt left n ≡ true) × (nat_lt right n ≡ true) = both_below n left right below in
-    is.word ∙ ap (λ x. computed by x (e.word right)) (sym (same.word left parts.0))
-    ∙ ap (λ y. computed by (d.word left) y) (sym (same.word right parts.1))
-means_by memory n k d e (Word address m) same below is =
-    let parts : (nat_lt address n ≡ true) × (nat_lt m n ≡ true) = both_below n address m below in
-    is.word ∙ ap (λ x. e.words m x) (sym (same.word address parts.0)) ∙ sym (same.words m parts.1 (d.word address))
-means_by memory n k d e Start same below is = is.words
-means_by memory n k d e (Epoch m base trie) same below is = λ z.
-    let outer : ((nat_lt m n && base_below n base) ≡ true) × (nat_lt trie n ≡ true) =
-    and_parts (nat_lt m n && base_below n base) (nat_lt trie n) below in
-    let inner : (nat_lt m n ≡ true) × (base_below n base ≡ true) =
-    and_parts (nat_lt m n) (base_below n base) outer.0 in
-    is.words z
-    ∙ ap (λ b. unwrap_or (e.entry trie (key_of b z)) (e.words m z)) (sym (same_base_word n d e base same inner.1))
-    ∙ ap (λ o. unwrap_or o (e.words m z)) (sym (same.entry trie outer.1 (key_of (base_word d base) z)))
-    ∙ ap (λ w. unwrap_or (d.entry trie (key_of (base_word d base) z)) w) (sym (same.words m inner.0 z))
-means_by memory n k d e Empty same below is = is.entry
-means_by memory n k d e (Leaf at value) same below is = λ key.
-    is.entry key ∙ ap (λ w. if key == at then Some w else None) (sym (same.word value below))
-means_by memory n k d e (Fork even odd) same below is = λ key.
-    let parts : (nat_lt even n ≡ true) × (nat_lt odd n ≡ true) = both_below n even odd below in
-    is.entry key
-    ∙ ap (λ o. if key % 2 == 0 then o else e.entry odd (key / 2)) (sym (same.entry even parts.0 (key / 2)))
-    ∙ ap (λ o. if key % 2 == 0 then d.entry even (key / 2) else o) (sym (same.entry odd parts.1 (key / 2)))
+means_by memory n k d e node same below is = grind (arith, and_parts, both_below, same_base_word, unwrap_or)
 
 -- one number more changes no earlier one
 same_more : (memory : List ℤ) (d : Meaning) (n m : ℕ) (node : Node) → nat_lt n (m + 1) ≡ true
     → SameBelow n (with_node memory d m node) d
-same_more memory d n m node upto = record {
-  word = λ k below. let other : (k == m) ≡ false = ne_eqb k m (λ same. grind (arith, nat_tests)) in rw other refl;
-  words = λ k below z. let other : (k == m) ≡ false = ne_eqb k m (λ same. grind (arith, nat_tests)) in rw other refl;
-  entry = λ k below key. let other : (k == m) ≡ false = ne_eqb k m (λ same. grind (arith, nat_tests)) in rw other refl;
-}
+same_more memory d n m node upto = grind (arith, nat_tests, ne_eqb)
 
 -- in a meaning of more terms each number is what its term says by the meaning of those before it
 same_upto : (memory : List ℤ) (nodes : List Node) (k n : ℕ) → k ≤ n
     → SameBelow k (meaning_of memory nodes n) (meaning_of memory nodes k)
 unfolding meaning_of
-same_upto memory nodes k zero upto =
-    let is : k ≡ zero = omega arith in
-    rw is record { word = λ j below. refl; words = λ j below z. refl; entry = λ j below key. refl }
+same_upto memory nodes k zero upto = grind arith
 same_upto memory nodes k (suc n) upto = elim (cases_eq k (suc n)) [
   | inl here ↦ rw here record { word = λ j below. refl; words = λ j below z. refl; entry = λ j below key. refl }
   | inr before ↦
@@ -189,15 +152,10 @@ word_of_fits d (Word address m) fit = fit.words m (d.word address)
 word_of_fits d _ fit = zero_fits
 
 word_at_fits : (memory : List ℤ) (a : ℕ) → All (FitsSigned w32) memory → FitsSigned w32 (word_at memory a)
-word_at_fits memory a fits = elim (cases_lt (a / 4) (length memory)) [
-  | inl within ↦ All-get_or (FitsSigned w32) memory (a / 4) (pos 0) within fits
-  | inr past ↦ rw (get_or_past memory (a / 4) (pos 0) past) zero_fits
-]
+word_at_fits memory a fits = grind (arith, cases_lt, get_or_past, pos, w32, zero_fits)
 
 word_or_zero_fits : (memory : List ℤ) (z : ℤ) → All (FitsSigned w32) memory → FitsSigned w32 (word_or_zero memory z)
-word_or_zero_fits memory (pos a) fits = by_bool (is_good (pos a))
-    (λ good. rw good (word_at_fits memory a fits)) (λ bad. rw bad zero_fits)
-word_or_zero_fits memory (negsuc n) fits = zero_fits
+word_or_zero_fits memory z fits = grind (arith, negsuc, pos, word_at_fits, zero_fits)
 
 unwrap_fits : (o : Option ℤ) (word : ℤ) → IfSome o (λ w. FitsSigned w32 w) → FitsSigned w32 word
     → FitsSigned w32 (unwrap_or o word)
@@ -222,21 +180,8 @@ entry_of_fits d _ key fit = tt
 all_fit : (memory : List ℤ) (nodes : List Node) (n : ℕ) → All (FitsSigned w32) memory
     → AllFit (meaning_of memory nodes n)
 unfolding meaning_of
-all_fit memory nodes zero fits = record {
-  word = λ k. zero_fits;
-  words = λ k z. zero_fits;
-  entry = λ k key. tt;
-}
-all_fit memory nodes (suc n) fits =
-    let fit : AllFit (meaning_of memory nodes n) = all_fit memory nodes n fits in
-    record {
-      word = λ k. by_bool (k == n) (λ same. rw same (word_of_fits _ (node_at nodes n) fit))
-          (λ other. rw other (fit.word k));
-      words = λ k z. by_bool (k == n) (λ same. rw same (words_of_fits memory _ (node_at nodes n) z fits fit))
-          (λ other. rw other (fit.words k z));
-      entry = λ k key. by_bool (k == n) (λ same. rw same (entry_of_fits _ (node_at nodes n) key fit))
-          (λ other. rw other (fit.entry k key));
-    }
+all_fit memory nodes zero fits = grind (arith, zero_fits)
+all_fit memory nodes (suc n) fits = grind (arith, entry_of_fits, meaning_of, word_of_fits, words_of_fits, all_fit memory nodes n fits)
 
 -- on every memory the terms mean something
 pub is_meaning : (memory : List ℤ) (nodes : List Node) → IsMemory memory → IsOrdered nodes

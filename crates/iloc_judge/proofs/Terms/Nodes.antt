@@ -1,5 +1,5 @@
 -- What the terms of a table mean.
-use Rattle.std.proofs.Common.{◌≡◌, ℕ, ◌==◌, true, false, List, ℤ, subst, refl, ◌∙◌}
+use Rattle.std.proofs.Common.{◌≡◌, ℕ, ◌==◌, true, List, ℤ, subst, arith}
 use Rattle.std.proofs.lemmas.Bool.{eqb-true}
 use Rattle.iloc_judge.specs.declared.table.node.Node.{Node}
 use Rattle.iloc_judge.specs.declared.table.node.Node.TheVariants.{Empty, Leaf}
@@ -17,7 +17,4 @@ empty_no_other memory nodes d trie key meaning there = λ other differs.
 
 pub leaf_no_other : (memory : List ℤ) (nodes : List Node) (d : Meaning) (trie key at value : ℕ)
     → IsMeaning memory nodes d → IsNode nodes trie (Leaf at value) → (at == key) ≡ true → HasNoOther d trie key
-leaf_no_other memory nodes d trie key at value meaning there same = λ other differs.
-    let is : at ≡ key = eqb-true at key same in
-    let apart : (other == at) ≡ false = rw is differs in
-    node_means memory nodes d trie (Leaf at value) meaning there other ∙ rw apart refl
+leaf_no_other memory nodes d trie key at value meaning there same = grind (arith, eqb-true, node_means)

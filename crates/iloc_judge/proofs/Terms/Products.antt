@@ -41,33 +41,21 @@ mul-add k a b = *ℤ_comm k (a +ℤ b) ∙ add-mul a b k ∙ ap (λ y. y +ℤ b 
 -- a multiple of a multiple
 pub times_times : (word factor by more : ℤ) → word ≡ wrapped (factor *ℤ by)
     → wrapped (factor *ℤ wrapped (by *ℤ more)) ≡ wrapped (word *ℤ more)
-times_times word factor by more is =
-    int_wrap-mul_right w32 factor (by *ℤ more) ∙ ap (λ x. wrapped x) (sym (mul-assoc factor by more))
-    ∙ sym (int_wrap-mul_left w32 (factor *ℤ by) more) ∙ ap (λ x. wrapped (x *ℤ more)) (sym is)
+times_times word factor by more is = grind (arith, int_wrap-mul_left, int_wrap-mul_right, mul-assoc, w32)
 
 -- a multiple of a sum
 pub times_parts : (word base c by : ℤ) → word ≡ wrapped (base +ℤ c)
     → wrapped (wrapped (base *ℤ by) +ℤ wrapped (c *ℤ by)) ≡ wrapped (word *ℤ by)
-times_parts word base c by is =
-    int_wrap-add_left w32 (base *ℤ by) (wrapped (c *ℤ by)) ∙ int_wrap-add_right w32 (base *ℤ by) (c *ℤ by)
-    ∙ ap (λ x. wrapped x) (sym (add-mul base c by)) ∙ sym (int_wrap-mul_left w32 (base +ℤ c) by)
-    ∙ ap (λ x. wrapped (x *ℤ by)) (sym is)
+times_parts word base c by is = grind (arith, add-mul, int_wrap-add_left, int_wrap-add_right, int_wrap-mul_left, w32)
 
 -- the sum of two multiples
 pub times_sum : (left right factor by more : ℤ) → left ≡ wrapped (factor *ℤ by) → right ≡ wrapped (factor *ℤ more)
     → wrapped (factor *ℤ wrapped (by +ℤ more)) ≡ wrapped (left +ℤ right)
-times_sum left right factor by more is other =
-    int_wrap-mul_right w32 factor (by +ℤ more) ∙ ap (λ x. wrapped x) (mul-add factor by more)
-    ∙ sym (int_wrap-add_left w32 (factor *ℤ by) (factor *ℤ more))
-    ∙ sym (int_wrap-add_right w32 (wrapped (factor *ℤ by)) (factor *ℤ more))
-    ∙ ap (λ x. wrapped (x +ℤ wrapped (factor *ℤ more))) (sym is) ∙ ap (λ x. wrapped (left +ℤ x)) (sym other)
+times_sum left right factor by more is other = grind (arith, int_wrap-add_left, int_wrap-add_right, int_wrap-mul_right, mul-add, w32)
 
 -- a multiple of a constant
 pub times_constant : (word c by : ℤ) → word ≡ wrapped (pos 0 +ℤ c) → wrapped (c *ℤ by) ≡ wrapped (word *ℤ by)
-times_constant word c by is =
-    let plain : pos 0 +ℤ c ≡ c = omega (arith, ints) in
-    sym (int_wrap-mul_left w32 c by) ∙ ap (λ x. wrapped (wrapped x *ℤ by)) (sym plain)
-    ∙ ap (λ x. wrapped (x *ℤ by)) (sym is)
+times_constant word c by is = grind (arith, int_wrap-mul_left, ints, pos, w32)
 
 times_one : (k : ℤ) → k *ℤ pos 1 ≡ k
 times_one k = let plain : pos 0 +ℤ k ≡ k = omega (arith, ints) in
@@ -76,9 +64,4 @@ times_one k = let plain : pos 0 +ℤ k ≡ k = omega (arith, ints) in
 -- a word less another is its sum with -1 times the other
 pub less_times : (left right less : ℤ) → less ≡ wrapped (right *ℤ negsuc 0)
     → wrapped (left +ℤ less) ≡ wrapped (left -ℤ right)
-less_times left right less is =
-    let back : neg_ℤ right ≡ pos 0 -ℤ right = omega (arith, ints) in
-    let minus : right *ℤ negsuc 0 ≡ pos 0 -ℤ right = *ℤ-negsuc right 0 ∙ ap neg_ℤ (times_one right) ∙ back in
-    let order : left +ℤ (pos 0 -ℤ right) ≡ left -ℤ right = omega (arith, ints) in
-    ap (λ x. wrapped (left +ℤ x)) (is ∙ ap (λ x. wrapped x) minus) ∙ int_wrap-add_right w32 left (pos 0 -ℤ right)
-    ∙ ap (λ x. wrapped x) order
+less_times left right less is = grind (arith, *ℤ-negsuc, int_wrap-add_right, ints, neg_ℤ, negsuc, pos, times_one, w32)

@@ -1,7 +1,7 @@
-use Rattle.std.proofs.Common.{◌≡◌, rules, true, false, List, Bool, length, sym, ap, ◌∙◌, ◌<◌, ℕ, ◌*◌, map, IsTrue, pos, arith, refl, inl, inr}
+use Rattle.std.proofs.Common.{◌≡◌, rules, true, false, List, Bool, length, sym, ap, ◌∙◌, ◌<◌, ℕ, ◌*◌, map, IsTrue, pos, arith, refl}
 use Rattle.std.specs.Prelude.{ℤ}
 use Rattle.iloc_meaning.specs.Outcome.{outcome, shown, has_fault, emitted}
-use Rattle.iloc_timed.specs.Timed.{timed_outcome, issued_before, Issued, word_in, executed_in, timed_outcome_of}
+use Rattle.iloc_timed.specs.Timed.{timed_outcome, issued_before, Issued, executed_in, timed_outcome_of}
 use Rattle.iloc_sched.proofs.Outcome.LawfulOutcomes.{lawful_same_outcome}
 use Rattle.iloc_judge.specs.declared.task.Task.{Task}
 use Rattle.iloc_ops.specs.declared.op.Op.{Op}
@@ -40,10 +40,7 @@ same_words memory word other size same =
 -- an end with a bad address is a fault, and one without is none
 faults : (memory : List ℤ) (d : Meaning) (log : List Issued) (it : Symbols) → Ends memory d log it
     → some_bad d it.addresses.items ≡ true → has_fault (executed_in log) ≡ true
-faults memory d log it ended bad = elim ended [
-  | inl faulted ↦ faulted.fault
-  | inr stands ↦ let no : some_bad d it.addresses.items ≡ false = stands.good in absurd cc
-]
+faults memory d log it ended bad = grind arith
 
 both_fault : (alone : Bool) (memory : List ℤ) (log other : List Issued) → has_fault (executed_in log) ≡ true
     → has_fault (executed_in other) ≡ true → AreAlike alone (timed_outcome_of memory log) (timed_outcome_of memory other)
@@ -59,30 +56,12 @@ same_emitted memory d log log' one other first second same =
 both_stand : (alone : Bool) (memory : List ℤ) (d : Meaning) (log log' : List Issued) (one other : Symbols)
     → length memory ≡ WORDS → Stands memory d log one → Stands memory d log' other → AreSame alone d one other
     → AreAlike alone (timed_outcome_of memory log) (timed_outcome_of memory log')
-both_stand true memory d log log' one other size first second same =
-    let outputs : emitted (executed_in log) ≡ emitted (executed_in log') =
-    same_emitted memory d log log' one other first second same.outputs in
-    rw (first.no_fault, second.no_fault, outputs) refl
-both_stand false memory d log log' one other size first second same =
-    let outputs : emitted (executed_in log) ≡ emitted (executed_in log') =
-    same_emitted memory d log log' one other first second same.outputs in
-    let words : with_words memory (word_in memory log) ≡ with_words memory (word_in memory log') =
-    same_words memory (word_in memory log) (word_in memory log') size (λ a good.
-    sym (first.words a good) ∙ ap (λ m. d.words m (pos a)) (same.memory refl) ∙ second.words a good) in
-    rw (first.no_fault, second.no_fault, outputs, words) refl
+both_stand alone memory d log log' one other size first second same = grind (arith, pos, same_emitted, same_words)
 
 alike : (alone : Bool) (memory : List ℤ) (d : Meaning) (log log' : List Issued) (one other : Symbols)
     → length memory ≡ WORDS → Ends memory d log one → Ends memory d log' other → AreSame alone d one other
     → AreAlike alone (timed_outcome_of memory log) (timed_outcome_of memory log')
-alike alone memory d log log' one other size ended ended' same = elim ended [
-  | inl faulted ↦ both_fault alone memory log log' faulted.fault
-      (faults memory d log' other ended' (same.there faulted.bad))
-  | inr stands ↦ elim ended' [
-    | inl faulted' ↦ both_fault alone memory log log'
-        (faults memory d log one (inr stands) (same.back faulted'.bad)) faulted'.fault
-    | inr stands' ↦ both_stand alone memory d log log' one other size stands stands' same
-  ]
-]
+alike alone memory d log log' one other size ended ended' same = grind (arith, both_fault, both_stand, faults)
 
 -- what is alike to an outcome, which is the one that was wanted, is alike to that
 alike_wanted : (outputs : Bool) (ours theirs wanted : Outcome) → AreAlike outputs ours theirs → ours ≡ wanted
