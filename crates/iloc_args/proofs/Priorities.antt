@@ -1,5 +1,5 @@
 -- The names of heuristics: `priority_in`.
-use Rattle.std.proofs.Common.{◌≡◌, ◌∙◌, Bool, List, [], ◌∷◌, None, Option, Some, refl, subst, sym, true, arith}
+use Rattle.std.proofs.Common.{◌≡◌, ◌∙◌, Bool, List, [], ◌∷◌, None, Option, Some, cond, false, refl, subst, sym, true}
 use Rattle.std.specs.Prelude.{IfSome, MatchOption, find}
 use Rattle.std.specs.Str.{bytes_eq}
 use Rattle.std.proofs.lemmas.Option.{none-some}
@@ -12,7 +12,12 @@ use Rattle.iloc_args.specs.Priority.{IsNoPriority, heuristics, priority_word}
 -- what is found passes
 found_passes : (p : Heuristic → Bool) (those : List Heuristic) → IfSome (find p those) (λ h. p h ≡ true)
 found_passes p [] = tt
-found_passes p (h ∷ those) = grind (arith, found_passes p those)
+found_passes p (h ∷ those) = go (p h) refl (found_passes p those)
+  where
+    go : (b : Bool) → p h ≡ b → IfSome (find p those) (λ x. p x ≡ true)
+        → IfSome (cond b (Some h) (find p those)) (λ x. p x ≡ true)
+    go true is rest = is
+    go false is rest = rest
 
 abbrev found_by : Text → Option Heuristic
 found_by name = find (λ (h : Heuristic). bytes_eq (priority_word h) name) heuristics

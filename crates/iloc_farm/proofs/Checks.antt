@@ -12,7 +12,6 @@ use Rattle.iloc_timed.specs.declared.latencies.Latencies.{Latencies}
 use Rattle.iloc_timed.specs.Cycles.{cycles}
 use Rattle.iloc_rows.specs.declared.proposal.Proposed.{Proposed}
 use Rattle.iloc_rows.specs.declared.proposal.unread.Unread.{Unread}
-use Rattle.iloc_sched.specs.declared.cycle.calendar.TheConstants.{LONGEST_DELAY}
 use Rattle.iloc_sched.specs.declared.ranking.heuristic.Heuristic.TheVariants.{Chain}
 use Rattle.iloc_sched.specs.Greedy.{IsGreedy}
 use Rattle.iloc_sched.specs.LowerBound.Least.{least}
@@ -29,7 +28,6 @@ use Rattle.iloc_farm.specs.Entries.{AreEntries}
 use Rattle.iloc_farm.specs.Fault.{finding_of}
 use Rattle.iloc_farm.specs.Laws.{PassedChecksKeepOutcomes, PassedChecksMayPass}
 use Rattle.iloc_farm.specs.Steps.Checking.{IsSmall}
-use Rattle.iloc_farm.specs.Steps.Limits.{most_cycles}
 use Rattle.iloc_farm.specs.Steps.Listed.{Adds}
 use Rattle.iloc_farm.specs.declared.commands.Finding.TheVariants.{Passed}
 use Rattle.iloc_farm.proofs.Listers.{the_greedy}
@@ -42,11 +40,7 @@ use Rattle.iloc_farm.proofs.Schedules.{cycles_few}
 small_found : (lat : Latencies) (block : List Op) (s : Table) (p : Proposed) (c : Checked)
     → c.cycles ≡ cycles lat p.ops p.rows → c.ours ≡ cycles lat s.ops s.rows → c.least ≡ least lat block
     → IsGreedy lat block s.ops s.rows → length block ≤ MAX_OPS → length p.rows ≤ MAX_ROWS → IsSmall c
-small_found lat block s p c theirs ours most greedy short few =
-    let within : cycles lat p.ops p.rows ≤ length p.rows + LONGEST_DELAY = cycles_within lat p.ops p.rows in
-    let short_ours : cycles lat s.ops s.rows ≤ most_cycles = cycles_few lat block s greedy short in
-    let bound : least lat block ≤ cycles lat s.ops s.rows = least_bound lat block s.ops s.rows greedy.lawful in
-    record { cycles = omega arith; ours = omega arith; least = omega arith }
+small_found lat block s p c theirs ours most greedy short few = grind (arith, cycles_few, cycles_within, least_bound)
 
 pub small_check : (u : Option Unread) (options : CheckOptions) (lat : Latencies) (memory : List ℤ) (block : List Op)
     (s : Table) (p : Proposed) (c : Checked) (entry : List ℕ) → IsSaid u options lat memory block s p c entry
@@ -108,9 +102,7 @@ module _ (options : CheckOptions) (nodes : Option ℕ) (lat : Latencies) (memory
 
   of_passed : (blocks : List Block) (proposals : List Proposed) (text : List ℕ)
       → ListsChecked options nodes lat memory blocks proposals Passed text → AllZip P blocks proposals
-  of_passed blocks proposals text lists =
-      of_each 1 blocks proposals lists.found lists.entries lists.as_many lists.listed
-      (all_pass (list_all (passes options.lawful) lists.found) lists.judged)
+  of_passed blocks proposals text lists = grind (arith, all_pass, of_each)
 
 -- rows of which one can't be read never pass
 unread_fails : (lawful : Bool) (form : Form) (lat : Latencies) (block : List Op) (s : Table) (p : Proposed) (c : Checked)
@@ -121,18 +113,12 @@ unread_fails lawful form lat block s p c entry said pass =
 said_keeps : (u : Option Unread) (options : CheckOptions) (lat : Latencies) (memory : List ℤ) (block : List Op) (s : Table)
     (p : Proposed) (c : Checked) (entry : List ℕ) → IsSaid u options lat memory block s p c entry → passes options.lawful c ≡ true
     → DoTheSame options.outputs_alone lat block p.ops p.rows
-said_keeps None options lat memory block s p c entry said pass =
-    same_rows_do_the_same options lat memory block s p c entry said (passed_is_same options.lawful c pass)
-said_keeps (Some unread) options lat memory block s p c entry said pass =
-    absurd (unread_fails options.lawful options.form lat block s p c entry said pass)
+said_keeps u options lat memory block s p c entry said pass = grind (arith, passed_is_same, same_rows_do_the_same, unread_fails)
 
 said_may : (u : Option Unread) (options : CheckOptions) (lat : Latencies) (memory : List ℤ) (block : List Op) (s : Table)
     (p : Proposed) (c : Checked) (entry : List ℕ) → IsSaid u options lat memory block s p c entry → passes options.lawful c ≡ true
     → MayPass options lat memory block p.ops p.rows
-said_may None options lat memory block s p c entry said pass =
-    passed_rows_may_pass options lat memory block s p c entry said pass
-said_may (Some unread) options lat memory block s p c entry said pass =
-    absurd (unread_fails options.lawful options.form lat block s p c entry said pass)
+said_may u options lat memory block s p c entry said pass = grind (arith, passed_rows_may_pass, unread_fails)
 
 pub passed_keep_outcomes : PassedChecksKeepOutcomes
 passed_keep_outcomes options nodes lat memory = of_passed options nodes lat memory

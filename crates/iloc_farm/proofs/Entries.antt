@@ -1,5 +1,5 @@
 -- The entries of a file's blocks, one after another or made by several workers.
-use Rattle.std.proofs.Common.{◌≡◌, ℕ, suc, ◌+◌, List, [], ◌∷◌, ◌++◌, length, map, Option, Some, refl, sym, ap, ap₂, ◌∙◌, subst, arith, append_assoc, append-nil}
+use Rattle.std.proofs.Common.{◌≡◌, ℕ, suc, ◌+◌, List, [], ◌∷◌, ◌++◌, length, map, Option, Some, refl, sym, ap, ◌∙◌, subst, arith, append_assoc, append-nil}
 use Rattle.std.specs.Prelude.{slice_get, MatchOption}
 use Rattle.std.specs.List.{flat_map}
 use Rattle.std.proofs.lemmas.List.Concat.{flat_map-cons}
@@ -19,13 +19,8 @@ module _ {X F : Type 0} (lists : ℕ → X → List ℕ → F → Type 0) where
       (entry, [], subst P same is, refl, ap (λ xs. xs ++ entry) are ∙ sym (append-nil entry))
   entries_more k n [] (g ∷ found) b f text entry at are is = absurd are
   entries_more k n (a ∷ blocks) [] b f text entry at are is = absurd are
-  entries_more k n (a ∷ blocks) (g ∷ found) b f text entry at are is = (
-    are.0,
-    are.1 ++ entry,
-    are.2,
-    entries_more (k + 1) n blocks found b f are.1 entry (omega arith) are.3 is,
-    ap (λ xs. xs ++ entry) are.4 ∙ append_assoc are.0 are.1 entry,
-  )
+  entries_more k n (a ∷ blocks) (g ∷ found) b f text entry at are is =
+      grind (arith, append_assoc, entries_more (k + 1) n blocks found b f are.1 entry (omega arith) are.3 is)
 
   pub entries_long : (k : ℕ) (blocks : List X) (found : List F) (text : List ℕ) → AreEntries lists k blocks found text
       → length found ≡ length blocks
@@ -38,25 +33,13 @@ module _ {X F : Type 0} (lists : ℕ → X → List ℕ → F → Type 0) where
   pub one_more : (blocks : List X) (b : X) (n : ℕ) (text old new entry : List ℕ) (found all more : List F) (f : F)
       → Grows lists blocks text old found all → length blocks + 1 ≡ n → lists n b entry f → new ≡ old ++ entry
       → more ≡ all ++ f ∷ [] → Grows lists (blocks ++ b ∷ []) text new found more
-  one_more blocks b n text old new entry found all more f so_far at is added kept = record {
-    entries = so_far.entries ++ entry;
-    next = so_far.next ++ f ∷ [];
-    right = entries_more 1 n blocks so_far.next b f so_far.entries entry (omega arith) so_far.right is;
-    added = added ∙ (ap (λ t. t ++ entry) so_far.added ∙ append_assoc text so_far.entries entry);
-    kept = kept ∙ (ap (λ t. t ++ f ∷ []) so_far.kept ∙ append_assoc found so_far.next (f ∷ []));
-  }
+  one_more blocks b n text old new entry found all more f so_far at is added kept = grind (arith, append_assoc, entries_more)
 
   -- what was listed behind nothing, and the ending
   pub whole_listing : (ending : List F → List ℕ) (blocks : List X) (start text all : List ℕ) (before found : List F)
       → start ≡ [] → before ≡ [] → Grows lists blocks start text before found → all ≡ text ++ ending found
       → IsListingOf lists ending blocks all
-  whole_listing ending blocks start text all before found empty none so_far ended = record {
-    found = so_far.next;
-    entries = so_far.entries;
-    listed = so_far.right;
-    whole = ended ∙ ap₂ (λ t fs. t ++ ending fs) (so_far.added ∙ ap (λ t. t ++ so_far.entries) empty)
-        (so_far.kept ∙ ap (λ fs. fs ++ so_far.next) none);
-  }
+  whole_listing ending blocks start text all before found empty none so_far ended = grind arith
 
 module _ {F : Type 0} (lists : ℕ → Block → List ℕ → F → Type 0) where
   -- what each block has is what all have, one after another
@@ -82,12 +65,7 @@ module _ {F : Type 0} (lists : ℕ → Block → List ℕ → F → Type 0) wher
     pub made_listing : (ending : List F → List ℕ) (blocks : List Block) (made : List E) (text : List ℕ)
         → AreListed (λ k b e. lists k b (text_of e) (found_of e)) blocks made
         → text ≡ flat_map text_of made ++ ending (map found_of made) → IsListingOf lists ending blocks text
-    made_listing ending blocks made text are whole = record {
-      found = map found_of made;
-      entries = flat_map text_of made;
-      listed = each_listed 1 blocks made are.many are.each;
-      whole = whole;
-    }
+    made_listing ending blocks made text are whole = grind (arith, each_listed)
 
 -- Where two kinds of entries agree, so do their listings.
 module _ {F : Type 0} (lists lists' : ℕ → Block → List ℕ → F → Type 0)
@@ -101,20 +79,13 @@ module _ {F : Type 0} (lists lists' : ℕ → Block → List ℕ → F → Type 
   entries_same k (b ∷ blocks) [] found' text text' are are' = absurd are
   entries_same k (b ∷ blocks) (f ∷ found) [] text text' are are' = absurd are'
   entries_same k (b ∷ blocks) (f ∷ found) (f' ∷ found') text text' are are' =
-      let first = agree k b are.0 are'.0 f f' are.2 are'.2 in
-      let rest = entries_same (k + 1) blocks found found' are.1 are'.1 are.3 are'.3 in (
-        are.4 ∙ (ap₂ (λ x y. x ++ y) first.0 rest.0 ∙ sym are'.4),
-        ap₂ (λ x xs. x ∷ xs) first.1 rest.1,
-      )
+      grind (arith, entries_same (k + 1) blocks found found' are.1 are'.1 are.3 are'.3)
 
   pub one_listing_after : (opening opening' : List ℕ) (ending ending' : List F → List ℕ) (blocks : List Block)
       (text text' : List ℕ)
       → opening ≡ opening' → ending ≡ ending' → IsListingAfter lists opening ending blocks text
       → IsListingAfter lists' opening' ending' blocks text' → text ≡ text'
-  one_listing_after opening opening' ending ending' blocks text text' opens ends is is' =
-      let same = entries_same 1 blocks is.found is'.found is.entries is'.entries is.listed is'.listed in
-      is.whole ∙ (ap₂ (λ t fs. opening ++ t ++ ending fs) same.0 same.1
-      ∙ (ap₂ (λ first last. first ++ is'.entries ++ last is'.found) opens ends ∙ sym is'.whole))
+  one_listing_after opening opening' ending ending' blocks text text' opens ends is is' = grind (arith, entries_same)
 
   pub one_listing : (ending : List F → List ℕ) (blocks : List Block) (text text' : List ℕ)
       → IsListingOf lists ending blocks text → IsListingOf lists' ending blocks text' → text ≡ text'
@@ -134,12 +105,7 @@ module _ {F : Type 0} (lists lists' : ℕ → Block → List ℕ → F → Type 
 
   pub listing_after_also : (opening : List ℕ) (ending : List F → List ℕ) (blocks : List Block) (text : List ℕ)
       → IsListingAfter lists opening ending blocks text → IsListingAfter lists' opening ending blocks text
-  listing_after_also opening ending blocks text is = record {
-    found = is.found;
-    entries = is.entries;
-    listed = entries_also 1 blocks is.found is.entries is.listed;
-    whole = is.whole;
-  }
+  listing_after_also opening ending blocks text is = grind (arith, entries_also)
 
   pub listing_also : (ending : List F → List ℕ) (blocks : List Block) (text : List ℕ)
       → IsListingOf lists ending blocks text → IsListingOf lists' ending blocks text
@@ -169,9 +135,4 @@ module _ {X : Type 0} (lists : ℕ → Block → List ℕ → X → Type 0) (Fin
       → AreListed (λ k b x. Finds b x) blocks found
       → text ≡ (opening ++ entries line 1 blocks found) ++ ending found
       → IsListingAfter lists opening ending blocks text
-  lined_listing opening ending blocks found text are whole = record {
-    found = found;
-    entries = entries line 1 blocks found;
-    listed = lines_of 1 blocks found are.many are.each;
-    whole = whole;
-  }
+  lined_listing opening ending blocks found text are whole = grind (arith, lines_of)

@@ -1,7 +1,6 @@
 -- The headline, from what is known of a board whose jobs are all done.
-use Rattle.std.proofs.Common.{◌≡◌, ℕ, List, length, Option, Some, subst}
+use Rattle.std.proofs.Common.{◌≡◌, ℕ, List, length, Some, arith}
 use Rattle.std.specs.Prelude.{slice_get}
-use Rattle.std.specs.Option.{IfSome}
 use Rattle.iloc_ops.specs.declared.file.Block.{Block}
 use Rattle.iloc_timed.specs.declared.latencies.Latencies.{Latencies}
 use Rattle.iloc_timed.specs.Schedule.{Table}
@@ -15,9 +14,7 @@ use Rattle.iloc_farm.specs.Schedules.{IsGreedyAs, IsScheduleOf}
 module _ (heuristic : Heuristic) (lat : Latencies) (blocks : List Block) where
   greedy_of : (i : ℕ) (b : Block) (s : Table) → slice_get blocks i ≡ Some b → IsScheduleOf heuristic lat blocks i s
       → IsGreedyAs heuristic lat b.ops s
-  greedy_of i b s at fits =
-      let P : Option Block → Type 0 = λ b. IfSome b (λ (b : Block). IsGreedyAs heuristic lat b.ops s) in
-      subst P at fits
+  greedy_of i b s at fits = grind arith
 
   pub headline : (receipt : ReceiptView) (schedules : List Table)
       → IsDoneBy (length blocks) (IsScheduleOf heuristic lat blocks) (cycles_of lat) receipt schedules

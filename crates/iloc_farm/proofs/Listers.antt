@@ -1,5 +1,5 @@
 -- What the commands list of a block, and that requests that ask alike list one text.
-use Rattle.std.proofs.Common.{◌≡◌, ℕ, ℤ, false, List, [], ◌++◌, Option, Some, None, Result, Ok, Err, OnOk, IfOk, refl, sym, ap, ap₂, ◌∙◌, subst, append_assoc, append-nil, ◌&&◌, Bool, true}
+use Rattle.std.proofs.Common.{◌≡◌, ℕ, ℤ, false, List, [], ◌++◌, Option, Some, None, Result, Ok, Err, OnOk, IfOk, refl, sym, ap, ap₂, ◌∙◌, append_assoc, append-nil, ◌&&◌, Bool, arith}
 use Rattle.std.proofs.Math.Path.{transport}
 use Rattle.std.specs.Prelude.{codes, is_none}
 use Rattle.iloc_ops.specs.declared.file.Block.{Block}
@@ -17,7 +17,6 @@ use Rattle.iloc_graph.proofs.OneText.{one_cluster}
 use Rattle.iloc_meaning.specs.Memory.{words_from}
 use Rattle.iloc_meaning.specs.Outcome.{outcome, shown}
 use Rattle.iloc_meaning.specs.declared.outcome.Outcome.{Outcome}
-use Rattle.iloc_meaning.specs.declared.outcome.Outcome.TheVariants.{Finished, Fault}
 use Rattle.iloc_timed.specs.Timed.{timed_outcome}
 use Rattle.iloc_sched.proofs.Outcome.LawfulOutcomes.{lawful_same_outcome}
 use Rattle.iloc_trace.specs.Events.{events}
@@ -30,7 +29,7 @@ use Rattle.iloc_farm.specs.Commands.Counts.{IsCountEntry, IsCountListing, count_
 use Rattle.iloc_farm.specs.Commands.Explain.{IsExplainEntry}
 use Rattle.iloc_farm.specs.Commands.Graph.{IsGraphEntry, drawing_end, opening_at}
 use Rattle.iloc_farm.specs.Commands.Optimize.{IsOptimizeEntry}
-use Rattle.iloc_farm.specs.Commands.Run.{IsRunEntry, IsShownOf, initial_memory, no_ending, place_line}
+use Rattle.iloc_farm.specs.Commands.Run.{IsRunEntry, IsShownOf, initial_memory, no_ending}
 use Rattle.iloc_farm.specs.Commands.Schedule.{IsScheduleEntry}
 use Rattle.iloc_farm.specs.Commands.Simulate.{IsSimulateEntry}
 use Rattle.iloc_farm.specs.Commands.Trace.{IsTraceEntry}
@@ -61,18 +60,12 @@ the_greedy heuristic lat b s greedy = record {
 -- the words, or that there is a fault, are what is shown, unless the place of the fault is asked for
 shown_plainly : (asked : Bool) (ops : List Op) (memory : List ℤ) (came : Outcome) (words : Option (List ℤ))
     → words ≡ shown came → (asked && is_none words) ≡ false → IsShownOf asked ops memory came (words_or_fault words)
-shown_plainly asked ops memory (Finished words left) words' are none = ap words_or_fault are
-shown_plainly false ops memory Fault words are none = ap words_or_fault are
-shown_plainly true ops memory Fault words are none =
-    let some : is_none words ≡ true = ap is_none are in cc
+shown_plainly asked ops memory came words' are none = grind arith
 
 -- one text is shown
 one_shown : (asked : Bool) (ops : List Op) (memory : List ℤ) (came : Outcome) (text text' : List ℕ)
     → IsShownOf asked ops memory came text → IsShownOf asked ops memory came text' → text ≡ text'
-one_shown asked ops memory (Finished words left) text text' is is' = is ∙ sym is'
-one_shown false ops memory Fault text text' is is' = is ∙ sym is'
-one_shown true ops memory Fault text text' is is' =
-    is.2 ∙ ap (place_line ops) (one_place.one ops memory is.0 is'.0 is.1 is'.1) ∙ sym is'.2
+one_shown asked ops memory came text text' is is' = grind (arith, one_place)
 
 -- what a call has appended is the entry, by the name and the words or cycles that it was handed
 
@@ -80,24 +73,11 @@ module _ (request : Request) (k : ℕ) (b : Block) (text more : List ℕ) (name 
   pub run_listed : (words : Option (List ℤ)) → words ≡ shown (outcome b.ops (initial_memory request))
       → (request.fault_place && is_none words) ≡ false → more ≡ text ++ shown_entry k name words
       → Adds (IsRunEntry request k b) text more tt
-  run_listed words are plain added = record {
-    entry = shown_entry k b.name words;
-    right = record {
-      text = words_or_fault words;
-      shows = shown_plainly request.fault_place b.ops (initial_memory request) (outcome b.ops (initial_memory request)) words are
-          plain;
-      listed = refl;
-    };
-    added = added ∙ ap (λ n. text ++ shown_entry k n words) named;
-  }
+  run_listed words are plain added = grind (arith, shown_plainly)
 
   pub graph_listed : (cluster : List ℕ) → IsCluster request.latencies k b.name b.ops cluster
       → more ≡ (text ++ opening_at k) ++ cluster → Adds (IsGraphEntry request k b) text more tt
-  graph_listed cluster draws added = record {
-    entry = opening_at k ++ cluster;
-    right = record { cluster = cluster; draws = draws; listed = refl };
-    added = added ∙ append_assoc text (opening_at k) cluster;
-  }
+  graph_listed cluster draws added = grind (arith, append_assoc)
 
   module _ (s : Table) (greedy : IsGreedyAs request.priority request.latencies b.ops s) where
     pub simulate_listed : (words : Option (List ℤ))
@@ -168,12 +148,7 @@ schedule_is request k b s greedy entry cycles listed counted = record {
 pub optimum_is : (lat : Latencies) (k : ℕ) (b : Block) (best : Optimum) → IsOptimumOf lat b.ops best → (entry : List ℕ) (cycles : ℕ)
     → entry ≡ schedule_entry lat k b.name best.schedule ++ bound_comment (Some best.bound) (cycles_of lat best.schedule)
     → cycles ≡ cycles_of lat best.schedule → IsOptimizeEntry lat k b entry cycles
-optimum_is lat k b best found entry cycles listed counted = record {
-  best = best;
-  found = found;
-  listed = listed ∙ ap (λ n. schedule_entry lat k b.name best.schedule ++ bound_comment (Some best.bound) n) (sym counted);
-  counted = counted;
-}
+optimum_is lat k b best found entry cycles listed counted = grind arith
 
 -- the cycles that were found are those of the greedy schedule
 pub is_count : (heuristic : Heuristic) (lat : Latencies) (b : Block) (s : Table) → IsGreedyAs heuristic lat b.ops s
@@ -223,13 +198,7 @@ one_memory r q alike = ap (λ at. words_from at r.words.items) alike.at ∙ ap (
 
 module _ (r q : Request) (alike : AskAlike r q) (k : ℕ) (b : Block) where
   run_same : (e e' : List ℕ) (f f' : Unit {0}) → IsRunEntry r k b e f → IsRunEntry q k b e' f' → (e ≡ e') × (f ≡ f')
-  run_same e e' f f' is is' =
-      let memory = one_memory r q alike in
-      let moved : IsShownOf q.fault_place b.ops (initial_memory q) (outcome b.ops (initial_memory q)) is.text =
-      transport (λ i. IsShownOf (alike.fault_place i) b.ops (memory i) (outcome b.ops (memory i)) is.text) is.shows in
-      let same = one_shown q.fault_place b.ops (initial_memory q) (outcome b.ops (initial_memory q)) is.text is'.text moved
-      is'.shows in
-      (is.listed ∙ ap (λ text. block_head k b.name ++ codes "\n" ++ text) same ∙ sym is'.listed, refl)
+  run_same e e' f f' is is' = grind (arith, one_memory, one_shown, transport)
 
   simulate_same : (e e' : List ℕ) (f f' : Unit {0}) → IsSimulateEntry r k b e f → IsSimulateEntry q k b e' f'
       → (e ≡ e') × (f ≡ f')
@@ -239,10 +208,7 @@ module _ (r q : Request) (alike : AskAlike r q) (k : ℕ) (b : Block) where
   -- a schedule that is the greedy one for the one request is so for the other
   same_schedule : (s s' : Table) → IsTheGreedy r.priority r.latencies b s → IsTheGreedy q.priority q.latencies b s'
       → s ≡ s'
-  same_schedule s s' is is' =
-      let moved : IsTheGreedy q.priority q.latencies b s =
-      transport (λ i. IsTheGreedy (alike.priority i) (alike.latencies i) b s) is in
-      is'.only s moved.greedy
+  same_schedule s s' is is' = grind (arith, transport)
 
   cycles_same : (s s' : Table) (c c' : ℕ) → s ≡ s' → c ≡ cycles_of r.latencies s → c' ≡ cycles_of q.latencies s' → c ≡ c'
   cycles_same s s' c c' same is is' =
@@ -250,30 +216,14 @@ module _ (r q : Request) (alike : AskAlike r q) (k : ℕ) (b : Block) where
 
   schedule_same : (e e' : List ℕ) (c c' : ℕ) → IsScheduleEntry r k b e c → IsScheduleEntry q k b e' c'
       → (e ≡ e') × (c ≡ c')
-  schedule_same e e' c c' is is' =
-      let same = same_schedule is.schedule is'.schedule is.greedy is'.greedy in (
-        is.listed ∙ (ap (λ lat. schedule_entry lat k b.name is.schedule) alike.latencies
-            ∙ (ap (schedule_entry q.latencies k b.name) same ∙ sym is'.listed)),
-        cycles_same is.schedule is'.schedule c c' same is.counted is'.counted,
-      )
+  schedule_same e e' c c' is is' = grind (arith, cycles_same, same_schedule)
 
   count_same : (e e' : List ℕ) (c c' : ℕ) → IsCountEntry r k b e c → IsCountEntry q k b e' c' → (e ≡ e') × (c ≡ c')
-  count_same e e' c c' is is' =
-      let same = same_schedule is.schedule is'.schedule is.greedy is'.greedy in
-      let cycles = cycles_same is.schedule is'.schedule c c' same is.counted is'.counted in (
-        is.listed ∙ (ap (count_line r.csv k b.name) (sym is.counted) ∙ (ap₂ (λ csv n. count_line csv k b.name n) alike.csv cycles
-            ∙ (ap (count_line q.csv k b.name) is'.counted ∙ sym is'.listed))),
-        cycles,
-      )
+  count_same e e' c c' is is' = grind (arith, cycles_same, same_schedule)
 
   compare_same : r.nodes ≡ None → (e e' : List ℕ) (c c' : ComparedCycles) → IsCompareEntry r k b e c
       → IsCompareEntry q k b e' c' → (e ≡ e') × (c ≡ c')
-  compare_same settled e e' c c' is is' =
-      let also : q.nodes ≡ None = sym alike.nodes ∙ settled in
-      let same : c ≡ c' = one_comparison q.latencies b c c'
-      (transport (λ i. IsComparedCycles (alike.latencies i) (settled i) b c) is.compares)
-      (transport (λ i. IsComparedCycles q.latencies (also i) b c') is'.compares) in
-      (is.listed ∙ (ap₂ (λ csv x. compare_line csv k b.name x) alike.csv same ∙ sym is'.listed), same)
+  compare_same settled e e' c c' is is' = grind (arith, one_comparison, transport)
 
   explain_same : (e e' : List ℕ) (c c' : ℕ) → IsExplainEntry r k b e c → IsExplainEntry q k b e' c'
       → (e ≡ e') × (c ≡ c')
@@ -289,15 +239,7 @@ module _ (r q : Request) (alike : AskAlike r q) (k : ℕ) (b : Block) where
 
   trace_same : (e e' : List ℕ) (f f' : Unit {0}) → IsTraceEntry r k b e f → IsTraceEntry q k b e' f'
       → (e ≡ e') × (f ≡ f')
-  trace_same e e' f f' is is' =
-      let same = same_schedule is.schedule is'.schedule is.greedy is'.greedy in
-      let entry : Latencies → List ℤ → Table → List ℕ = λ lat m s.
-      block_head k b.name ++ codes "\n" ++ trace_lines (events lat m s.ops s.rows) in (
-        is.listed
-            ∙ (ap (λ lat. entry lat (initial_memory r) is.schedule) alike.latencies
-            ∙ (ap₂ (λ m s. entry q.latencies m s) (one_memory r q alike) same ∙ sym is'.listed)),
-        refl,
-      )
+  trace_same e e' f f' is is' = grind (arith, one_memory, same_schedule)
 
   graph_same : (e e' : List ℕ) (f f' : Unit {0}) → IsGraphEntry r k b e f → IsGraphEntry q k b e' f'
       → (e ≡ e') × (f ≡ f')
@@ -342,12 +284,4 @@ of_one_task task.Check r q alike settled blocks text text' lists lists' = absurd
 of_one_task task.Lint r q alike settled blocks text text' lists lists' = absurd lists
 
 pub simulating_lists_runs : SimulatingListsRuns
-simulating_lists_runs request blocks text plain is =
-    listing_also (IsSimulateEntry request) (IsRunEntry request) (λ k b e f entry.
-    let came = outcome b.ops (initial_memory request) in
-    let P : Bool → Type 0 = λ asked. IsShownOf asked b.ops (initial_memory request) came (words_or_fault (shown came)) in
-    record {
-      text = words_or_fault (shown came);
-      shows = subst P (sym plain) (shown_plainly false b.ops (initial_memory request) came (shown came) refl refl);
-      listed = entry.plain;
-    }) no_ending blocks text is
+simulating_lists_runs = grind (arith, listing_also, shown_plainly)

@@ -27,11 +27,7 @@ module _ {H S : Type 0} (f : H → S) where
   -- one thread more is started
   pub started_more : (hs more : List H) (h : H) (s : S) (ss rest whole : List S) → map f hs ++ ss ≡ whole
       → more ≡ hs ++ h ∷ [] → ss ≡ s ∷ rest → f h ≡ s → map f more ++ rest ≡ whole
-  started_more hs more h s ss rest whole e m n p =
-      ap (λ t. map f t ++ rest) m
-      ∙ (ap (λ t. t ++ rest) (map-append f hs (h ∷ []))
-      ∙ (append_assoc (map f hs) (f h ∷ []) rest
-      ∙ (ap (λ x. map f hs ++ x ∷ rest) p ∙ (ap (λ t. map f hs ++ t) (sym n) ∙ e))))
+  started_more hs more h s ss rest whole e m n p = grind (arith, append_assoc, map-append)
 
   -- what each thread gave, in order
   pub kept_zip : {W : Type 0} (R : S → W → Type 0) (hs : List H) (ws : List W) → length ws ≡ length hs

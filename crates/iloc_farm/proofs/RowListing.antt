@@ -1,11 +1,10 @@
 -- What is proposed for blocks, listed block by block.
 use Rattle.std.proofs.Common.{◌≡◌, ℕ, ◌+◌, Bool, List, [], ◌∷◌, ◌++◌, length, refl, sym, ap, ◌∙◌, subst, arith, append_assoc, append-nil}
 use Rattle.std.specs.List.{All, list_all, zip}
-use Rattle.std.proofs.lemmas.List.Elements.{All-nil, All-push}
+use Rattle.std.proofs.lemmas.List.Elements.{All-push}
 use Rattle.std.proofs.lemmas.List.{length-append}
 use Rattle.iloc_ops.specs.declared.file.Block.{Block}
 use Rattle.iloc_rows.specs.declared.proposal.Proposed.{Proposed}
-use Rattle.iloc_farm.specs.Entries.{AreEntries}
 use Rattle.iloc_farm.specs.Fault.{finding_of}
 use Rattle.iloc_farm.specs.Listing.Rows.{ListsRows}
 use Rattle.iloc_farm.specs.Steps.Listed.{Adds, AreListedTo}
@@ -25,25 +24,12 @@ module _ {X F : Type 0} (lists : ℕ → X → List ℕ → F → Type 0) (fits 
   -- nothing yet
   pub none_listed : (left : List X) (text : List ℕ) (found : List F) → left ≡ all → text ≡ opening → found ≡ []
       → AreListedTo lists fits opening all left text found
-  none_listed left text found is empty none = record {
-    done = [];
-    split = is;
-    grown = record {
-      entries = [];
-      next = [];
-      right = refl;
-      added = empty ∙ sym (append-nil opening);
-      kept = none;
-    };
-    small = subst (All fits) (sym none) (All-nil fits);
-  }
+  none_listed left text found is empty none = grind (arith, append-nil)
 
   -- as many are done as something was found of
   done_long : (left : List X) (text : List ℕ) (found : List F) (so_far : AreListedTo lists fits opening all left text found)
       → length so_far.done ≡ length found
-  done_long left text found so_far =
-      sym (ap length so_far.grown.kept
-      ∙ entries_long lists 1 so_far.done so_far.grown.next so_far.grown.entries so_far.grown.right)
+  done_long left text found so_far = grind (arith, entries_long)
 
   pub found_few : (left : List X) (text : List ℕ) (found : List F) → AreListedTo lists fits opening all left text found
       → length found + length left ≡ length all
@@ -75,15 +61,4 @@ pub all_listed : {F : Type 0} (lists : ℕ → Block × Proposed → List ℕ �
     → finding ≡ finding_of (list_all passes found)
     → ListsRows lists opening ending passes blocks proposals finding whole
 all_listed lists fits opening ending passes blocks left proposals others text whole found finding as_many none so_far ended is =
-    let P : List (Block × Proposed) → Type 0 = λ items. AreEntries lists 1 items found so_far.grown.entries in
-    let Q : List _ → Type 0 = λ fs. AreEntries lists 1 so_far.done fs so_far.grown.entries in
-    let every : so_far.done ≡ zip blocks proposals =
-    sym (append-nil so_far.done) ∙ (ap (λ xs. so_far.done ++ xs) (sym (none_left left others none)) ∙ so_far.split) in
-    record {
-      as_many = as_many;
-      found = found;
-      entries = so_far.grown.entries;
-      listed = subst P every (subst Q (sym so_far.grown.kept) so_far.grown.right);
-      whole = ended ∙ ap (λ t. t ++ ending found) so_far.grown.added;
-      judged = is;
-    }
+    grind (arith, append-nil, none_left)

@@ -3,7 +3,7 @@ use Rattle.std.proofs.Common.{◌≡◌, ℕ, suc, ◌*◌, ◌^◌, ◌<◌, �
 use Rattle.std.specs.Prelude.{slice_get}
 use Rattle.std.specs.List.{AllByRecursion}
 use Rattle.std.proofs.lemmas.List.Sums.{sum_by-cons}
-use Rattle.iloc_ops.specs.Limits.{MAX_BLOCKS, MAX_OPS}
+use Rattle.iloc_ops.specs.Limits.{MAX_OPS}
 use Rattle.iloc_ops.specs.declared.op.Op.{Op}
 use Rattle.iloc_ops.specs.declared.file.Block.{Block}
 use Rattle.iloc_text.specs.Files.{AreWithinLimits}
@@ -62,8 +62,7 @@ keep_outcomes heuristic lat [] [] greedy memory = refl
 keep_outcomes heuristic lat [] (s ∷ schedules) greedy memory = absurd greedy
 keep_outcomes heuristic lat (b ∷ blocks) [] greedy memory = absurd greedy
 keep_outcomes heuristic lat (b ∷ blocks) (s ∷ schedules) greedy memory =
-    cons_same _ _ _ _ (lawful_same_outcome lat b.ops s.ops s.rows memory greedy.0.lawful)
-    (keep_outcomes heuristic lat blocks schedules greedy.1 memory)
+    grind (arith, cons_same, lawful_same_outcome, keep_outcomes heuristic lat blocks schedules greedy.1 memory)
 
 -- Cycles
 
@@ -124,7 +123,4 @@ greedy_long heuristic lat (b ∷ blocks) (s ∷ schedules) greedy =
 -- the total of a file's greedy schedules
 pub total_small : (heuristic : Heuristic) (lat : Latencies) (blocks : List Block) (schedules : List Table)
     → AreGreedyAs heuristic lat blocks schedules → AreWithinLimits blocks → total_cycles lat schedules < 2 ^ 63
-total_small heuristic lat blocks schedules greedy limits =
-    let few : total_cycles lat schedules ≤ most_cycles * length blocks =
-    total_few heuristic lat blocks schedules greedy limits.1 in
-    let most : length blocks ≤ MAX_BLOCKS = limits.0 in omega arith
+total_small heuristic lat blocks schedules greedy limits = grind (arith, total_few)

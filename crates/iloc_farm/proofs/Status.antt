@@ -1,5 +1,5 @@
 -- What a status of 0 tells, where the words ask for a check.
-use Rattle.std.proofs.Common.{◌≡◌, ℕ, List, Ok, Err, None, Option, Result, Some, arith, refl, sym, ap, ◌∙◌, subst, inl, inr}
+use Rattle.std.proofs.Common.{◌≡◌, ℕ, List, Ok, Err, Option, Result, Some, arith, refl, sym, ap, ◌∙◌, subst, inl, inr}
 use Rattle.std.specs.Prelude.{option_map}
 use Rattle.std.specs.List.{AllZip}
 use Rattle.std.specs.String.{string_bytes}
@@ -24,7 +24,7 @@ use Rattle.iloc_farm.specs.declared.fault.RunFault.TheVariants.{Text, Rows, Task
 use Rattle.iloc_farm.specs.declared.fault.TaskFault.{TaskFault}
 use Rattle.iloc_farm.specs.declared.fault.TaskFault.TheVariants as task_fault
 use Rattle.iloc_farm.specs.declared.commands.Finding.{Finding}
-use Rattle.iloc_farm.specs.declared.commands.Finding.TheVariants.{Passed, Failed, Unread}
+use Rattle.iloc_farm.specs.declared.commands.Finding.TheVariants.{Passed}
 use Rattle.iloc_farm.specs.declared.program.Fault.{Fault}
 use Rattle.iloc_farm.specs.declared.program.Fault.TheVariants.{Line, Run}
 use Rattle.iloc_farm.specs.Run.Apart.{Held}
@@ -59,9 +59,7 @@ above_0 held words ro rn wo wn (Run (of_task fault)) stopped zero = task_above_0
 above_0 held words ro rn wo wn _ stopped zero = omega arith
 
 passed_at_0 : (finding : Finding) → status_of_finding finding ≡ 0 → finding ≡ Passed
-passed_at_0 Passed zero = λ i. Passed
-passed_at_0 Failed zero = absurd (omega arith)
-passed_at_0 Unread zero = absurd (omega arith)
+passed_at_0 finding h1 = grind arith
 
 -- The words ask for one thing
 
@@ -88,26 +86,7 @@ record Judges (held : Held) (request : Request) (old new : Option (List ℕ)) (f
 judges : (held : Held) (request : Request) (old new : Option (List ℕ)) (finding : Finding) (text : List ℕ)
     (t : Task) (file : Option (String Global)) → t ≡ request.task → t ≡ task.Check → file ≡ request.task_file
     → ListsAs t file held request old new finding text → Judges held request old new finding text
-judges held request old new finding text task.Check None is check named lists =
-    let own = lists.listed in
-    let Q : Option (String Global) → Type 0 = λ file.
-    ReadsRows held (option_map string_bytes file) old new own.blocks own.proposals in
-    record {
-      blocks = own.blocks;
-      proposals = own.proposals;
-      read = subst Q named (record { input = lists.input; read = lists.read; denoted = own.denoted });
-      checked = own.said;
-    }
-judges held request old new finding text task.Check (Some name) is check named lists =
-    let Q : Option (String Global) → Type 0 = λ file.
-    ReadsRows held (option_map string_bytes file) old new lists.blocks lists.proposals in
-    record {
-      blocks = lists.blocks;
-      proposals = lists.proposals;
-      read = subst Q named lists.read;
-      checked = lists.said;
-    }
-judges held request old new finding text _ file is check named lists = cc
+judges held request old new finding text t file is check named lists = grind arith
 
 listed_same : (held : Held) (words : Result Args Error) (read_old read_new : Option (List ℕ)) (finding : Finding)
     (text : List ℕ) (a : Asked) → IsListed held words read_old read_new finding text → finding ≡ Passed → AskFor words a

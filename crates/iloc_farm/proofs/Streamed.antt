@@ -1,9 +1,7 @@
 -- What was read from a stream as it came.
-use Rattle.std.proofs.Common.{ℕ, List, Option}
+use Rattle.std.proofs.Common.{ℕ, List, Option, arith}
 use Rattle.iloc_text.specs.declared.fault.ReadFault.{ReadFault}
-use Rattle.iloc_text.specs.declared.fault.ReadFault.TheVariants.{InputTooLong, BadLine, NumberTooLarge, TooManyBlocks, TooManyOperations, NoMemory}
 use Rattle.iloc_text.specs.declared.fault.StreamFault.{StreamFault}
-use Rattle.iloc_text.specs.declared.fault.StreamFault.TheVariants as stream
 use Rattle.iloc_text.specs.Files.{IsRefused}
 use Rattle.iloc_text.specs.Streams.{ReadsText, EndsStream}
 use Rattle.iloc_farm.specs.Fault.{fault_of_stream}
@@ -15,10 +13,4 @@ refuses old new fault h = record { input = h.0; read = h.1; refused = h.2 }
 
 pub ends_file : (old new : Option (List ℕ)) (fault : StreamFault) → EndsStream old new fault
     → IsCaused (of_file old new) (fault_of_stream fault)
-ends_file old new stream.ReadFailed h = tt
-ends_file old new (stream.Text InputTooLong) h = refuses old new InputTooLong (h (λ e. cc))
-ends_file old new (stream.Text (BadLine n)) h = refuses old new (BadLine n) (h (λ e. cc))
-ends_file old new (stream.Text (NumberTooLarge n)) h = refuses old new (NumberTooLarge n) (h (λ e. cc))
-ends_file old new (stream.Text (TooManyBlocks n)) h = refuses old new (TooManyBlocks n) (h (λ e. cc))
-ends_file old new (stream.Text (TooManyOperations n)) h = refuses old new (TooManyOperations n) (h (λ e. cc))
-ends_file old new (stream.Text NoMemory) h = tt
+ends_file old new fault h = grind (arith, refuses)

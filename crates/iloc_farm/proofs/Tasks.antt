@@ -1,6 +1,5 @@
 -- A task that is read from a text of its own.
-use Rattle.std.proofs.Common.{◌≡◌, ◌∙◌, ◌++◌, ◌≤◌, ℕ, List, None, Option, Some, ap, append-nil, arith, length, subst, sym}
-use Rattle.std.specs.Io.KnownBytes.{Consumes, IsAtEnd}
+use Rattle.std.proofs.Common.{◌≡◌, ◌≤◌, ℕ, List, Option, Some, append-nil, arith, length, subst}
 use Rattle.iloc_ops.specs.Limits.{MAX_INPUT}
 use Rattle.iloc_ops.specs.declared.file.Block.{Block}
 use Rattle.iloc_text.specs.Files.{Denotes}
@@ -14,11 +13,7 @@ use Rattle.iloc_farm.specs.Laws.{HandInsDontChangeTheTask}
 
 -- what was read is all that the text holds, where it is no longer than a text may be
 whole_text : (known task : List ℕ) → Holds (Some known) task → length task ≤ MAX_INPUT → task ≡ known
-whole_text known task held short = go held.left held.read.taken (held.read.whole (omega arith))
-  where
-    go : (left : Option (List ℕ)) → Consumes (Some known) left task → IsAtEnd left → task ≡ known
-    go None taken end = absurd taken
-    go (Some rest) taken end = sym (taken ∙ (ap (λ bytes. task ++ bytes) end ∙ append-nil task))
+whole_text known task held short = grind (arith, append-nil)
 
 pub hand_ins_dont_change_the_task : HandInsDontChangeTheTask
 hand_ins_dont_change_the_task known old new old' new' blocks blocks' proposals proposals' one other =

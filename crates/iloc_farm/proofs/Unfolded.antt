@@ -9,9 +9,7 @@ use Rattle.iloc_farm.specs.Steps.Text.{bytes_before, empty_rows, unfolded}
 -- one more row at the start is one more at the end
 pub empty_rows_more : (n : ℕ) → empty_rows n ++ codes "[ nop ; nop ]\n" ≡ empty_rows (suc n)
 empty_rows_more zero = refl
-empty_rows_more (suc n) =
-    append_assoc (codes "[ nop ; nop ]\n") (empty_rows n) (codes "[ nop ; nop ]\n")
-    ∙ ap (λ t. codes "[ nop ; nop ]\n" ++ t) (empty_rows_more n)
+empty_rows_more (suc n) = grind (arith, append_assoc, empty_rows_more n)
 
 -- of so many rows one is written
 pub one_row_less : (rows n : ℕ) → n < rows → empty_rows (rows - n) ≡ codes "[ nop ; nop ]\n" ++ empty_rows (rows - (n + 1))
@@ -38,10 +36,7 @@ bytes_more (run ∷ runs) bytes more within =
 -- a run follows all bytes
 pub run_more : (runs : List EmptyRows) (bytes : List ℕ) (run : EmptyRows) → bytes_before runs + run.bytes ≡ length bytes
     → unfolded (runs ++ run ∷ []) bytes ≡ unfolded runs bytes ++ empty_rows run.rows
-run_more [] bytes run all =
-    let size : run.bytes ≡ length bytes = omega arith in
-    rw (take_all run.bytes bytes (omega arith), drop_all run.bytes bytes (omega arith))
-    (ap (λ t. bytes ++ t) (append-nil (empty_rows run.rows)))
+run_more [] bytes run all = grind (arith, append-nil, drop_all, take_all)
 run_more (first ∷ runs) bytes run all =
     let parts : bytes_before (first ∷ runs) ≡ first.bytes + bytes_before runs = sum_by-cons (λ (r : EmptyRows). r.bytes) first runs in
     let rest = run_more runs (drop first.bytes bytes) run (omega (arith, length-drop first.bytes bytes)) in
@@ -58,18 +53,8 @@ module _ (runs : List EmptyRows) (bytes rest behind line after : List ℕ) (text
     (so_far : text ≡ unfolded runs bytes ++ rest) (parts : rest ≡ empty_rows rows ++ behind)
     (parted : behind ≡ line ++ after) (within : bytes_before runs ≤ length bytes) where
   pub grown_line : rows ≡ 0 → text ≡ unfolded runs (bytes ++ line) ++ after
-  grown_line none =
-      so_far ∙ (ap (λ t. unfolded runs bytes ++ t)
-      (parts ∙ (ap (λ n. empty_rows n ++ behind) none ∙ parted))
-      ∙ (sym (append_assoc (unfolded runs bytes) line after)
-      ∙ ap (λ t. t ++ after) (sym (bytes_more runs bytes line within))))
+  grown_line none = grind (arith, append_assoc, bytes_more)
 
   pub grown_run : (run : EmptyRows) → run.rows ≡ rows → bytes_before runs + run.bytes ≡ length bytes
       → text ≡ unfolded (runs ++ run ∷ []) (bytes ++ line) ++ after
-  grown_run run same all =
-      so_far ∙ (ap (λ t. unfolded runs bytes ++ t)
-      (parts ∙ (ap (λ n. empty_rows n ++ behind) (sym same) ∙ ap (λ t. empty_rows run.rows ++ t) parted))
-      ∙ (sym (append_assoc (unfolded runs bytes) (empty_rows run.rows) (line ++ after))
-      ∙ (ap (λ t. t ++ (line ++ after)) (sym (run_more runs bytes run all))
-      ∙ (sym (append_assoc (unfolded (runs ++ run ∷ []) bytes) line after)
-      ∙ ap (λ t. t ++ after) (sym (bytes_more (runs ++ run ∷ []) bytes line (omega (arith, before_more runs run))))))))
+  grown_run run same all = grind (arith, append_assoc, before_more, bytes_more, run_more)

@@ -1,5 +1,5 @@
 -- What the words ask for, by what is made of those behind the program's name.
-use Rattle.std.proofs.Common.{◌≡◌, ◌∙◌, Err, List, Ok, Option, Result, ap, drop, inr, map, subst, sym, ℕ}
+use Rattle.std.proofs.Common.{◌≡◌, ◌∙◌, Err, List, Ok, Option, Result, ap, drop, inr, map, subst, sym, ℕ, arith}
 use Rattle.std.proofs.KnownBytes.{Keeps-refl}
 use Rattle.std.specs.Result.{IfErr, IfOk, IsErrAnd}
 use Rattle.std.specs.String.{string_bytes}
@@ -25,19 +25,14 @@ pub made_some : (words : Result Args Error) (args : Args) (behind : List (String
     → behind ≡ drop 1 (into_iter_items args)
     → IfOk result (λ request. Asks (map string_bytes behind) (asked_in request))
     → IfOk result (λ request. AskFor words (asked_in request))
-made_some words args behind result given same asks =
-    subst (λ (w : Result Args Error). IfOk result (λ request. AskFor w (asked_in request))) (sym given)
-    (subst (λ (b : List (String Global)). IfOk result (λ request. Asks (map string_bytes b) (asked_in request)))
-    same asks)
+made_some words args behind result given same asks = grind arith
 
 -- a fault of the words behind the name is one of the words
 pub made_none : (words : Result Args Error) (args : Args) (behind : List (String Global))
     (result : Result Request LineFault) → words ≡ Ok args
     → behind ≡ drop 1 (into_iter_items args) → IfErr result (IsDue (map string_bytes behind))
     → IfErr result (MakeNone words)
-made_none words args behind result given same due =
-    subst (λ (w : Result Args Error). IfErr result (MakeNone w)) (sym given)
-    (subst (λ (b : List (String Global)). IfErr result (IsDue (map string_bytes b))) same due)
+made_none words args behind result given same due = grind arith
 
 -- a fault that ends the run stops the program
 pub run_stopped : (held : Held) (words : Result Args Error) (request : Request)

@@ -19,10 +19,7 @@ all_with rows row b is =
 -- an empty row at the end is left out
 held_less : (rows : List Row) (row : Row) → is_empty row ≡ true → held_rows (rows ++ row ∷ []) ≡ held_rows rows
 held_less [] row is = ap (λ b. if b then [] else row ∷ []) (and-true (is_empty row) ∙ is)
-held_less (first ∷ rows) row is =
-    ap₂ (λ b more. if b then [] else first ∷ more)
-    (ap (λ b. is_empty first && b) (all_with rows row true is ∙ and-true (list_all is_empty rows)))
-    (held_less rows row is)
+held_less (first ∷ rows) row is = grind (arith, all_with, and-true, held_less rows row is)
 
 -- where the last row holds an operation, none is left out
 held_all : (rows : List Row) (row : Row) → is_empty row ≡ false → held_rows (rows ++ row ∷ []) ≡ rows ++ row ∷ []

@@ -1,4 +1,4 @@
-use Rattle.std.proofs.Common.{◌≡◌, ◌≤◌, ℕ, ◌+◌, List, ◌++◌, length, arith, refl, ap, ◌∙◌, Option}
+use Rattle.std.proofs.Common.{◌≡◌, ◌≤◌, ℕ, List, ◌++◌, length, arith, refl, ap, ◌∙◌, Option}
 use Rattle.std.specs.Prelude.{codes}
 use Rattle.iloc_ops.specs.declared.op.Op.{Op}
 use Rattle.iloc_ops.specs.declared.file.Block.{Block}
@@ -7,7 +7,6 @@ use Rattle.iloc_timed.specs.declared.latencies.Latencies.{Latencies}
 use Rattle.iloc_timed.specs.Cycles.{cycles}
 use Rattle.iloc_timed.specs.Schedule.{Table}
 use Rattle.iloc_rows.specs.declared.proposal.Proposed.{Proposed}
-use Rattle.iloc_sched.specs.declared.cycle.calendar.TheConstants.{LONGEST_DELAY}
 use Rattle.iloc_sched.specs.declared.ranking.heuristic.Heuristic.{Heuristic}
 use Rattle.iloc_judge.specs.declared.explained.ExplainedRows.{ExplainedRows}
 use Rattle.iloc_judge.specs.RowsExplained.{IsRowsExplanation}
@@ -25,10 +24,7 @@ use Rattle.iloc_farm.proofs.commands.explain.rows.RowsExplainerRowLister.list.Go
 -- the cycles of one proposal are few
 few_told : (heuristic : Heuristic) (lat : Latencies) (block : List Op) (s : Table) (p : Proposed) (one : ExplainedRows)
     (text : List ℕ) → IsRowsExplanation heuristic lat block s p one text → length p.rows ≤ MAX_ROWS → one.cycles ≤ most_proposed_cycles
-few_told heuristic lat block s p one text is few =
-    let counted : one.cycles ≡ cycles lat p.ops p.rows = is.counted in
-    let within : cycles lat p.ops p.rows ≤ length p.rows + LONGEST_DELAY = cycles_within lat p.ops p.rows in
-    omega arith
+few_told heuristic lat block s p one text is few = grind (arith, cycles_within)
 
 -- what was appended is the entry
 rows_listed : (heuristic : Heuristic) (lat : Latencies) (k : ℕ) (b : Block) (s : Table) (p : Proposed) (one : ExplainedRows)

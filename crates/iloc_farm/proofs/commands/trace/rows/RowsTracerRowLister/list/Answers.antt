@@ -1,5 +1,5 @@
 use Rattle.iloc_timed.proofs.WholeRuns.{if_ok}
-use Rattle.std.proofs.Common.{◌≡◌, ℕ, Bool, List, ◌++◌, refl, ap, ◌∙◌, subst, Option}
+use Rattle.std.proofs.Common.{◌≡◌, ℕ, Bool, List, ◌++◌, Option, arith}
 use Rattle.std.specs.Prelude.{ℤ, codes}
 use Rattle.iloc_ops.specs.declared.file.Block.{Block}
 use Rattle.iloc_timed.specs.declared.latencies.Latencies.{Latencies}
@@ -18,15 +18,7 @@ traced_listed : (lat : Latencies) (memory start : List ℤ) (k : ℕ) (b : Block
     → headed ≡ text ++ block_head k name → lined ≡ headed ++ codes "\n"
     → IsTraceOf p.unread traced lat memory p.ops p.rows said → more ≡ lined ++ said
     → Adds (IsRowsTraceEntry lat start k (b, p)) text more traced
-traced_listed lat memory start k b p traced text headed lined more said name starts named opened ended is added =
-    let P : List ℤ → Type 0 = λ m. IsTraceOf p.unread traced lat m p.ops p.rows said in
-    record {
-      entry = block_head k b.name ++ codes "\n" ++ said;
-      right = record { text = said; right = subst P starts is; listed = refl };
-      added = added
-          ∙ (ap (λ xs. xs ++ said) (ended ∙ ap (λ xs. xs ++ codes "\n") (opened ∙ ap (λ n. text ++ block_head k n) named))
-          ∙ parts_joined text (block_head k b.name) (codes "\n") said);
-    }
+traced_listed lat memory start k b p traced text headed lined more said name starts named opened ended is added = grind (arith, parts_joined)
 
 pub returns-clause-listed : goal.returns-clause-listed
 returns-clause-listed c =
