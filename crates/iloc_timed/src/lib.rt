@@ -21,6 +21,6 @@ pub use row::{Row, kind_in};
 pub use run::run_schedule;
 pub use schedule::{MAX_ROWS, Schedule};
 pub use simulator::Simulator;
-pub use spelling::{RowWriter, push_row, push_row_line};
+pub use spelling::{RowWriter, push_row};
 pub use timing::{cycles, cycles_of, latency};
 pub use wheel::{LONGEST, Lands, Wheel};

@@ -107,17 +107,6 @@ pub fn push_row(text: &mut Vec<u8>, ops: &[Op], row: &Row) -> Result<(), NoMemor
     Ok(())
 }
 
-/// Promise: appends a row and a line end; after a refusal of memory the text is as before.
-pub fn push_row_line(text: &mut Vec<u8>, ops: &[Op], row: &Row) -> Result<(), NoMemory>
-    ensures ok { OnOk result (text.new.items ≡ text.old.items ++ row_line ops.now row.now) }
-    ensures err { OnErr result (text.new.items ≡ text.old.items) }
-{
-    let mut line = [0; LONGEST_LINE];
-    let start = write_line(&mut line, LONGEST_LINE, ops, row);
-    text.extend_from_slice(&line[start..])?;
-    Ok(())
-}
-
 /// Writes rows, one after another.
 #[derive(Debug, Drop)]
 pub struct RowWriter {
