@@ -7,7 +7,8 @@ use Rattle.std.proofs.lemmas.Slice.Eq.{bytes_eq-Decides}
 use Rattle.clap.specs.Words.{Text}
 use Rattle.iloc_sched.specs.declared.ranking.heuristic.Heuristic.{Heuristic}
 use Rattle.iloc_sched.specs.declared.ranking.heuristic.Heuristic.TheVariants.{Chain}
-use Rattle.iloc_args.specs.Priority.{IsNoPriority, heuristics, priority_word}
+use Rattle.iloc_sched.specs.Heuristics.Listed.{heuristics}
+use Rattle.iloc_args.specs.Priority.{IsNoPriority, priority_word}
 
 -- what is found passes
 found_passes : (p : Heuristic → Bool) (those : List Heuristic) → IfSome (find p those) (λ h. p h ≡ true)

@@ -10,5 +10,5 @@ mod request;
 
 pub use fault::{LineFault, line_status};
 pub use line::parse_line;
-pub use priority::{HEURISTICS, priority_name};
+pub use priority::priority_name;
 pub use request::{Request, Task};

@@ -1,20 +1,11 @@
 //! What the ready operations are ranked by, as the command line names it.
 ghost use Rattle.std.specs.Prelude.{◌≡◌, find};
 ghost use Rattle.std.specs.Str.{bytes_eq};
-ghost use Rattle.iloc_args.specs.Priority.{heuristics, priority_word};
+ghost use Rattle.iloc_args.specs.Priority.{priority_word};
+ghost use Rattle.iloc_sched.specs.Heuristics.Listed.{heuristics};
 ghost use Rattle.iloc_sched.specs.declared.ranking.heuristic.Heuristic.{Heuristic as heuristic_value};
 
-use iloc_sched::Heuristic;
-
-/// The heuristics, in the order in which they are listed.
-pub const HEURISTICS: [Heuristic; 6] = [
-    Heuristic::Chain,
-    Heuristic::Slack,
-    Heuristic::Descendants,
-    Heuristic::Successors,
-    Heuristic::Latency,
-    Heuristic::Order,
-];
+use iloc_sched::{HEURISTICS, Heuristic};
 
 /// What the help says of `--priority`: their names in this order, from which the completions have them.
 pub(crate) const HELP: &str =

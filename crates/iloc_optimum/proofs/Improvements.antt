@@ -1,5 +1,5 @@
 -- The best schedule and the bound while they are improved: `Optimizer::optimize`.
-use Rattle.std.proofs.Common.{◌≡◌, ◌∙◌, ℕ, ◌+◌, ◌≤◌, List, length, map, sym, ap, ap₂, subst, ◌⊎◌, inl, inr, arith}
+use Rattle.std.proofs.Common.{◌≡◌, ◌∙◌, ℕ, ◌+◌, ◌<◌, ◌≤◌, List, [], ◌∷◌, ◌++◌, length, get_or, suc, take, map, sym, ap, ap₂, subst, ◌⊎◌, inl, inr, arith}
 use Rattle.iloc_ops.specs.declared.op.Op.{Op}
 use Rattle.iloc_meaning.specs.Trace.{op_at}
 use Rattle.iloc_timed.specs.declared.kind.Kind.{Kind}
@@ -12,18 +12,21 @@ use Rattle.iloc_timed.specs.Rows.{issue_cycle}
 use Rattle.iloc_timed.specs.Schedule.{Table}
 use Rattle.iloc_timed.proofs.WholeRuns.{short_latency}
 use Rattle.std.specs.List.{range_with_len}
+use Rattle.std.proofs.lemmas.List.{take_all, take_more}
 use Rattle.iloc_sched.specs.declared.cycle.calendar.TheConstants.{LONGEST_DELAY}
 use Rattle.iloc_sched.specs.declared.edges.Edge.{Edge}
 use Rattle.iloc_sched.specs.declared.ranking.heuristic.Heuristic.{Heuristic}
-use Rattle.iloc_sched.specs.declared.ranking.heuristic.Heuristic.TheVariants.{Chain, Slack, Descendants, Successors, Latency, Order}
 use Rattle.iloc_sched.specs.Heuristics.{priorities_by}
+use Rattle.iloc_sched.specs.Heuristics.Listed.{heuristics}
 use Rattle.iloc_sched.specs.Lawful.{IsLawful}
 use Rattle.iloc_sched.specs.LowerBound.Least.{least}
 use Rattle.iloc_sched.specs.Renaming.{renamed}
 use Rattle.iloc_sched.specs.Scheduled.{IsTheSchedule}
 use Rattle.iloc_sched.proofs.Basics.IssueCycles.{issue_cycle_within}
 use Rattle.iloc_sched.proofs.Basics.Maxima.{fold_max_reached}
-use Rattle.iloc_sched.proofs.Basics.Members.{from_map}
+use Rattle.iloc_sched.specs.Steps.Members.{In}
+use Rattle.iloc_sched.proofs.Basics.Members.{from_append, from_map}
+use Rattle.iloc_sched.proofs.PriorityValues.Named.{listed}
 use Rattle.iloc_sched.proofs.Bounds.LeastBound.{least_bound}
 use Rattle.iloc_sched.proofs.Outcome.LawfulOutcomes.{lawful_same_outcome}
 use Rattle.iloc_optimum.specs.declared.optimizer.Optimum.{Optimum}
@@ -75,35 +78,54 @@ shortened lat block h old new other the one fewer few = record {
   order = as_short lat block h new other the few;
 }
 
-pub best_of : (lat : Latencies) (block : List Op) (a b c d e f : Table) (bound : ℕ)
-    → IsTheSchedule (priorities_by Chain lat) lat block a
-    → IsShortened lat block Slack a b → IsShortened lat block Descendants b c → IsShortened lat block Successors c d
-    → IsShortened lat block Latency d e → IsShortened lat block Order e f → bound ≡ least lat block
-    → IsOptimumOf lat block (record { schedule = f; bound = bound })
-best_of lat block a b c d e f bound the slack descendants successors own order is =
-    let lawful : IsLawful lat block f.ops f.rows =
-    order.lawful (own.lawful (successors.lawful (descendants.lawful (slack.lawful the.greedy.lawful)))) in
-    record {
-      lawful = lawful;
-      outcome = λ memory. lawful_same_outcome lat block f.ops f.rows memory lawful;
-      orders = each;
-      bound = λ ops rows other. let low = least_bound lat block ops rows other in omega arith;
-      least = omega arith;
-    }
+-- a lawful schedule, as short as those that are greedy by the first n of these heuristics
+pub record IsBestOf (lat : Latencies) (block : List Op) (heuristics : List Heuristic) (n : ℕ) (s : Table) : Type 0 where
+  pub lawful : IsLawful lat block s.ops s.rows
+  pub orders : (h : Heuristic) → In (take n heuristics) h → IsAsShortAs h lat block s
+
+pub best_of_one : (lat : Latencies) (block : List Op) (h : Heuristic) (others : List Heuristic) (s : Table)
+    → IsTheSchedule (priorities_by h lat) lat block s → IsBestOf lat block (h ∷ others) 1 s
+best_of_one lat block h others s the = record {
+  lawful = the.greedy.lawful;
+  orders = λ k there. elim there [
+    | inl same ↦ subst (λ x. IsAsShortAs x lat block s) same (as_short lat block h s s the (omega arith))
+    | inr none ↦ absurd none
+  ];
+}
+
+pub best_of_more : (lat : Latencies) (block : List Op) (first : Heuristic) (others : List Heuristic) (i : ℕ) (d : Heuristic) (old new : Table)
+    → i < length others → IsBestOf lat block (first ∷ others) (i + 1) old
+    → IsShortened lat block (get_or others i d) old new → IsBestOf lat block (first ∷ others) ((i + 1) + 1) new
+best_of_more lat block first others i d old new within was shorter = record {
+  lawful = shorter.lawful was.lawful;
+  orders = λ k there t greedy. elim (from_append (take (i + 1) (first ∷ others)) (get_or others i d ∷ []) k
+      (subst (λ xs. In xs k) next there)) [
+        | inl before ↦ let short = was.orders k before t greedy in let fewer = shorter.fewer in omega arith
+        | inr now ↦ elim now [
+          | inl same ↦ subst (λ x. IsAsShortAs x lat block new) same shorter.order t greedy
+          | inr none ↦ absurd none
+        ]
+      ];
+}
   where
-    each : (h : Heuristic) → IsAsShortAs h lat block f
-    each Chain t greedy = let first = as_short lat block Chain a a the (omega arith) t greedy in
-        let one = slack.fewer in let two = descendants.fewer in let three = successors.fewer in let four = own.fewer in
-        let five = order.fewer in omega arith
-    each Slack t greedy = let first = slack.order t greedy in
-        let two = descendants.fewer in let three = successors.fewer in let four = own.fewer in
-        let five = order.fewer in omega arith
-    each Descendants t greedy = let first = descendants.order t greedy in
-        let three = successors.fewer in let four = own.fewer in let five = order.fewer in omega arith
-    each Successors t greedy = let first = successors.order t greedy in
-        let four = own.fewer in let five = order.fewer in omega arith
-    each Latency t greedy = let first = own.order t greedy in let five = order.fewer in omega arith
-    each Order t greedy = order.order t greedy
+    next : take ((i + 1) + 1) (first ∷ others) ≡ take (i + 1) (first ∷ others) ++ get_or others i d ∷ []
+    next =
+        let one : i + 1 ≡ suc i = omega arith in
+        let two : (i + 1) + 1 ≡ suc (suc i) = omega arith in
+        ap (λ n. take n (first ∷ others)) two
+        ∙ ap (λ xs. first ∷ xs) (ap (λ n. take n others) (sym one) ∙ take_more others i d within)
+        ∙ ap (λ n. take n (first ∷ others) ++ get_or others i d ∷ []) (sym one)
+
+pub best_of_all : (lat : Latencies) (block : List Op) (n : ℕ) (s : Table) (bound : ℕ) → length heuristics ≤ n
+    → IsBestOf lat block heuristics n s → bound ≡ least lat block
+    → IsOptimumOf lat block (record { schedule = s; bound = bound })
+best_of_all lat block n s bound all best is = record {
+  lawful = best.lawful;
+  outcome = λ memory. lawful_same_outcome lat block s.ops s.rows memory best.lawful;
+  orders = λ h. best.orders h (subst (λ xs. In xs h) (sym (take_all n heuristics all)) (listed h));
+  bound = λ ops rows other. let low = least_bound lat block ops rows other in omega arith;
+  least = omega arith;
+}
 
 -- where a search within the windows of a graph's operations found nothing
 pub refuted : (lat : Latencies) (block names : List Op) (limit : ℕ) (edges : List Edge) (kinds : List Kind) (w : Windows)

@@ -8,7 +8,7 @@ ghost use Rattle.iloc_optimum.specs.Steps.Improving.{IsShortened};
 use crate::search::{Found, search_windows};
 use crate::windows::Windows;
 use iloc_ops::{Block, NoMemory};
-use iloc_sched::{Graph, Heuristic, Scheduler};
+use iloc_sched::{Graph, HEURISTICS, Heuristic, Scheduler};
 use iloc_timed::{Latencies, MAX_ROWS, Schedule, cycles};
 use std::alloc::Global;
 use std::mem;
@@ -81,11 +81,9 @@ fn best_of_orders(
 {
     let least = graph.least()?;
     let mut best = scheduler.lend_as(graph, Heuristic::Chain)?;
-    try_order(scheduler, block, graph, &mut best, Heuristic::Slack)?;
-    try_order(scheduler, block, graph, &mut best, Heuristic::Descendants)?;
-    try_order(scheduler, block, graph, &mut best, Heuristic::Successors)?;
-    try_order(scheduler, block, graph, &mut best, Heuristic::Latency)?;
-    try_order(scheduler, block, graph, &mut best, Heuristic::Order)?;
+    for heuristic in &HEURISTICS[1..] {
+        try_order(scheduler, block, graph, &mut best, *heuristic)?;
+    }
     Ok(Optimum {
         schedule: best,
         bound: least,

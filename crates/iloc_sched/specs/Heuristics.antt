@@ -10,6 +10,7 @@ use Rattle.iloc_sched.specs.declared.ranking.heuristic.Heuristic.TheVariants.{Ch
 use Rattle.iloc_sched.specs.Delays.{delays}
 use Rattle.iloc_sched.specs.Priority.{priorities, priority}
 use Rattle.iloc_sched.specs.LowerBound.Starts.{start}
+pub mod Listed
 
 -- the length of the longest chain of delays through operation i
 abbrev pub through : Latencies → List Op → ℕ → ℕ

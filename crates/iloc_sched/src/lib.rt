@@ -21,7 +21,7 @@ pub use edges::delay_pairs::{Pair, delays, pairs, puts_delay};
 pub use graph::Graph;
 pub use lower_bound::least;
 pub use lower_bound::share::Share;
-pub use ranking::heuristic::Heuristic;
+pub use ranking::heuristic::{HEURISTIC_COUNT, HEURISTICS, Heuristic};
 pub use ranking::{priorities, priorities_by};
 pub use renaming::rename;
 pub use scheduler::{Scheduler, schedule, schedule_as};

@@ -1,15 +1,17 @@
 -- `compare` lists the bound on each block's cycles, and the cycles of its schedules by each heuristic.
 use Rattle.std.specs.Prelude.{ℕ, ◌≡◌, ◌==◌, nat_le, Bool, true, false, if◌then◌else◌, List, [], ◌++◌, slice_index, sum_by, length, Option, Some, None, codes}
-use Rattle.std.specs.List.{flat_map, list_all, join_by}
+use Rattle.std.specs.List.{flat_map, list_all, join_by, position_or_len}
+use Rattle.std.specs.Str.{bytes_eq}
 use Rattle.std.specs.Option.{option_map_or}
 use Rattle.std.specs.Fmt.{decimal}
 use Rattle.iloc_ops.specs.declared.file.Block.{Block}
 use Rattle.iloc_timed.specs.declared.latencies.Latencies.{Latencies}
 use Rattle.iloc_sched.specs.LowerBound.Least.{least}
 use Rattle.iloc_sched.specs.declared.ranking.heuristic.Heuristic.{Heuristic}
-use Rattle.iloc_sched.specs.declared.ranking.heuristic.Heuristic.TheVariants.{Chain, Slack, Descendants, Successors, Latency, Order}
+use Rattle.iloc_sched.specs.declared.ranking.heuristic.Heuristic.TheVariants.{Chain}
 use Rattle.iloc_optimum.specs.declared.optimizer.Sought.{Sought}
-use Rattle.iloc_args.specs.Priority.{priority_word, heuristics}
+use Rattle.iloc_sched.specs.Heuristics.Listed.{heuristics}
+use Rattle.iloc_args.specs.Priority.{priority_word}
 use Rattle.iloc_args.specs.declared.request.Request.{Request}
 use Rattle.iloc_farm.specs.declared.commands.compare.ComparedCycles.{ComparedCycles}
 use Rattle.iloc_farm.specs.Entries.{IsListingAfter}
@@ -18,25 +20,24 @@ use Rattle.iloc_farm.specs.Schedules.{IsCount}
 use Rattle.iloc_farm.specs.Commands.Record.{Command, Shared, of_files}
 use Rattle.iloc_farm.specs.Commands.Optimize.{IsSoughtIf}
 
--- the place of a heuristic among them
+-- the place of a heuristic among them, by its word
 abbrev pub place : Heuristic → ℕ
-place Chain = 0
-place Slack = 1
-place Descendants = 2
-place Successors = 3
-place Latency = 4
-place Order = 5
+place heuristic = position_or_len (λ h. bytes_eq (priority_word h) (priority_word heuristic)) heuristics
 
 -- how many cycles the schedule by this heuristic takes
 abbrev pub cycles_by : Heuristic → ComparedCycles → ℕ
 cycles_by heuristic c = slice_index c.cycles (place heuristic)
 
+-- how many cycles the block's schedules take, by each heuristic
+pub record AreCounts (lat : Latencies) (b : Block) (cycles : List ℕ) : Type 0 where
+  pub all : length cycles ≡ length heuristics
+  pub each : (heuristic : Heuristic) → IsCount heuristic lat b (slice_index cycles (place heuristic))
+
 -- the bound on the block's cycles, what is found of them where the request has nodes, and those of its schedules
 pub record IsComparedCycles (lat : Latencies) (nodes : Option ℕ) (b : Block) (c : ComparedCycles) : Type 0 where
   pub bound : c.least ≡ least lat b.ops
   pub sought : IsSoughtIf nodes lat b.ops c.sought
-  pub all : length c.cycles ≡ length heuristics
-  pub each : (heuristic : Heuristic) → IsCount heuristic lat b (cycles_by heuristic c)
+  pub counts : AreCounts lat b c.cycles
 
 -- the bound that is known: what a search proves, or else `least`
 abbrev pub bound_of : ComparedCycles → ℕ
@@ -47,12 +48,12 @@ abbrev pub best_of : ComparedCycles → ℕ
 best_of c = option_map_or (λ s. s.best) c.sought 0
 
 -- whether the schedule by no heuristic takes fewer
-abbrev pub is_fewest : Heuristic → ComparedCycles → Bool
-is_fewest heuristic c = list_all (nat_le (cycles_by heuristic c)) c.cycles
+abbrev pub is_fewest : ℕ → ComparedCycles → Bool
+is_fewest cycles c = list_all (nat_le cycles) c.cycles
 
--- 1 for a block of which that holds
+-- 1 for a block where that by this heuristic has the fewest
 abbrev pub fewest_by : Heuristic → ComparedCycles → ℕ
-fewest_by heuristic c = if is_fewest heuristic c then 1 else 0
+fewest_by heuristic c = if is_fewest (cycles_by heuristic c) c then 1 else 0
 
 -- 1 for a block whose schedule by this heuristic takes as many as the bound: then no lawful schedule takes fewer
 abbrev pub optimal_by : Heuristic → ComparedCycles → ℕ
@@ -86,10 +87,18 @@ pub record IsCompareEntry (request : Request) (k : ℕ) (b : Block) (entry : Lis
   pub compares : IsComparedCycles request.latencies request.nodes b found
   pub listed : entry ≡ compare_line request.csv k b.name found
 
--- what a table begins with, by the nodes that the request has
+-- the words for the heuristics, each after a comma
+abbrev pub names : List ℕ
+names = flat_map (λ heuristic. codes "," ++ priority_word heuristic) heuristics
+
+-- what comes before them, by the nodes that the request has
+abbrev pub heading : Option ℕ → List ℕ
+heading None = codes "block,name,least"
+heading (Some nodes) = codes "block,name,least,bound,best"
+
+-- what a table begins with
 abbrev pub compare_header : Option ℕ → List ℕ
-compare_header None = codes "block,name,least," ++ join_by priority_word (codes ",") heuristics ++ codes "\n"
-compare_header (Some nodes) = codes "block,name,least,bound,best," ++ join_by priority_word (codes ",") heuristics ++ codes "\n"
+compare_header nodes = heading nodes ++ names ++ codes "\n"
 
 -- the sums for each heuristic
 abbrev pub sums_of : (Heuristic → ComparedCycles → ℕ) → List ComparedCycles → List ℕ

@@ -5,27 +5,24 @@ ghost use Rattle.iloc_ops.specs.Limits.{MAX_BLOCKS};
 ghost use Rattle.iloc_ops.specs.declared.file.Block.{Block as block_value};
 ghost use Rattle.iloc_timed.specs.declared.latencies.Latencies.{Latencies as latencies_value};
 ghost use Rattle.iloc_sched.specs.Graph.GraphOf.{of_block};
+ghost use Rattle.iloc_sched.specs.Heuristics.Listed.{heuristics};
+ghost use Rattle.iloc_sched.specs.declared.ranking.heuristic.Heuristic.{Heuristic as heuristic_value};
 ghost use Rattle.iloc_farm.specs.Commands.Compare as compare;
+ghost use Rattle.iloc_farm.specs.Commands.Compare.{AreCounts};
+ghost use Rattle.iloc_farm.specs.Listing.{opening_as};
 ghost use Rattle.iloc_farm.specs.Schedules.{IsCount};
 ghost use Rattle.iloc_farm.specs.Steps.Tallies.{counted, limit_of};
 
 use crate::commands::optimize::sought_if;
 use crate::farmed::FarmedLister;
-use crate::listing::table::{push_field, push_head, push_opening};
+use crate::listing::table::{push_field, push_head};
 use crate::listing::text::Listing;
 use crate::listing::{count_of, push_numbered};
-use iloc_args::{HEURISTICS, Request, priority_name};
+use iloc_args::{Request, priority_name};
 use iloc_ops::{Block, Blocks, Name, NoMemory};
 use iloc_optimum::{Optimizer, Sought};
-use iloc_sched::{Graph, Heuristic, Scheduler};
+use iloc_sched::{Graph, HEURISTIC_COUNT, HEURISTICS, Heuristic, Scheduler};
 use std::alloc::Global;
-
-/// What a table begins with.
-const HEADER: &[u8] = b"block,name,least,chain,slack,descendants,successors,latency,order\n";
-
-/// What it begins with where schedules are searched for.
-const SEARCHED_HEADER: &[u8] =
-    b"block,name,least,bound,best,chain,slack,descendants,successors,latency,order\n";
 
 /// The bound on a block's cycles, and the cycles of its schedules by each heuristic.
 #[derive(Clone, Copy, Debug, Drop)]
@@ -35,28 +32,7 @@ pub struct ComparedCycles {
     /// What a search finds of them, if there is one.
     pub sought: Option<Sought>,
     /// How many each schedule takes, in the order in which the heuristics are listed.
-    pub cycles: [u32; 6],
-}
-
-/// The place of a heuristic among them.
-fn place(heuristic: Heuristic) -> usize
-    ensures { result ≡ compare.place heuristic }
-{
-    match heuristic {
-        Heuristic::Chain => 0,
-        Heuristic::Slack => 1,
-        Heuristic::Descendants => 2,
-        Heuristic::Successors => 3,
-        Heuristic::Latency => 4,
-        Heuristic::Order => 5,
-    }
-}
-
-/// How many cycles the schedule by this heuristic takes.
-fn cycles_by(heuristic: Heuristic, comparison: &ComparedCycles) -> u32
-    ensures { result ≡ compare.cycles_by heuristic comparison.now }
-{
-    comparison.cycles[place(heuristic)]
+    pub cycles: [u32; HEURISTIC_COUNT],
 }
 
 /// How many cycles a lawful schedule is known to take at least.
@@ -80,10 +56,9 @@ fn best_of(comparison: &ComparedCycles) -> u32
 }
 
 /// Whether the schedule by no heuristic takes fewer.
-fn is_fewest(heuristic: Heuristic, comparison: &ComparedCycles) -> bool
-    ensures { result ≡ compare.is_fewest heuristic comparison.now }
+fn is_fewest(cycles: u32, comparison: &ComparedCycles) -> bool
+    ensures { result ≡ compare.is_fewest cycles comparison.now }
 {
-    let cycles = cycles_by(heuristic, comparison);
     comparison.cycles.iter().all(|other| cycles <= *other)
 }
 
@@ -99,25 +74,28 @@ enum Tally {
 }
 
 impl Tally {
-    /// What one block adds.
-    fn of(self, heuristic: Heuristic, comparison: &ComparedCycles) -> u32
-        ensures { result ≡ counted self heuristic comparison.now }
+    /// What one block adds for the heuristic at this place.
+    fn of(self, place: usize, comparison: &ComparedCycles) -> u32
+        requires { place < length heuristics }
+        ensures { (h : heuristic_value) → place ≡ compare.place h → result ≡ counted self h comparison.now }
     {
+        let cycles = comparison.cycles[place];
         match self {
-            Tally::Cycles => cycles_by(heuristic, comparison),
-            Tally::Fewest => u32::from(is_fewest(heuristic, comparison)),
-            Tally::Optimal => u32::from(cycles_by(heuristic, comparison) == bound_of(comparison)),
+            Tally::Cycles => cycles,
+            Tally::Fewest => u32::from(is_fewest(cycles, comparison)),
+            Tally::Optimal => u32::from(cycles == bound_of(comparison)),
         }
     }
 
     /// What all add.
-    fn sum(self, heuristic: Heuristic, found: &[ComparedCycles]) -> u64
-        requires { length found.now ≤ MAX_BLOCKS }
-        ensures { result ≡ sum_by (counted self heuristic) found.now }
+    fn sum(self, place: usize, found: &[ComparedCycles]) -> u64
+        requires there { place < length heuristics }
+        requires few { length found.now ≤ MAX_BLOCKS }
+        ensures { (h : heuristic_value) → place ≡ compare.place h → result ≡ sum_by (counted self h) found.now }
     {
         let mut sum = 0;
         for comparison in found {
-            sum += u64::from(self.of(heuristic, comparison));
+            sum += u64::from(self.of(place, comparison));
         }
         sum
     }
@@ -171,36 +149,26 @@ fn push_number_by(
     push_field(text, csv, priority_name(heuristic), number)
 }
 
-/// Appends for each of these heuristics the cycles of its schedule.
-fn push_cycles(
-    text: &mut Vec<u8>,
-    csv: bool,
-    heuristics: &[Heuristic],
-    comparison: &ComparedCycles,
-) -> Result<(), NoMemory>
+/// Appends for each heuristic the cycles of its schedule.
+fn push_cycles(text: &mut Vec<u8>, csv: bool, comparison: &ComparedCycles) -> Result<(), NoMemory>
     ensures { OnOk result (text.new.items ≡ text.old.items
-        ++ compare.columns csv (λ heuristic. compare.cycles_by heuristic comparison.now) heuristics.now) }
+        ++ compare.columns csv (λ heuristic. compare.cycles_by heuristic comparison.now) heuristics) }
 {
-    for heuristic in heuristics {
-        let cycles = cycles_by(*heuristic, comparison);
+    for (place, heuristic) in HEURISTICS.iter().enumerate() {
+        let cycles = comparison.cycles[place];
         push_number_by(text, csv, *heuristic, u64::from(cycles))?;
     }
     Ok(())
 }
 
-/// Appends for each of these heuristics what is summed over all blocks.
-fn push_sums(
-    text: &mut Vec<u8>,
-    heuristics: &[Heuristic],
-    tally: Tally,
-    found: &[ComparedCycles],
-) -> Result<(), NoMemory>
+/// Appends for each heuristic what is summed over all blocks.
+fn push_sums(text: &mut Vec<u8>, tally: Tally, found: &[ComparedCycles]) -> Result<(), NoMemory>
     requires { length found.now ≤ MAX_BLOCKS }
     ensures { OnOk result (text.new.items ≡ text.old.items
-        ++ compare.columns false (λ heuristic. sum_by (counted tally heuristic) found.now) heuristics.now) }
+        ++ compare.columns false (λ heuristic. sum_by (counted tally heuristic) found.now) heuristics) }
 {
-    for heuristic in heuristics {
-        let sum = tally.sum(*heuristic, found);
+    for (place, heuristic) in HEURISTICS.iter().enumerate() {
+        let sum = tally.sum(place, found);
         push_number_by(text, false, *heuristic, sum)?;
     }
     Ok(())
@@ -239,7 +207,7 @@ fn push_comparison(
 {
     push_head(text, csv, number, name)?;
     push_bounds(text, csv, comparison)?;
-    push_cycles(text, csv, &HEURISTICS, comparison)?;
+    push_cycles(text, csv, comparison)?;
     text.push(b'\n')?;
     Ok(())
 }
@@ -283,7 +251,7 @@ fn push_sums_line(
     ensures { OnOk result (text.new.items ≡ text.old.items ++ compare.sums_line nodes found.now) }
 {
     push_bounds_total(text, nodes, found)?;
-    push_sums(text, &HEURISTICS, Tally::Cycles, found)?;
+    push_sums(text, Tally::Cycles, found)?;
     text.push(b'\n')?;
     Ok(())
 }
@@ -300,7 +268,7 @@ fn push_tally_line(
         (text.new.items ≡ text.old.items ++ compare.tally_line label.now (counted tally) found.now) }
 {
     text.extend_from_slice(label)?;
-    push_sums(text, &HEURISTICS, tally, found)?;
+    push_sums(text, tally, found)?;
     push_numbered(text, b" of ", found.len() as u64, b"\n")
 }
 
@@ -322,14 +290,45 @@ fn push_totals(
     push_tally_line(text, b"optimal", Tally::Optimal, found)
 }
 
-/// What a table begins with.
-fn header(nodes: Option<u32>) -> &'static [u8]
-    ensures { result.now ≡ compare.compare_header nodes }
+/// Appends the name of each heuristic, with a comma before it.
+fn push_names(text: &mut Vec<u8>) -> Result<(), NoMemory>
+    ensures { OnOk result (text.new.items ≡ text.old.items ++ compare.names) }
+{
+    for heuristic in HEURISTICS.iter() {
+        text.push(b',')?;
+        text.extend_from_slice(priority_name(*heuristic).as_bytes())?;
+    }
+    Ok(())
+}
+
+/// What a table begins with before that.
+fn heading(nodes: Option<u32>) -> &'static [u8]
+    ensures { result.now ≡ compare.heading nodes }
 {
     match nodes {
-        Some(_) => SEARCHED_HEADER,
-        None => HEADER,
+        Some(_) => b"block,name,least,bound,best",
+        None => b"block,name,least",
     }
+}
+
+/// Appends what a table begins with.
+fn push_header(text: &mut Vec<u8>, nodes: Option<u32>) -> Result<(), NoMemory>
+    ensures { OnOk result (text.new.items ≡ text.old.items ++ compare.compare_header nodes) }
+{
+    text.extend_from_slice(heading(nodes))?;
+    push_names(text)?;
+    Ok(text.push(b'\n')?)
+}
+
+/// Appends it, if a table is asked for.
+fn push_opening(text: &mut Vec<u8>, csv: bool, nodes: Option<u32>) -> Result<(), NoMemory>
+    ensures { OnOk result
+        (text.new.items ≡ text.old.items ++ opening_as csv (compare.compare_header nodes)) }
+{
+    if csv {
+        push_header(text, nodes)?;
+    }
+    Ok(())
 }
 
 /// Schedules each block by each heuristic, and answers how many cycles the schedules take.
@@ -348,6 +347,18 @@ fn count(scheduler: &mut Scheduler, graph: &Graph, heuristic: Heuristic) -> Resu
     let schedule = scheduler.lend_as(graph, heuristic)?;
     let cycles = count_of(&schedule, graph.latencies());
     scheduler.take_back(schedule);
+    Ok(cycles)
+}
+
+/// How many cycles the schedules of this graph's block take, by each heuristic.
+fn counts(scheduler: &mut Scheduler, graph: &Graph) -> Result<[u32; HEURISTIC_COUNT], NoMemory>
+    ensures { IfOk result (λ cycles. (lat : latencies_value) (block : block_value) → graph.now ≡ of_block lat block.ops
+        → AreCounts lat block cycles) }
+{
+    let mut cycles = [0; HEURISTIC_COUNT];
+    for (place, heuristic) in HEURISTICS.iter().enumerate() {
+        cycles[place] = count(scheduler, graph, *heuristic)?;
+    }
     Ok(cycles)
 }
 
@@ -382,21 +393,16 @@ impl FarmedLister for CompareLister {
         self.graph.refill(block, &request.latencies)?;
         let least = self.graph.least()?;
         let sought = sought_if(&mut self.optimizer, block, &self.graph, request.nodes)?;
-        let chain = count(&mut self.scheduler, &self.graph, Heuristic::Chain)?;
-        let slack = count(&mut self.scheduler, &self.graph, Heuristic::Slack)?;
-        let descendants = count(&mut self.scheduler, &self.graph, Heuristic::Descendants)?;
-        let successors = count(&mut self.scheduler, &self.graph, Heuristic::Successors)?;
-        let latency = count(&mut self.scheduler, &self.graph, Heuristic::Latency)?;
-        let order = count(&mut self.scheduler, &self.graph, Heuristic::Order)?;
+        let cycles = counts(&mut self.scheduler, &self.graph)?;
         Ok(ComparedCycles {
             least: least as u32,
             sought,
-            cycles: [chain, slack, descendants, successors, latency, order],
+            cycles,
         })
     }
 
     fn cycles(found: &ComparedCycles) -> u32 {
-        cycles_by(Heuristic::Chain, found)
+        found.cycles[0]
     }
 
     fn listing(
@@ -411,7 +417,7 @@ impl FarmedLister for CompareLister {
         ensures { IfOk result (IsCompareListing request.now blocks) }
     {
         let mut text = Vec::new(alloc);
-        push_opening(&mut text, request.csv, header(request.nodes))?;
+        push_opening(&mut text, request.csv, request.nodes)?;
         for (index, block) in blocks.as_slice().iter().enumerate() {
             let name = block.name.as_ref();
             push_comparison(&mut text, request.csv, index + 1, name, &found[index])?;

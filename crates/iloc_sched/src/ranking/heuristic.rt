@@ -28,6 +28,19 @@ pub enum Heuristic {
     Order,
 }
 
+/// How many heuristics there are.
+pub const HEURISTIC_COUNT: usize = 6;
+
+/// The heuristics, in the order in which they are listed.
+pub const HEURISTICS: [Heuristic; HEURISTIC_COUNT] = [
+    Heuristic::Chain,
+    Heuristic::Slack,
+    Heuristic::Descendants,
+    Heuristic::Successors,
+    Heuristic::Latency,
+    Heuristic::Order,
+];
+
 /// Fills a list with so many zeros.
 pub(crate) fn fill_zeros(found: &mut Vec<u32>, count: usize) -> Result<(), NoMemory>
     ensures { OnOk result (found.new.items ≡ replicate count 0) }

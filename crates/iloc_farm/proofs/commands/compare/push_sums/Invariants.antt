@@ -1,11 +1,11 @@
 use Rattle.std.proofs.Common.{◌≡◌, ◌++◌, false, sum_by, take}
 use Rattle.std.specs.List.{flat_map}
+use Rattle.iloc_sched.specs.Heuristics.Listed.{heuristics}
 use Rattle.iloc_farm.specs.Commands.Compare.{column}
 use Rattle.iloc_farm.specs.Steps.Tallies.{counted}
 use Rattle.iloc_farm.proofs.commands.compare.push_sums.Given as goal
 
-abbrev pub invariant-loop-heuristic : goal.invariant-loop-heuristic
-invariant-loop-heuristic l =
+abbrev pub invariant-loop-place : goal.invariant-loop-place
+invariant-loop-place l =
     l.text.items
-    ≡ l.initial.text.items
-    ++ flat_map (λ h. column false h (sum_by (counted l.tally h) l.found)) (take l.heuristic-index l.heuristics)
+    ≡ l.initial.text.items ++ flat_map (λ h. column false h (sum_by (counted l.tally h) l.found)) (take l.place heuristics)

@@ -4,7 +4,7 @@ use Rattle.iloc_sched.specs.LowerBound.Least.{least, least_of}
 use Rattle.iloc_sched.specs.declared.ranking.heuristic.Heuristic.TheVariants.{Chain}
 use Rattle.iloc_farm.specs.Commands.Optimize.{IsSoughtIf}
 use Rattle.iloc_farm.specs.Steps.Limits.{most_cycles}
-use Rattle.iloc_farm.proofs.Comparisons.{bound_small, compared}
+use Rattle.iloc_farm.proofs.Comparisons.{bound_small}
 use Rattle.iloc_farm.proofs.commands.compare.CompareListerFarmedLister.answer.Goals as goal
 
 pub sought_if-requires : goal.sought_if-requires
@@ -16,18 +16,17 @@ overflow_cast-result c =
     let block = c.args.block.now in
     let graph = c.in_ok-refill.ensures.graph in
     let small : least lat block.ops ≤ most_cycles =
-    bound_small Chain lat block c.in_ok-chain.chain (c.in_ok-chain.ensures lat block graph) c.requires.short in
+    bound_small Chain lat block _ ((c.in_ok-cycles.ensures lat block graph).each Chain) c.requires.short in
     rw (c.in_ok-least.ensures ∙ ap (λ (g : GraphOf). least_of g.latencies g.ops) graph) (omega (arith, small))
 
 pub returns : goal.returns
 returns c =
     let lat = c.args.request.now.latencies in
-    let nodes = c.args.request.now.nodes in
     let block = c.args.block.now in
     let graph = c.in_ok-refill.ensures.graph in
-    compared lat nodes block _ _ _ _ _ _ _ _
-    (c.in_ok-least.ensures ∙ ap (λ (g : GraphOf). least_of g.latencies g.ops) graph)
-    (subst (λ (g : GraphOf). IsSoughtIf nodes g.latencies block.ops c.in_ok-sought.sought) graph c.in_ok-sought.ensures)
-    (c.in_ok-chain.ensures lat block graph) (c.in_ok-slack.ensures lat block graph)
-    (c.in_ok-descendants.ensures lat block graph) (c.in_ok-successors.ensures lat block graph)
-    (c.in_ok-latency.ensures lat block graph) (c.in_ok-order.ensures lat block graph)
+    record {
+      bound = c.in_ok-least.ensures ∙ ap (λ (g : GraphOf). least_of g.latencies g.ops) graph;
+      sought = subst (λ (g : GraphOf). IsSoughtIf c.args.request.now.nodes g.latencies block.ops c.in_ok-sought.sought) graph
+          c.in_ok-sought.ensures;
+      counts = c.in_ok-cycles.ensures lat block graph;
+    }
