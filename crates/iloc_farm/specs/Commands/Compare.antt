@@ -1,6 +1,6 @@
 -- `compare` lists the bound on each block's cycles, and the cycles of its schedules by each heuristic.
 use Rattle.std.specs.Prelude.{ℕ, ◌≡◌, ◌==◌, nat_le, Bool, true, false, if◌then◌else◌, List, [], ◌++◌, slice_index, sum_by, length, Option, Some, None, codes}
-use Rattle.std.specs.List.{flat_map, list_all, join_by, position_or_len}
+use Rattle.std.specs.List.{flat_map, list_all, position_or_len}
 use Rattle.std.specs.Str.{bytes_eq}
 use Rattle.std.specs.Option.{option_map_or}
 use Rattle.std.specs.Fmt.{decimal}

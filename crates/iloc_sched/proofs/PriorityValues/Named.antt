@@ -1,11 +1,11 @@
 -- Each heuristic in the list of all, and its priorities as a list, one for each operation; for `fill_ranks`.
-use Rattle.std.proofs.Common.{◌≡◌, List, length, refl, inl, inr}
+use Rattle.std.proofs.Common.{◌≡◌, List, length, refl, inl, inr, arith}
 use Rattle.std.proofs.lemmas.List.{length-map}
 use Rattle.std.proofs.lemmas.List.FromFn.{length-map-range_with_len}
 use Rattle.iloc_ops.specs.declared.op.Op.{Op}
 use Rattle.iloc_timed.specs.declared.latencies.Latencies.{Latencies}
 use Rattle.iloc_sched.specs.declared.ranking.heuristic.Heuristic.{Heuristic}
-use Rattle.iloc_sched.specs.Heuristics.{priorities_by, through, descendants, successors}
+use Rattle.iloc_sched.specs.Heuristics.{priorities_by}
 use Rattle.iloc_sched.specs.declared.ranking.heuristic.Heuristic.TheVariants.{Chain, Slack, Descendants, Successors, Latency, Order}
 use Rattle.iloc_sched.specs.Heuristics.Listed.{heuristics}
 use Rattle.iloc_sched.specs.Steps.Members.{In}
