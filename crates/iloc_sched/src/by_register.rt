@@ -65,8 +65,6 @@ impl ByRegister {
     }
 
     /// The number of a register, if it has one.
-    // Where this, `set` and the functions of `Names` that call them aren't inlined, `counts` executes 3 % more instructions.
-    #[inline(always)]
     pub fn get(&self, register: Reg) -> Option<u32>
         ensures { result ≡ number_at self.now register.0 }
     {
@@ -87,7 +85,6 @@ impl ByRegister {
     }
 
     /// Gives a register a number, in place of the one that it had.
-    #[inline(always)]
     pub fn set(&mut self, register: Reg, number: u32) -> Result<(), NoMemory>
         ensures { OnOk result (Sets self.old self.new register.0 number) }
     {

@@ -47,7 +47,6 @@ impl Names {
     }
 
     /// Gives a register the next name.
-    #[inline(always)]
     fn give(&mut self, register: Reg) -> Result<(), NoMemory>
         requires { self.old.given < 2 ^ 32 - 1 }
         ensures { OnOk result
@@ -59,7 +58,6 @@ impl Names {
     }
 
     /// The name of a register that is used: the one that it has, or else the next.
-    #[inline(always)]
     fn of_use(&mut self, register: Reg) -> Result<Reg, NoMemory>
         requires { self.old.given < 2 ^ 32 - 1 }
         ensures name { IfOk result (λ name.
@@ -77,7 +75,6 @@ impl Names {
     }
 
     /// Puts its name in the place of a register that is used.
-    #[inline(always)]
     fn rename_use(&mut self, register: &mut Reg) -> Result<(), NoMemory>
         requires { self.old.given < 2 ^ 32 - 1 }
         ensures name { OnOk result (NamesUse register.old register.new
