@@ -18,10 +18,11 @@ class Refused(Exception):
 
 def read_file(path):
     """The bytes of a regular file that isn't too long: no link is followed, and no pipe or device waited for."""
+    def unfollowed(path, flags):
+        return os.open(path, flags | os.O_NOFOLLOW | os.O_NONBLOCK)
     try:
-        handle = os.open(path, os.O_RDONLY | os.O_NOFOLLOW | os.O_NONBLOCK | os.O_CLOEXEC)
-        with open(handle, "rb") as file:
-            about = os.fstat(handle)
+        with open(path, "rb", opener=unfollowed) as file:
+            about = os.fstat(file.fileno())
             if not stat.S_ISREG(about.st_mode):
                 raise Refused("it is no regular file")
             if about.st_size > MOST_BYTES:
