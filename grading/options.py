@@ -4,6 +4,7 @@ import math
 import os
 import pwd
 import re
+import shlex
 from pathlib import Path
 
 from marks import POLICIES
@@ -31,6 +32,13 @@ def option(text):
     if not OPTION.fullmatch(text):
         raise argparse.ArgumentTypeError(f"{text} is none of --load=N, --store=N, --mult=N, --either-slot, --outputs")
     return text
+
+
+def command(text):
+    words = shlex.split(text)
+    if not words:
+        raise argparse.ArgumentTypeError("no command is given")
+    return words
 
 
 def parser(usage):
@@ -70,7 +78,7 @@ def points(group):
 
 def programs(group):
     add = group.add_argument
-    add("--program", metavar="COMMAND", help="run this in a copy of each student's folder, a task on standard input; {task} is its file")
+    add("--program", metavar="COMMAND", type=command, help="run this in a copy of each student's folder, a task on standard input; {task} is its file")
     add("--time", metavar="S", type=at_least(1, int), default=10, help="seconds of processor time, and twice that by the clock [10]")
     add("--memory", metavar="MIB", type=at_least(1, int), default=512, help="of address space [512]")
     add("--processes", metavar="N", type=at_least(1, int), default=64, help="and threads, at a time [64]")

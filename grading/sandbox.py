@@ -1,6 +1,5 @@
 """Runs students' programs, which may do anything: within limits, and as far as the machine lets it out of reach of the rest."""
 import os
-import shlex
 import shutil
 import signal
 import stat
@@ -80,7 +79,7 @@ class Sandbox:
 
     def rows(self, source, task):
         """What a student's program prints of a task."""
-        words = shlex.split(self.asked.program.replace("{task}", "task.iloc"))
+        words = [it.replace("{task}", "task.iloc") for it in self.asked.program]
         given = task.path.read_bytes()
         with room(source, self.asked, given) as folder:
             status, out, err = self.call(words, given, folder)

@@ -103,6 +103,7 @@ class Class(Graded):
                 (BOTH, "empty", ["--floor", "2"], 2, "2 is not between 0 and 1"), (BOTH, "empty", ["--points", "nan"], 2, "nan"),
                 (BOTH, "empty", ["--check=--task=x"], 2, "--task=x is none of"), (BOTH, "empty", ["--time", "0"], 2, "0 is not a number from 1 on"),
                 (BOTH, "empty", ["--policy", "best", "--github"], 2, "--policy best needs a class"),
+                (BOTH, "empty", ["--program", "a 'b"], 2, "invalid command value"), (BOTH, "empty", ["--program", " "], 2, "no command is given"),
                 (BOTH, "empty", ["--user", "root"], 2, "root")):
             got, told, _ = self.grade(*words, tasks=tasks, submissions=submissions)
             self.expect(f"{tasks} {submissions} {words}: {told}", (got, said in told.decode(), b"Traceback" in told), (status, True, False))
