@@ -7,7 +7,7 @@ import judge
 
 ENDINGS = (".i", ".iloc")
 INPUT = re.compile(rb"^[ \t]*//[ \t]*SIM INPUT:(.*)$", re.MULTILINE)
-WORDS = re.compile(r"-i (\d+)((?: -?\d+)*)")
+WORDS = re.compile(r"-i (\d{1,10})((?: -?\d{1,10})*)")
 
 
 class CannotGrade(Exception):
@@ -49,7 +49,7 @@ def read_task(path, options):
     if not said:
         raise CannotGrade(f"{path}: {why}")
     if said["verdict"] == "void":
-        raise CannotGrade(f"{path}: the block neither stores nor prints")
+        raise CannotGrade(f"{path}: the block shows nothing")
     return Task(path.stem, path.resolve(), words, said["ours"], said["least"])
 
 

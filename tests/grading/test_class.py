@@ -94,7 +94,7 @@ class Class(Graded):
                 ("faults", "examples/class/submissions", [], 3, "faults/a.iloc: the block faults on its words"),
                 ("two", "examples/class/submissions", [], 3, "two/a.iloc: a task is one block, and this has 2"),
                 ("unread", "examples/class/submissions", [], 3, "unread/a.iloc: line 1: not understood"),
-                ("shows", "examples/class/submissions", [], 3, "shows/a.iloc: the block neither stores nor prints"),
+                ("shows", "examples/class/submissions", [], 3, "shows/a.iloc: the block shows nothing"),
                 ("input", "examples/class/submissions", [], 3, "expected `//SIM INPUT: -i ADDRESS WORD ..`, found `-r 1`"),
                 ("twice", "examples/class/submissions", [], 3, "two tasks have this name"),
                 ("faults", "faults", [], 3, "faults: the tasks must not be where students' files are"),
