@@ -1,14 +1,13 @@
 #!/usr/bin/env python3
 """What each public contract promises, collected from the sources into docs/PROMISES.md.
 
-    tests/pages/promises.py --write     writes the page
-    tests/pages/promises.py --check     compares the page with the sources, as test_promises.py does
+    tests/pages/promises.py --write
 
 A row is a public call with an `ensures`, or a public type whose comment has a promise. Its sentence is the paragraph
 of its `///` that begins with `Promise:`, or the first one where none does. Its definitions are the modules of specs/
 that its clauses cite; below the rows are all that these and the public ghost items reach, in the crates below too.
 What is public is read from `pub use` and `pub mod` in src/lib.rt. Definitions of the toolchain's libraries are left
-out. The last line of --check counts the crates.
+out. test_promises.py compares the page with the sources.
 """
 import os
 import re
@@ -239,18 +238,10 @@ def faults():
 
 
 def main():
-    if sys.argv[1:] == ["--write"]:
-        with open(PAGE, "w", encoding="utf-8") as file:
-            file.write("\n".join([HEAD, *sections().values()]))
-    elif sys.argv[1:] == ["--check"]:
-        wrong = list(faults())
-        for name, why in wrong:
-            print(f"{name}: {why or 'ok'}")
-        failed = sum(bool(why) for _, why in wrong)
-        print(f"{len(wrong) - failed} passed, {failed} failed")
-        sys.exit(bool(failed))
-    else:
+    if sys.argv[1:] != ["--write"]:
         sys.exit(__doc__)
+    with open(PAGE, "w", encoding="utf-8") as file:
+        file.write("\n".join([HEAD, *sections().values()]))
 
 
 if __name__ == "__main__":
