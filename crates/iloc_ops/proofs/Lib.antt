@@ -1,4 +1,4 @@
 pub mod Layouts
 pub mod Renaming
 pub mod Sets
-pub mod ShortDecimals
+pub mod ShortNumbers

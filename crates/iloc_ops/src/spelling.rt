@@ -10,7 +10,7 @@ mod layout;
 
 use crate::no_memory::NoMemory;
 use crate::op::{Op, Reg};
-use digits::{write_number, write_wide_number};
+use digits::write_number;
 use itoa::{Buffer, Integer};
 use layout::{Layout, layout_of};
 pub use layout::{Word, write_word};
@@ -71,7 +71,7 @@ fn write_laid_out(line: &mut [u8], end: usize, op: &Op, layout: &Layout) -> usiz
 {
     let end = write_operand(line, end, &layout.third, third(*op));
     let end = write_operand(line, end, &layout.second, second(*op));
-    let end = write_first_operand(line, end, &layout.first, first(*op));
+    let end = write_operand(line, end, &layout.first, first(*op));
     write_word(line, end, &layout.opcode)
 }
 
@@ -158,23 +158,6 @@ fn write_operand(line: &mut [u8], end: usize, lead: &Word, number: Option<u32>) 
     match number {
         Some(number) => {
             let end = write_number(line, end, number);
-            write_word(line, end, lead)
-        }
-        None => end,
-    }
-}
-
-/// As `write_operand`, and with no branch on whether the number has more than three digits, as a first operand often has.
-#[inline(always)]
-fn write_first_operand(line: &mut [u8], end: usize, lead: &Word, number: Option<u32>) -> usize
-    requires { (18 ≤ end) × (end ≤ length line.old) × (lead.now.length ≤ 8) }
-    ensures space { (result ≤ end) × (end ≤ result + 18) }
-    ensures length { length line.new ≡ length line.old }
-    ensures written { drop result line.new ≡ operand_text lead.now number ++ drop end line.old }
-{
-    match number {
-        Some(number) => {
-            let end = write_wide_number(line, end, number);
             write_word(line, end, lead)
         }
         None => end,

@@ -22,7 +22,3 @@ laid_out layout op = word_text layout.opcode
 -- no word is longer than its bytes
 abbrev pub IsShort : Layout → Type 0
 IsShort layout = (layout.opcode.length ≤ 8) × (layout.first.length ≤ 8) × (layout.second.length ≤ 8) × (layout.third.length ≤ 8)
-
--- three digits of a number below 1,000
-abbrev pub three_digits : ℕ → List ℕ
-three_digits n = (48 + n / 100) ∷ (48 + n / 10 % 10) ∷ (48 + n % 10) ∷ []
