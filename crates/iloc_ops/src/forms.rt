@@ -1,9 +1,11 @@
 //! The table of forms: the opcode and the operands of each operation, and the operation of an opcode and numbers.
-ghost use Rattle.std.specs.Prelude.{◌≡◌, ◌≤◌, length, get_or};
+ghost use Rattle.std.specs.Prelude.{◌≡◌, ◌≤◌, ◌<◌, length, get_or};
 ghost use Rattle.iloc_ops.specs.Forms.{opcode, operands, opcode_text, op_of};
 ghost use Rattle.iloc_ops.specs.Operands.{operands_in};
+ghost use Rattle.iloc_ops.specs.Spelling.{word_text};
 
 use crate::op::{Op, Reg};
+use crate::spelling::{LAYOUTS, Word};
 
 /// What an operation is called.
 #[derive(Clone, Copy, Debug, PartialEq, Eq)]
@@ -48,12 +50,6 @@ pub const OPCODES: [Opcode; 17] = [
     Opcode::StoreAI,
 ];
 
-/// The texts of the opcodes, in the order of their declaration.
-const TEXTS: [&[u8]; 17] = [
-    b"load", b"loadI", b"store", b"add", b"sub", b"mult", b"lshift", b"rshift", b"output", b"nop",
-    b"addI", b"subI", b"multI", b"lshiftI", b"rshiftI", b"loadAI", b"storeAI",
-];
-
 /// The operands of an operation: what follows its opcode.
 #[derive(Clone, Copy, Debug, PartialEq, Eq)]
 pub enum Operands {
@@ -76,15 +72,23 @@ pub enum Operands {
 }
 
 impl Opcode {
+    /// Promise: the text of an opcode as a word, of seven bytes at most.
+    #[inline(always)]
+    pub fn word(self) -> &'static Word
+        ensures text { word_text result.now ≡ opcode_text self }
+        ensures short { (0 < result.now.length) × (result.now.length ≤ 7) }
+    {
+        &LAYOUTS[self as usize].opcode
+    }
+
     /// Promise: the text of an opcode, of seven bytes at most.
     #[inline(always)]
     pub fn text(self) -> &'static [u8]
         ensures text { result.now ≡ opcode_text self }
         ensures short { length result.now ≤ 7 }
     {
-        // A match that gives texts compiles to jumps: with one `schedule` executes 1 % more instructions, and mispredicts half
-        // a branch more for each operation.
-        TEXTS[self as usize]
+        let word = self.word();
+        &word.bytes[8 - word.length..]
     }
 }
 

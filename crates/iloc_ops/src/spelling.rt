@@ -12,6 +12,7 @@ use crate::no_memory::NoMemory;
 use crate::op::{Op, Reg};
 use digits::write_number;
 use itoa::{Buffer, Integer};
+pub(crate) use layout::LAYOUTS;
 use layout::{Layout, layout_of};
 pub use layout::{Word, write_word};
 

@@ -53,7 +53,7 @@ const TARGET: Word = Word {
 };
 
 /// In the order of the declaration of opcodes.
-static LAYOUTS: [Layout; 17] = [
+pub(crate) static LAYOUTS: [Layout; 17] = [
     Layout {
         opcode: Word {
             bytes: *b"    load",

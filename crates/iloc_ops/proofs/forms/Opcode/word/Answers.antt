@@ -1,0 +1,8 @@
+use Rattle.iloc_ops.proofs.Layouts.{word_is_text, word_is_short}
+use Rattle.iloc_ops.proofs.forms.Opcode.word.Goals as goal
+
+pub returns-clause-text : goal.returns-clause-text
+returns-clause-text c = word_is_text c.args.self _
+
+pub returns-clause-short : goal.returns-clause-short
+returns-clause-short c = word_is_short c.args.self _
