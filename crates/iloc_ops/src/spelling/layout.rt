@@ -22,191 +22,59 @@ pub(crate) struct Layout {
     pub(crate) third: Word,
 }
 
-const NOTHING: Word = Word {
-    bytes: *b"        ",
-    length: 0,
-};
+/// The last bytes of these, so many.
+macro_rules! word {
+    ($bytes:literal, $length:literal) => {
+        Word {
+            bytes: *$bytes,
+            length: $length,
+        }
+    };
+}
 
-const VALUE: Word = Word {
-    bytes: *b"        ",
-    length: 1,
-};
+/// The layout of an opcode, as a word, before these words and the numbers.
+macro_rules! layout {
+    ($bytes:literal, $length:literal, $first:expr, $second:expr, $third:expr) => {
+        Layout {
+            opcode: word!($bytes, $length),
+            first: $first,
+            second: $second,
+            third: $third,
+        }
+    };
+}
 
-const REGISTER: Word = Word {
-    bytes: *b"       r",
-    length: 2,
-};
+const NOTHING: Word = word!(b"        ", 0);
 
-const NEXT_VALUE: Word = Word {
-    bytes: *b"      , ",
-    length: 2,
-};
+const VALUE: Word = word!(b"        ", 1);
 
-const NEXT_REGISTER: Word = Word {
-    bytes: *b"     , r",
-    length: 3,
-};
+const REGISTER: Word = word!(b"       r", 2);
 
-const TARGET: Word = Word {
-    bytes: *b"    => r",
-    length: 5,
-};
+const NEXT_VALUE: Word = word!(b"      , ", 2);
+
+const NEXT_REGISTER: Word = word!(b"     , r", 3);
+
+const TARGET: Word = word!(b"    => r", 5);
 
 /// In the order of the declaration of opcodes.
 pub(crate) static LAYOUTS: [Layout; 17] = [
-    Layout {
-        opcode: Word {
-            bytes: *b"    load",
-            length: 4,
-        },
-        first: REGISTER,
-        second: TARGET,
-        third: NOTHING,
-    },
-    Layout {
-        opcode: Word {
-            bytes: *b"   loadI",
-            length: 5,
-        },
-        first: VALUE,
-        second: TARGET,
-        third: NOTHING,
-    },
-    Layout {
-        opcode: Word {
-            bytes: *b"   store",
-            length: 5,
-        },
-        first: REGISTER,
-        second: TARGET,
-        third: NOTHING,
-    },
-    Layout {
-        opcode: Word {
-            bytes: *b"     add",
-            length: 3,
-        },
-        first: REGISTER,
-        second: NEXT_REGISTER,
-        third: TARGET,
-    },
-    Layout {
-        opcode: Word {
-            bytes: *b"     sub",
-            length: 3,
-        },
-        first: REGISTER,
-        second: NEXT_REGISTER,
-        third: TARGET,
-    },
-    Layout {
-        opcode: Word {
-            bytes: *b"    mult",
-            length: 4,
-        },
-        first: REGISTER,
-        second: NEXT_REGISTER,
-        third: TARGET,
-    },
-    Layout {
-        opcode: Word {
-            bytes: *b"  lshift",
-            length: 6,
-        },
-        first: REGISTER,
-        second: NEXT_REGISTER,
-        third: TARGET,
-    },
-    Layout {
-        opcode: Word {
-            bytes: *b"  rshift",
-            length: 6,
-        },
-        first: REGISTER,
-        second: NEXT_REGISTER,
-        third: TARGET,
-    },
-    Layout {
-        opcode: Word {
-            bytes: *b"  output",
-            length: 6,
-        },
-        first: VALUE,
-        second: NOTHING,
-        third: NOTHING,
-    },
-    Layout {
-        opcode: Word {
-            bytes: *b"     nop",
-            length: 3,
-        },
-        first: NOTHING,
-        second: NOTHING,
-        third: NOTHING,
-    },
-    Layout {
-        opcode: Word {
-            bytes: *b"    addI",
-            length: 4,
-        },
-        first: REGISTER,
-        second: NEXT_VALUE,
-        third: TARGET,
-    },
-    Layout {
-        opcode: Word {
-            bytes: *b"    subI",
-            length: 4,
-        },
-        first: REGISTER,
-        second: NEXT_VALUE,
-        third: TARGET,
-    },
-    Layout {
-        opcode: Word {
-            bytes: *b"   multI",
-            length: 5,
-        },
-        first: REGISTER,
-        second: NEXT_VALUE,
-        third: TARGET,
-    },
-    Layout {
-        opcode: Word {
-            bytes: *b" lshiftI",
-            length: 7,
-        },
-        first: REGISTER,
-        second: NEXT_VALUE,
-        third: TARGET,
-    },
-    Layout {
-        opcode: Word {
-            bytes: *b" rshiftI",
-            length: 7,
-        },
-        first: REGISTER,
-        second: NEXT_VALUE,
-        third: TARGET,
-    },
-    Layout {
-        opcode: Word {
-            bytes: *b"  loadAI",
-            length: 6,
-        },
-        first: REGISTER,
-        second: NEXT_VALUE,
-        third: TARGET,
-    },
-    Layout {
-        opcode: Word {
-            bytes: *b" storeAI",
-            length: 7,
-        },
-        first: REGISTER,
-        second: TARGET,
-        third: NEXT_VALUE,
-    },
+    layout!(b"    load", 4, REGISTER, TARGET, NOTHING),
+    layout!(b"   loadI", 5, VALUE, TARGET, NOTHING),
+    layout!(b"   store", 5, REGISTER, TARGET, NOTHING),
+    layout!(b"     add", 3, REGISTER, NEXT_REGISTER, TARGET),
+    layout!(b"     sub", 3, REGISTER, NEXT_REGISTER, TARGET),
+    layout!(b"    mult", 4, REGISTER, NEXT_REGISTER, TARGET),
+    layout!(b"  lshift", 6, REGISTER, NEXT_REGISTER, TARGET),
+    layout!(b"  rshift", 6, REGISTER, NEXT_REGISTER, TARGET),
+    layout!(b"  output", 6, VALUE, NOTHING, NOTHING),
+    layout!(b"     nop", 3, NOTHING, NOTHING, NOTHING),
+    layout!(b"    addI", 4, REGISTER, NEXT_VALUE, TARGET),
+    layout!(b"    subI", 4, REGISTER, NEXT_VALUE, TARGET),
+    layout!(b"   multI", 5, REGISTER, NEXT_VALUE, TARGET),
+    layout!(b" lshiftI", 7, REGISTER, NEXT_VALUE, TARGET),
+    layout!(b" rshiftI", 7, REGISTER, NEXT_VALUE, TARGET),
+    layout!(b"  loadAI", 6, REGISTER, NEXT_VALUE, TARGET),
+    layout!(b" storeAI", 7, REGISTER, TARGET, NEXT_VALUE),
 ];
 
 /// The layout of an operation.
