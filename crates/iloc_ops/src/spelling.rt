@@ -1,5 +1,5 @@
 //! How operations and numbers are written.
-ghost use Rattle.std.specs.Prelude.{◌≡◌, ◌++◌, OnOk, OnErr, drop, vec_len, vec_capacity, length, slice_get, ◌+◌, ◌<◌, ◌≤◌};
+ghost use Rattle.std.specs.Prelude.{◌≡◌, [], ◌∷◌, ◌++◌, OnOk, OnErr, drop, vec_len, vec_capacity, length, slice_get, ◌+◌, ◌<◌, ◌≤◌};
 ghost use Rattle.iloc_ops.specs.Forms.{numbers};
 ghost use Rattle.iloc_ops.specs.Spelling.{spelling};
 ghost use Rattle.iloc_ops.specs.Steps.Laid.{IsShort, laid_out, operand_text};
@@ -8,8 +8,9 @@ ghost use Rattle.iloc_ops.specs.declared.spelling.TheConstants.{LONGEST_OPERATIO
 mod digits;
 mod layout;
 
+use crate::forms::{Operands, form_of};
 use crate::no_memory::NoMemory;
-use crate::op::{Op, Reg};
+use crate::op::Op;
 use digits::write_number;
 use itoa::{Buffer, Integer};
 pub(crate) use layout::LAYOUTS;
@@ -70,81 +71,27 @@ fn write_laid_out(line: &mut [u8], end: usize, op: &Op, layout: &Layout) -> usiz
     ensures length { length line.new ≡ length line.old }
     ensures written { drop result line.new ≡ laid_out layout.now op.now ++ drop end line.old }
 {
-    let end = write_operand(line, end, &layout.third, third(*op));
-    let end = write_operand(line, end, &layout.second, second(*op));
-    let end = write_operand(line, end, &layout.first, first(*op));
+    let [first, second, third] = numbers(op);
+    let end = write_operand(line, end, &layout.third, third);
+    let end = write_operand(line, end, &layout.second, second);
+    let end = write_operand(line, end, &layout.first, first);
     write_word(line, end, &layout.opcode)
 }
 
-/// The first number of an operation.
+/// The numbers of an operation, from left to right.
 #[inline(always)]
-fn first(op: Op) -> Option<u32>
-    ensures { result ≡ slice_get (numbers op) 0 }
+fn numbers(op: &Op) -> [Option<u32>; 3]
+    ensures { result ≡ slice_get (numbers op.now) 0 ∷ slice_get (numbers op.now) 1 ∷ slice_get (numbers op.now) 2 ∷ [] }
 {
-    match op {
-        Op::LoadI { value: n, .. } | Op::Output { addr: n } => Some(n),
-        Op::Load { addr: r, .. }
-        | Op::LoadAI { addr: r, .. }
-        | Op::Store { value: r, .. }
-        | Op::StoreAI { value: r, .. }
-        | Op::Add { left: r, .. }
-        | Op::Sub { left: r, .. }
-        | Op::Mult { left: r, .. }
-        | Op::Lshift { left: r, .. }
-        | Op::Rshift { left: r, .. }
-        | Op::AddI { left: r, .. }
-        | Op::SubI { left: r, .. }
-        | Op::MultI { left: r, .. }
-        | Op::LshiftI { left: r, .. }
-        | Op::RshiftI { left: r, .. } => Some(r.0),
-        Op::Nop => None,
-    }
-}
-
-/// The second number of an operation.
-#[inline(always)]
-fn second(op: Op) -> Option<u32>
-    ensures { result ≡ slice_get (numbers op) 1 }
-{
-    match op {
-        Op::Load { dest: r, .. }
-        | Op::LoadI { dest: r, .. }
-        | Op::Store { addr: r, .. }
-        | Op::StoreAI { addr: r, .. }
-        | Op::Add { right: r, .. }
-        | Op::Sub { right: r, .. }
-        | Op::Mult { right: r, .. }
-        | Op::Lshift { right: r, .. }
-        | Op::Rshift { right: r, .. } => Some(r.0),
-        Op::AddI { value: n, .. }
-        | Op::SubI { value: n, .. }
-        | Op::MultI { value: n, .. }
-        | Op::LshiftI { value: n, .. }
-        | Op::RshiftI { value: n, .. }
-        | Op::LoadAI { offset: n, .. } => Some(n),
-        Op::Output { .. } | Op::Nop => None,
-    }
-}
-
-/// The third number of an operation.
-#[inline(always)]
-fn third(op: Op) -> Option<u32>
-    ensures { result ≡ slice_get (numbers op) 2 }
-{
-    match op {
-        Op::Add { dest: r, .. }
-        | Op::Sub { dest: r, .. }
-        | Op::Mult { dest: r, .. }
-        | Op::Lshift { dest: r, .. }
-        | Op::Rshift { dest: r, .. }
-        | Op::AddI { dest: r, .. }
-        | Op::SubI { dest: r, .. }
-        | Op::MultI { dest: r, .. }
-        | Op::LshiftI { dest: r, .. }
-        | Op::RshiftI { dest: r, .. }
-        | Op::LoadAI { dest: r, .. } => Some(r.0),
-        Op::StoreAI { offset: n, .. } => Some(n),
-        Op::Load { .. } | Op::LoadI { .. } | Op::Store { .. } | Op::Output { .. } | Op::Nop => None,
+    match form_of(op).1 {
+        Operands::Nothing => [None, None, None],
+        Operands::Constant(value) => [Some(value), None, None],
+        Operands::Immediate(value, dest) => [Some(value), Some(dest.0), None],
+        Operands::Copied(source, dest) => [Some(source.0), Some(dest.0), None],
+        Operands::Stored(value, addr) => [Some(value.0), Some(addr.0), None],
+        Operands::Sources(left, right, dest) => [Some(left.0), Some(right.0), Some(dest.0)],
+        Operands::WithConstant(left, value, dest) => [Some(left.0), Some(value), Some(dest.0)],
+        Operands::StoredAt(value, addr, offset) => [Some(value.0), Some(addr.0), Some(offset)],
     }
 }
 
