@@ -98,7 +98,7 @@ set_in_others table old new r value beyond set stay = record {
 }
 
 -- zeros behind a table change no value
-get_or-padded : (table : List ℤ) (count n : ℕ)
+pub get_or-padded : (table : List ℤ) (count n : ℕ)
     → get_or (table ++ replicate count (pos 0)) n (pos 0) ≡ get_or table n (pos 0)
 get_or-padded [] zero n = refl
 get_or-padded [] (suc count) zero = refl
