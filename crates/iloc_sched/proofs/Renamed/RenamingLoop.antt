@@ -1,12 +1,16 @@
 -- The loop that renames: a use, a definition, an operation, the block; for `rename` (`renamed`, `size`).
-use Rattle.std.proofs.Common.{◌≡◌, ℕ, zero, suc, ◌+◌, ◌<◌, ◌≤◌, true, false, if◌then◌else◌, List, [], ◌∷◌, ◌++◌, length, map, take, get_or, not, cond, Option, Some, None, option_map, refl, sym, ap, ◌∙◌, arith, inl, inr, append-nil}
+use Rattle.std.proofs.Common.{◌≡◌, ℕ, zero, suc, ◌+◌, ◌<◌, ◌≤◌, true, false, if◌then◌else◌, List, [], ◌∷◌, ◌++◌, length, map, take, get_or, slice_get, not, cond, Option, Some, None, option_map, refl, sym, ap, ◌∙◌, arith, inl, inr, append-nil}
 use Rattle.std.proofs.lemmas.List.{map-append, take_all}
-use Rattle.std.specs.List.{list_any, range_with_len}
+use Rattle.std.specs.List.{list_any, range_with_len, filter_map}
 use Rattle.std.proofs.lemmas.List.Elements.{filter_more, filter-append}
 use Rattle.std.proofs.lemmas.List.FromFn.{map-range_with_len_more}
 use Rattle.iloc_ops.specs.declared.op.Reg.{Reg}
 use Rattle.iloc_ops.specs.declared.op.Op.{Op}
-use Rattle.iloc_ops.specs.Registers.{used, defined, with_registers}
+use Rattle.iloc_ops.specs.declared.forms.Opcode.{Opcode}
+use Rattle.iloc_ops.specs.declared.forms.Operands.{Operands}
+use Rattle.iloc_ops.specs.Forms.{opcode, operands, op_of}
+use Rattle.iloc_ops.specs.Operands.{operands_in}
+use Rattle.iloc_ops.specs.Registers.{used, defined, used_in, defined_in, renumbered, with_registers}
 use Rattle.iloc_ops.proofs.Renaming.{with_registers-same}
 use Rattle.iloc_meaning.specs.Trace.{op_at, is_register}
 use Rattle.iloc_meaning.proofs.Cases.{by_bool}
@@ -204,15 +208,24 @@ nothing_named own given current = λ done op uses defines named.
     next_without done op [] own given current (rw uses (uses_begin done given current named)) defines
 
 -- an operation with the new registers in their places is the next one renamed
-pub placed_renamed : (op shape op' : Op) (news : List Reg) (own : Reg) (given given' : ℕ) (current current' : Reg
-    → Option ℕ) → op ≡ shape → NamesAll (used shape) (defined shape) news own given current given' current'
-    → ((new : Reg → Reg) → news ≡ map new (used shape) → op' ≡ with_registers new own shape) → (done : List Op)
+pub form_renamed : (op op' : Op) (o : Opcode) (written shape : Operands) (numbers : List ℕ) (news : List Reg) (own : Reg)
+    (given given' : ℕ) (current current' : Reg → Option ℕ) → o ≡ opcode op → operands_in written ≡ operands op
+    → written ≡ shape → op' ≡ op_of o numbers
+    → NamesAll (filter_map (λ w. used_in w.value) (operands_in shape))
+    (slice_get (filter_map (λ w. defined_in w.value) (operands_in shape)) 0) news own given current given' current'
+    → ((new : Reg → Reg) → news ≡ map new (filter_map (λ w. used_in w.value) (operands_in shape))
+    → numbers ≡ map (λ w. renumbered new own w.value) (operands_in shape)) → (done : List Op)
     → Named done given current → Named (done ++ op ∷ []) given' current' × (op' ≡ next_renamed done op)
-placed_renamed op shape op' news own given given' current current' is names placed done named =
-    let next = names done op (ap used is) (ap defined is) named in (
+form_renamed op op' o written shape numbers news own given given' current current' same has of_shape is names placed done named =
+    let of : operands op ≡ operands_in shape = sym has ∙ ap operands_in of_shape in
+    let next = names done op (ap (filter_map (λ w. used_in w.value)) of)
+    (ap (λ ws. slice_get (filter_map (λ w. defined_in w.value) ws) 0) of) named in (
       next.named,
-      placed next.new (next.names ∙ ap (λ o. map next.new (used o)) is)
-          ∙ ap (with_registers next.new own) (sym is) ∙ next.renamed,
+      is ∙ ap (λ q. op_of q numbers) same
+          ∙ ap (op_of (opcode op)) (placed next.new (next.names
+          ∙ ap (λ ws. map next.new (filter_map (λ w. used_in w.value) ws)) of)
+          ∙ ap (map (λ w. renumbered next.new own w.value)) (sym of))
+          ∙ next.renamed,
     )
 
 name_more : (done : List Op) (op : Op) (s : Source) → Stands (numbering done) s

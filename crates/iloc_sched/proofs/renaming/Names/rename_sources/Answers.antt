@@ -1,6 +1,0 @@
-use Rattle.iloc_sched.proofs.Renamed.RenamingLoop.{sources_named}
-use Rattle.iloc_sched.proofs.renaming.Names.rename_sources.Goals as goal
-
-pub returns-clause-names : goal.returns-clause-names
-returns-clause-names c = sources_named _ _ _ _ _ _ _ _ _ _ _ _ _ _ c.in_ok-rename_use.ensures.name
-    c.in_ok-rename_use-2.ensures.name c.in_ok-rename_definition.ensures

@@ -1,6 +1,0 @@
-use Rattle.iloc_sched.proofs.Renamed.RenamingLoop.{stored_named}
-use Rattle.iloc_sched.proofs.renaming.Names.rename_stored.Goals as goal
-
-pub returns-clause-names : goal.returns-clause-names
-returns-clause-names c = λ own.
-    stored_named _ _ _ _ own _ _ _ _ _ _ c.in_ok-rename_use.ensures.name c.in_ok-rename_use-2.ensures.name
