@@ -17,7 +17,7 @@ use Rattle.iloc_sched.specs.Laws.{LeastBoundsTheCycles, BoundsProveTheOptimum}
 use Rattle.iloc_sched.proofs.Basics.Members.{from_map, from_filter, from_range}
 use Rattle.iloc_sched.proofs.Basics.Maxima.{fold_max_reached}
 use Rattle.iloc_sched.proofs.PriorityValues.Starts.{start_least}
-use Rattle.iloc_sched.proofs.Bounds.PriorityBound.{ends_within}
+use Rattle.iloc_timed.proofs.Arrivals.{arrival_le_cycles}
 use Rattle.iloc_sched.proofs.Bounds.Counting.{at_least}
 use Rattle.iloc_sched.proofs.Bounds.RowsHold.{Holds, is_kind, holds_memory, holds_products, holds_outputs, holds_all, holds_loads}
 use Rattle.iloc_sched.proofs.Bounds.TailBound.{Fits, key, crowd_of, tail_within}
@@ -34,7 +34,7 @@ needed_bound test width lat block ops rows lawful holds some =
     let limit : ℕ = cycles lat ops rows in
     let range : List ℕ = range_with_len 0 (length ops) in
     let fits : Fits lat ops limit t = record {
-      ends = ends_within lat ops rows;
+      ends = arrival_le_cycles lat ops rows;
       waits = lawful.waits;
       crowd = crowd_of is_load 1 ops rows lawful.table (holds_loads ops);
     } in

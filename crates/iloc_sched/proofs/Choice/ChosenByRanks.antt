@@ -1,15 +1,14 @@
 -- The choice of a cycle by ranks is the choice of the definition; for `Waiting::step`.
-use Rattle.std.proofs.Common.{◌≡◌, ◌<◌, ◌≤◌, ◌≢◌, ℕ, ◌+◌, ◌==◌, ◌&&◌, ◌||◌, not, Bool, true, false, if◌then◌else◌, List, length, Option, Some, None, refl, sym, ◌∙◌, ap, subst, arith}
+use Rattle.std.proofs.Common.{◌≡◌, ◌<◌, ◌≤◌, ◌≢◌, ℕ, ◌+◌, ◌==◌, ◌&&◌, not, Bool, true, false, List, length, Option, Some, None, sym, ◌∙◌, ap, subst, arith}
 use Rattle.std.proofs.lemmas.Bool.Decides.{nat_tests}
 use Rattle.std.specs.Prelude.{filter}
 use Rattle.iloc_meaning.specs.Trace.{op_at}
 use Rattle.iloc_timed.specs.declared.kind.Kind.{Kind}
 use Rattle.iloc_timed.specs.declared.kind.Kind.TheVariants as K
 use Rattle.iloc_timed.specs.declared.row.Row.{Row}
-use Rattle.iloc_timed.specs.Kinds.{kind, is_mult, is_memory}
-use Rattle.iloc_timed.specs.Units.{needs_one}
+use Rattle.iloc_timed.specs.Kinds.{kind, is_memory}
 use Rattle.iloc_timed.specs.Rows.{is_some_kind, kind_in}
-use Rattle.iloc_sched.specs.Greedy.{ready, first_of_all, may_stand_beside, on_units, chosen_with, chosen}
+use Rattle.iloc_sched.specs.Greedy.{ready, first_of_all, may_stand_beside, chosen}
 use Rattle.iloc_sched.specs.declared.cycle.Choice.{Choice}
 use Rattle.iloc_sched.specs.declared.cycle.class.Class.{Class}
 use Rattle.iloc_sched.specs.declared.cycle.class.Class.TheVariants as C
@@ -24,60 +23,29 @@ use Rattle.iloc_sched.specs.Steps.Views.{graph_of, progress_of}
 use Rattle.iloc_sched.specs.Steps.Cycle.SoFar.{class_at, rank_of, IsPlan, IsUnderWay, IsOpen, IsBest, Issues, number_of, needs_zero_choice, row_with}
 use Rattle.iloc_sched.proofs.Basics.Members.{in_filter, from_filter}
 use Rattle.iloc_sched.proofs.Basics.Ordered.{ordered_filter}
-use Rattle.iloc_sched.proofs.Choice.Ready.{IsReady, ready_means, ready_rises}
+use Rattle.iloc_sched.proofs.Choice.Ready.{ready_means, ready_rises}
 use Rattle.iloc_sched.proofs.Choice.FirstOfAll.{first_is, first_none}
-use Rattle.iloc_meaning.proofs.Cases.{by_bool}
-use Rattle.iloc_sched.proofs.Basics.Cases.{not_both}
 use Rattle.iloc_sched.proofs.Choice.IssuableIsReady.{ready_when, when_ready}
 use Rattle.iloc_sched.proofs.Choice.IssuedChoice.{issued_at}
 
 beside_by_class : (a b : Kind) → may_stand_beside a b ≡ not (excludes (class_of a) (class_of b))
-beside_by_class K.Load K.Load = refl
-beside_by_class K.Load K.Store = refl
-beside_by_class K.Load K.Mult = refl
-beside_by_class K.Load K.Output = refl
-beside_by_class K.Load K.Other = refl
-beside_by_class K.Store K.Load = refl
-beside_by_class K.Store K.Store = refl
-beside_by_class K.Store K.Mult = refl
-beside_by_class K.Store K.Output = refl
-beside_by_class K.Store K.Other = refl
-beside_by_class K.Mult K.Load = refl
-beside_by_class K.Mult K.Store = refl
-beside_by_class K.Mult K.Mult = refl
-beside_by_class K.Mult K.Output = refl
-beside_by_class K.Mult K.Other = refl
-beside_by_class K.Output K.Load = refl
-beside_by_class K.Output K.Store = refl
-beside_by_class K.Output K.Mult = refl
-beside_by_class K.Output K.Output = refl
-beside_by_class K.Output K.Other = refl
-beside_by_class K.Other K.Load = refl
-beside_by_class K.Other K.Store = refl
-beside_by_class K.Other K.Mult = refl
-beside_by_class K.Other K.Output = refl
-beside_by_class K.Other K.Other = refl
+beside_by_class a b = grind arith
 
 -- what keeps none out of a row that is empty
 open_alone : (b : Bool) → not b ≡ true → b ≡ false
-open_alone true is = cc
-open_alone false is = refl
+open_alone b is = grind arith
 
 apart_numbers : (a b : ℕ) → a ≢ b → not (a == b) ≡ true
-apart_numbers a b apart = by_bool (a == b) (λ t. let same : a ≡ b = grind (arith, nat_tests) in absurd (apart same))
-    (λ f. rw f refl)
+apart_numbers a b apart = grind (arith, nat_tests)
 
 both_true : (a b : Bool) → a ≡ true → b ≡ true → (a && b) ≡ true
-both_true true b first second = second
-both_true false b first second = cc
+both_true a b first second = grind arith
 
 from_both : (a b : Bool) → (a && b) ≡ true → (a ≡ true) × (b ≡ true)
-from_both true b both = (refl, both)
-from_both false b both = cc
+from_both a b both = grind arith
 
 not_equal : (b : Bool) → b ≡ true → not b ≡ true → ⊥
-not_equal true is other = cc
-not_equal false is other = cc
+not_equal b is other = grind arith
 
 abbrev row_one : Choice → Option Choice → Row
 row_one a b = record { zero = number_of b; one = Some a.number }
@@ -86,18 +54,12 @@ abbrev row_zero : Choice → Option Choice → Row
 row_zero a b = record { zero = Some a.number; one = number_of b }
 
 none_excluded : (k : Class) → excludes C.Rest k ≡ false
-none_excluded C.Memory = refl
-none_excluded C.Product = refl
-none_excluded C.Output = refl
-none_excluded C.Rest = refl
+none_excluded k = grind arith
 
 -- what is offered beside a class is ready and not excluded by it
 module _ (p : Plan) (w : Waiting) (f : ℕ) (under : IsUnderWay p w f) (k : Class) (j : ℕ) (there : j < length p.tables.now.ops.items) where
   pub opens : has w.calendar 32 (rank_of p j) ≡ true → excludes k (class_at p.tables.now.ops.items j) ≡ false → IsOpen p w k j
-  opens held free = (
-    there,
-    both_true _ _ held (ap not (under.calendar.kept.each k j there ∙ free)),
-  )
+  opens held free = grind (arith, both_true)
 
   pub open_ready : IsOpen p w k j → has w.calendar 32 (rank_of p j) ≡ true
   open_ready is = (from_both _ _ is.1).0
@@ -113,10 +75,7 @@ module _ (p : Plan) (w : Waiting) (rows : List Row) (plan : IsPlan p)
   all_ready = ready p.tables.now.latencies p.tables.now.ops.items rows (length rows)
 
   ready_there : (j : ℕ) → In all_ready j → j < length p.tables.now.ops.items
-  ready_there j held =
-      let means : IsReady p.tables.now.latencies p.tables.now.ops.items rows (length rows) j =
-      ready_means p.tables.now.latencies p.tables.now.ops.items rows (length rows) j held in
-      means.within
+  ready_there j held = grind (arith, ready_means)
 
   -- who is ready has its rank in the set
   ready_queued : (j : ℕ) → In all_ready j → has w.calendar 32 (rank_of p j) ≡ true
@@ -157,30 +116,16 @@ module _ (p : Plan) (w : Waiting) (rows : List Row) (plan : IsPlan p)
 
     open_beside : (j : ℕ) → may_stand_beside (kind (op_at p.tables.now.ops.items a.number))
         (kind (op_at p.tables.now.ops.items j)) ≡ not (excludes (class_of a.kind) (class_at p.tables.now.ops.items j))
-    open_beside j = beside_by_class (kind (op_at p.tables.now.ops.items a.number)) (kind (op_at p.tables.now.ops.items j))
-        ∙ ap (λ k. not (excludes (class_of k) (class_at p.tables.now.ops.items j))) kind_a
+    open_beside j = grind (arith, beside_by_class, kind_a)
 
     -- a isn't ready any more
     not_a : (j : ℕ) → IsOpen p w1 (class_of a.kind) j → a.number ≢ j
-    not_a j is same =
-        let held : has w1.calendar 32 (rank_of p j) ≡ true = open_ready p w1 (length rows + 1) issues.under_way (class_of a.kind) j is.0 is in
-        let none = (issues.under_way.queued.only j (subst (λ n. j < n) (sym plan.graph.size) is.0) held).waiting in
-        not_both ((progress_of p.ranks.now w1).issued j) (length rows) none
-        (ap (progress_of p.ranks.now w1).issued (sym same) ∙ issued_at _ _ a.number (length rows) issues.issued issues.there)
+    not_a j is same = grind (arith, issued_at, open_ready)
 
     -- who is ready and can go beside a is open in what is left
     left_open : (j : ℕ) → In (filter beside all_ready) j → IsOpen p w1 (class_of a.kind) j
     left_open j held =
-        let found : In all_ready j × (beside j ≡ true) = from_filter beside all_ready j held in
-        let tests : (not (a.number == j) ≡ true)
-        × (may_stand_beside (kind (op_at p.tables.now.ops.items a.number)) (kind (op_at p.tables.now.ops.items j)) ≡ true) =
-        from_both _ _ found.1 in
-        let other : not (a.number == j) ≡ true = tests.0 in
-        let there = ready_there j found.0 in
-        opens p w1 (length rows + 1) issues.under_way (class_of a.kind) j there
-        (issues.ready j there (λ same. let equal : (a.number == j) ≡ true = grind (arith, nat_tests) in not_equal (a.number == j) equal other)
-        ∙ ready_queued j found.0)
-        (open_alone (excludes (class_of a.kind) (class_at p.tables.now.ops.items j)) (sym (open_beside j) ∙ tests.1))
+        grind (arith, from_both, from_filter, nat_tests, not_equal, open_alone, open_beside, opens, ready_queued, ready_there)
 
     -- who is open in it is ready and can go beside a
     open_left : (j : ℕ) → IsOpen p w1 (class_of a.kind) j → In (filter beside all_ready) j
@@ -204,17 +149,8 @@ module _ (p : Plan) (w : Waiting) (rows : List Row) (plan : IsPlan p)
 
     zero_beside : (b : Option Choice) → IsBest p w1 (class_of a.kind) b
         → is_some_kind is_memory (kind_in p.tables.now.ops.items (number_of b)) ≡ needs_zero_choice b
-    zero_beside None none = refl
-    zero_beside (Some b) best = ap is_memory best.1
+    zero_beside b none = grind arith
 
     pub chosen_row : (b : Option Choice) → IsBest p w1 (class_of a.kind) b
         → row_with a b ≡ chosen p.tables.now.ops.items p.priorities.now all_ready
-    chosen_row b second =
-        let row : on_units p.tables.now.ops.items a.number (number_of b) ≡ row_with a b =
-        ap (λ k. if is_mult k || is_some_kind is_memory (kind_in p.tables.now.ops.items (number_of b)) then row_one a b else row_zero a b)
-        kind_a
-        ∙ ap (λ t. if needs_one a.kind || t then row_one a b else row_zero a b) (zero_beside b second) in
-        sym
-        (ap (chosen_with p.tables.now.ops.items p.priorities.now all_ready) (chosen_first a best_a)
-        ∙ ap (on_units p.tables.now.ops.items a.number) (chosen_second b second)
-        ∙ row)
+    chosen_row b second = grind (arith, chosen_first, chosen_second, kind_a, zero_beside)

@@ -1,6 +1,6 @@
 -- What is ready is just what can be issued, as more becomes ready and as a choice is issued; for `Waiting::release`,
 -- `issue_first`.
-use Rattle.std.proofs.Common.{◌≡◌, ◌≢◌, ℕ, ◌+◌, ◌%◌, ◌<◌, Bool, true, List, get_or, Some, None, inl, inr, sym, ◌∙◌, subst}
+use Rattle.std.proofs.Common.{arith, ◌≡◌, ◌≢◌, ℕ, ◌+◌, ◌%◌, ◌<◌, Bool, true, List, get_or, Some, None}
 use Rattle.std.proofs.lemmas.Bool.{or_cases}
 use Rattle.iloc_sched.specs.declared.cycle.calendar.Calendar.{Calendar}
 use Rattle.iloc_sched.specs.Steps.Cycle.Calendar.{has, Releases}
@@ -25,22 +25,8 @@ pub queued_with_due : (ranks : List ℕ) (graph : Graph) (w : Progress) (c : ℕ
     → ((j : ℕ) → w.bucket (c % 32) j ≡ has k (c % 32) (get_or ranks j 0))
     → Waits graph w c 0 None → IsQueued ranks graph w c k → Releases k k' (c % 32)
     → IsQueued ranks graph (record w { bucket = bucket' }) (c + 1) k'
-queued_with_due ranks graph w c k k' bucket' is at waits queued released = record {
-  ready = λ j can.
-      let r = get_or ranks j 0 in
-      released.union r ∙ true_or (has k 32 r) (has k (c % 32) r)
-      (elim (then_due graph w c waits j (back_can graph w (c + 1) j bucket' can)) [
-        | inl before ↦ inl (queued.ready j before)
-        | inr due ↦ inr (sym (at j) ∙ due)
-      ]);
-  only = λ j there held.
-      let r = get_or ranks j 0 in
-      still_can graph w (c + 1) j bucket'
-      (elim (or_cases (has k 32 r) (has k (c % 32) r) (sym (released.union r) ∙ held)) [
-        | inl old ↦ later_still graph w c j (queued.only j there old)
-        | inr due ↦ due_now graph w c is waits j there (at j ∙ due)
-      ]);
-}
+queued_with_due ranks graph w c k k' bucket' is at waits queued released =
+    grind (arith, back_can, due_now, later_still, or_cases, still_can, then_due, true_or)
 
 -- once operation n was taken and issued
 pub queued_after : (ranks : List ℕ) (graph : Graph) (w w' : Progress) (c n : ℕ) (k k' : Calendar) → IsGraph graph
@@ -49,11 +35,5 @@ pub queued_after : (ranks : List ℕ) (graph : Graph) (w w' : Progress) (c n : �
     → (has k' 32 (get_or ranks n 0) ≡ true → ⊥)
     → ((j : ℕ) → j < graph.ops → j ≢ n → has k' 32 (get_or ranks j 0) ≡ has k 32 (get_or ranks j 0))
     → IsQueued ranks graph w (c + 1) k → IsQueued ranks graph w' (c + 1) k'
-queued_after ranks graph w w' c n k k' is waits waits' at others keeps gone kept queued = record {
-  ready = λ j can.
-      let before : (j ≢ n) × CanIssue graph w (c + 1) j = can_issue_back graph w w' c n is waits waits' at others keeps j can in
-      kept j can.there before.0 ∙ queued.ready j before.1;
-  only = λ j there held.
-      let apart : j ≢ n = λ same. gone (subst (λ i. has k' 32 (get_or ranks i 0) ≡ true) same held) in
-      can_issue_still graph w w' c n is waits waits' at others keeps j apart (queued.only j there (sym (kept j there apart) ∙ held));
-}
+queued_after ranks graph w w' c n k k' is waits waits' at others keeps gone kept queued =
+    grind (arith, can_issue_back, can_issue_still)

@@ -1,9 +1,7 @@
 -- The first of all candidates goes before each of them; for `schedule` (`greedy`).
 use Rattle.std.proofs.Common.{◌≡◌, ℕ, ◌<◌, ◌≤◌, List, [], ◌∷◌, Option, Some, None, ◌⊎◌, inl, inr, refl, ap, sym, ◌∙◌, subst, arith}
-use Rattle.std.specs.Prelude.{nat_lt, slice_index}
-use Rattle.std.proofs.lemmas.Bool.{ltb-true, ltb-false, cases_eq}
+use Rattle.std.proofs.lemmas.Bool.{ltb-true, ltb-false}
 use Rattle.std.proofs.lemmas.Option.{none-some, same_Some}
-use Rattle.iloc_meaning.proofs.Cases.{by_bool}
 use Rattle.iloc_sched.specs.Greedy.{better, first_of_all}
 use Rattle.iloc_sched.specs.Steps.Cycle.Choosing.{GoesBefore}
 use Rattle.iloc_sched.specs.Steps.Members.{In}
@@ -11,56 +9,27 @@ use Rattle.iloc_sched.proofs.Basics.Members.{empty_from}
 use Rattle.iloc_sched.proofs.Basics.Rising.{Rises}
 
 better_of : (prios : List ℕ) (i : ℕ) (o : Option ℕ) → (better prios i o ≡ i) ⊎ (o ≡ Some (better prios i o))
-better_of prios i None = inl refl
-better_of prios i (Some j) = by_bool (nat_lt (slice_index prios i) (slice_index prios j)) (λ t. rw t (inr refl))
-    (λ t. rw t (inl refl))
+better_of prios i o = grind arith
 
 pub first_in : (prios xs : List ℕ) (k : ℕ) → first_of_all prios xs ≡ Some k → In xs k
 first_in prios [] k is = absurd (none-some k is)
-first_in prios (i ∷ is) k same =
-    let found : better prios i (first_of_all prios is) ≡ k = same_Some _ k same in
-    elim (better_of prios i (first_of_all prios is)) [
-      | inl here ↦ inl (sym here ∙ found)
-      | inr rest ↦ inr (first_in prios is k (rest ∙ ap Some found))
-    ]
+first_in prios (i ∷ is) k same = grind (arith, better_of, same_Some, first_in prios is k)
 
 pub goes_before_self : (prios : List ℕ) (i : ℕ) → GoesBefore prios i i
 goes_before_self prios i = inr (refl, omega arith)
 
 pub goes_before_trans : (prios : List ℕ) (i j k : ℕ) → GoesBefore prios i j → GoesBefore prios j k
     → GoesBefore prios i k
-goes_before_trans prios i j k (inl high) (inl higher) = inl (omega arith)
-goes_before_trans prios i j k (inl high) (inr level) =
-    inl (let same : slice_index prios j ≡ slice_index prios k = level.0 in omega arith)
-goes_before_trans prios i j k (inr level) (inl high) =
-    inl (let same : slice_index prios i ≡ slice_index prios j = level.0 in omega arith)
-goes_before_trans prios i j k (inr level) (inr other) =
-    inr (level.0 ∙ other.0, let one : i ≤ j = level.1 in let two : j ≤ k = other.1 in omega arith)
+goes_before_trans prios i j k held x5 = grind arith
 
 -- two that go before each other are one
 pub goes_before_both : (prios : List ℕ) (i j : ℕ) → GoesBefore prios i j → GoesBefore prios j i → i ≡ j
-goes_before_both prios i j (inl high) (inl higher) = absurd (omega arith)
-goes_before_both prios i j (inl high) (inr level) =
-    absurd (let same : slice_index prios j ≡ slice_index prios i = level.0 in omega arith)
-goes_before_both prios i j (inr level) (inl high) =
-    absurd (let same : slice_index prios i ≡ slice_index prios j = level.0 in omega arith)
-goes_before_both prios i j (inr level) (inr other) = let one : i ≤ j = level.1 in let two : j ≤ i = other.1 in
-    omega arith
+goes_before_both prios i j held x4 = grind arith
 
 -- of a lower number and a higher one, the lower goes before unless the higher has the higher priority
 better_before : (prios : List ℕ) (i m : ℕ) → i ≤ m → GoesBefore prios (better prios i (Some m)) i
     × GoesBefore prios (better prios i (Some m)) m
-better_before prios i m low =
-    by_bool (nat_lt (slice_index prios i) (slice_index prios m))
-    (λ t. rw t (inl (ltb-true (slice_index prios i) (slice_index prios m) t), goes_before_self prios m))
-    (λ t. rw t (goes_before_self prios i, not_higher (ltb-false (slice_index prios i) (slice_index prios m) t)))
-  where
-    not_higher : slice_index prios m ≤ slice_index prios i → GoesBefore prios i m
-    not_higher above = elim (cases_eq (slice_index prios i) (slice_index prios m)) [
-      | inl same ↦
-          inr (same, low)
-      | inr apart ↦ inl (omega arith)
-    ]
+better_before prios i m low = grind (arith, goes_before_self, ltb-false, ltb-true)
 
 first_from : (prios : List ℕ) (i : ℕ) (is : List ℕ) (o : Option ℕ) → ((y : ℕ) → In is y → i < y)
     → first_of_all prios is ≡ o
@@ -80,10 +49,7 @@ first_from prios i is (Some m) low found rest j there =
 pub first_goes_before : (prios xs : List ℕ) (k j : ℕ) → Rises xs → first_of_all prios xs ≡ Some k → In xs j
     → GoesBefore prios k j
 first_goes_before prios [] k j rises is there = absurd there
-first_goes_before prios (i ∷ is) k j rises same there =
-    subst (λ n. GoesBefore prios n j) (same_Some _ k same)
-    (first_from prios i is (first_of_all prios is) rises.0 refl
-    (λ m l found inside. first_goes_before prios is m l rises.1 found inside) j there)
+first_goes_before prios (i ∷ is) k j rises same there = grind (arith, first_from, same_Some, first_goes_before prios is)
 
 pub first_some : (prios xs : List ℕ) (j : ℕ) → In xs j → (k : ℕ) × (first_of_all prios xs ≡ Some k)
 first_some prios [] j there = absurd there

@@ -54,14 +54,7 @@ module _ (prios : List ℕ) (lat : Latencies) (ops : List Op) where
   one_more : (rows : List Row) → IsBegun prios lat ops rows → WaitsAt ops rows (length rows)
       → IsBegun prios lat ops (rows ++ next_row rows ∷ [])
   unfolding next_row
-  one_more rows begun waits = record {
-    so_far = chosen_more prios lat ops rows (next_row rows) begun.so_far refl;
-    last = λ c is.
-        let longer : length (rows ++ next_row rows ∷ []) ≡ length rows + 1 = length_push rows (next_row rows) in
-        let back : issue_cycle (rows ++ next_row rows ∷ []) waits.by ≡ length rows + issue_cycle (next_row rows ∷ [])
-        waits.by = issue_cycle_back rows (next_row rows ∷ []) waits.by waits.waiting in
-        record { by = waits.by; within = waits.within; waiting = subst (λ n. c ≤ n) (sym back) (omega arith) };
-  }
+  one_more rows begun waits = grind (arith, chosen_more, issue_cycle_back, length_push, next_row)
 
   to_the_end : (fuel : ℕ) (rows : List Row) → IsBegun prios lat ops rows → sum_by (latency lat) ops < length rows + fuel
       → (all : List Row) × IsBegun prios lat ops all × AllIssued ops all

@@ -14,7 +14,6 @@ use Rattle.iloc_sched.specs.Steps.Cycle.Classes.{place_of}
 use Rattle.iloc_sched.specs.Steps.Cycle.Progress.{Waits, CanIssue, KeepsPlaces}
 use Rattle.iloc_sched.specs.Steps.Views.{graph_of, issued_list, progress_of, bucket_of, IsSized}
 use Rattle.iloc_sched.specs.Steps.Cycle.SoFar.{rank_of, IsRanked, IsPlan, IsCalendar, IsUnderWay, IsBest, Issues}
-use Rattle.iloc_sched.proofs.Basics.Cases.{by_lt}
 use Rattle.iloc_sched.proofs.Choice.EnteringReady.{queued_with_due, queued_after}
 use Rattle.iloc_sched.proofs.Ranks.Calendars.{ranks_apart, same_has, same_room, room_kept, calendar_put, calendar_released}
 use Rattle.iloc_sched.proofs.Walking.TableReads.{issued_size}
@@ -78,28 +77,14 @@ module _ (p : Plan) (w : Waiting) (f : ℕ) (beside : Class) (plan : IsPlan p) (
     who = under.calendar.ranked 32 r (omega arith) is_ready
 
     pub rank_there : r < length p.order.now
-    rank_there =
-        let size = plan.ranked.places in
-        let count = plan.priorities in
-        let below : who.0 < length p.tables.now.ops.items = who.1 in
-        let within = plan.ranked.within who.0 (omega arith) in
-        let is : rank_of p who.0 ≡ r = who.2 in
-        omega arith
+    rank_there = grind arith
 
     pub rank_below : r < length p.tables.now.ops.items
-    rank_below =
-        let count = plan.priorities in
-        let below : who.0 < length p.tables.now.ops.items = who.1 in
-        let within = plan.ranked.within who.0 (omega arith) in
-        let is : rank_of p who.0 ≡ r = who.2 in
-        omega arith
+    rank_below = grind arith
 
     module _ (n : ℕ) (read : n ≡ get_or p.order.now r 0) where
       n_is : n ≡ who.0
-      n_is =
-          let count = plan.priorities in
-          let below : who.0 < length p.tables.now.ops.items = who.1 in
-          read ∙ ap (λ s. get_or p.order.now s 0) (sym who.2) ∙ plan.ranked.operation_of who.0 (omega arith)
+      n_is = grind arith
 
       pub number_there : n < length p.tables.now.ops.items
       number_there = subst (λ m. m < length p.tables.now.ops.items) (sym n_is) who.1
@@ -112,13 +97,7 @@ module _ (p : Plan) (w : Waiting) (f : ℕ) (beside : Class) (plan : IsPlan p) (
 
       pub is_best : ((s : ℕ) → s < r → offers w.calendar beside s ≡ false) → (k : Kind) → k ≡ kind (op_at p.tables.now.ops.items n)
           → IsBest p w beside (Some (record { number = n; kind = k }))
-      is_best none k read = (
-        (number_there, ap (offers w.calendar beside) rank_is ∙ offered),
-        sym read,
-        λ j is. by_lt (rank_of p j) (rank_of p n)
-            (λ before. absurd (false≢true (sym (none (rank_of p j) (subst (λ s. rank_of p j < s) rank_is before)) ∙ is.1)))
-            (λ after. after),
-      )
+      is_best none k read = grind (arith, false≢true, number_there, rank_is)
 
 -- operation n is taken out of what is ready
 module _ (p : Plan) (w : Waiting) (k : Calendar) (c n : ℕ) (plan : IsPlan p) (under : IsUnderWay p w (c + 1))
@@ -135,8 +114,7 @@ module _ (p : Plan) (w : Waiting) (k : Calendar) (c n : ℕ) (plan : IsPlan p) (
   taken_can = record { there = can.there; waiting = can.waiting; past_all = can.past_all; soon = can.soon }
 
   pub taken_waits : Waits (graph_of p.tables.now.edges) (progress_of p.ranks.now left) (c + 1) 0 None
-  taken_waits = same_buckets (graph_of p.tables.now.edges) (progress_of p.ranks.now w) (c + 1) 0 None (bucket_of p.ranks.now k) under.waits
-      (λ b j small. takes.others b (rank_of p j) (omega arith) (λ same _. absurd (omega arith)))
+  taken_waits = grind (arith, same_buckets)
 
 -- operation n is taken out of what is ready, and issued at cycle c
 module _ (p : Plan) (w w' : Waiting) (k : Calendar) (c n : ℕ) (plan : IsPlan p) (under : IsUnderWay p w (c + 1))
@@ -148,8 +126,7 @@ module _ (p : Plan) (w w' : Waiting) (k : Calendar) (c n : ℕ) (plan : IsPlan p
 
   ready_others : (j : ℕ) → j < length p.tables.now.ops.items → j ≢ n
       → has w'.calendar 32 (rank_of p j) ≡ has w.calendar 32 (rank_of p j)
-  ready_others j j_there apart = kept (rank_of p j)
-      ∙ takes.others 32 (rank_of p j) (omega arith) (λ _ same. apart (ranks_apart p plan j n j_there there same))
+  ready_others j j_there apart = grind (arith, ranks_apart, there)
 
   pub issues_choice : (k : Kind) → Waits (graph_of p.tables.now.edges) (progress_of p.ranks.now w') (c + 1) 0 None
       → issued_list w' ≡ set (issued_list w) n (Some c)

@@ -1,5 +1,5 @@
 -- One more row of a schedule that is being made, and its end; for `Waiting::step`, `Scheduler::fill_rows`.
-use Rattle.std.proofs.Common.{◌≡◌, ◌≢◌, ℕ, suc, ◌+◌, ◌*◌, ◌<◌, ◌≤◌, ◌||◌, true, false, cond, List, [], ◌∷◌, ◌++◌, length, length-append, set, get_or, Option, Some, None, ◌⊎◌, inl, inr, refl, sym, ◌∙◌, ap, subst, arith, rules}
+use Rattle.std.proofs.Common.{◌≡◌, ◌≢◌, ℕ, suc, ◌+◌, ◌*◌, ◌<◌, ◌≤◌, cond, List, [], ◌∷◌, ◌++◌, length, length-append, set, get_or, Option, Some, None, ◌⊎◌, refl, sym, ◌∙◌, ap, subst, arith, rules}
 use Rattle.std.specs.Prelude.{count_by, sum_by, is_none, option_to_list}
 use Rattle.std.proofs.lemmas.List.Sums.{sum_by-set, sum_by-le}
 use Rattle.iloc_ops.specs.declared.op.Op.{Op}
@@ -7,8 +7,7 @@ use Rattle.iloc_timed.specs.declared.latencies.Latencies.{Latencies}
 use Rattle.iloc_timed.specs.Kinds.{kind}
 use Rattle.iloc_timed.specs.Latency.{latency}
 use Rattle.iloc_timed.specs.declared.row.Row.{Row}
-use Rattle.iloc_timed.specs.Units.{needs_one}
-use Rattle.iloc_timed.specs.Rows.{empty_row, row_at, slots, issue_cycle, holds}
+use Rattle.iloc_timed.specs.Rows.{empty_row, row_at, slots, issue_cycle}
 use Rattle.iloc_sched.specs.Renaming.{renamed}
 use Rattle.iloc_sched.specs.Greedy.{ready, chosen_with, IsGreedyBy}
 use Rattle.iloc_sched.specs.declared.cycle.plan.Plan.{Plan}
@@ -19,77 +18,45 @@ use Rattle.iloc_sched.specs.Steps.Members.{In}
 use Rattle.iloc_sched.specs.Steps.Cycle.Classes.{class_of}
 use Rattle.iloc_sched.specs.Steps.Cycle.Progress.{MatchesRows}
 use Rattle.iloc_sched.specs.Steps.Views.{issued_list, progress_of}
-use Rattle.iloc_sched.specs.Steps.Cycle.SoFar.{IsPlan, IsUnderWay, IsSoFar, IsBest, Issues, IssuesAny, number_of, needs_zero_choice, row_with, slot_count, waiting_count}
+use Rattle.iloc_sched.specs.Steps.Cycle.SoFar.{IsPlan, IsUnderWay, IsSoFar, IsBest, Issues, IssuesAny, number_of, row_with, slot_count, waiting_count}
 use Rattle.iloc_sched.proofs.Basics.IssueCycles.{issue_cycle_more, issue_cycle_last, issue_cycle_beyond}
 use Rattle.iloc_sched.proofs.Basics.Slots.{holds_from, from_holds}
 use Rattle.iloc_sched.proofs.Choice.RowAfterRow.{chosen_more, chosen_is_greedy}
 use Rattle.iloc_sched.proofs.Bounds.BusyCycles.{rows_bound}
-use Rattle.iloc_meaning.proofs.Cases.{by_bool}
-use Rattle.iloc_sched.proofs.Basics.Cases.{by_option, not_both, same_some}
+use Rattle.iloc_sched.proofs.Basics.Cases.{by_option}
 use Rattle.iloc_sched.proofs.Choice.IssuedChoice.{issued_at, issued_other}
 use Rattle.iloc_sched.proofs.Walking.TableReads.{issued_size}
 use Rattle.iloc_sched.proofs.Choice.ChosenByRanks.{chosen_none, chosen_row}
 use Rattle.iloc_timed.proofs.WholeRuns.{short_latency}
 
 by_slots : {P : Type 0} → (row : Row) (j : ℕ) → (In (slots row) j → P) → ((In (slots row) j → ⊥) → P) → P
-by_slots row j stands misses = by_bool (holds row j) (λ t. stands (from_holds row j t))
-    (λ f. misses (λ there. let t : holds row j ≡ true = holds_from row j there in let e : true ≡ false = sym t ∙ f in
-    cc))
+by_slots row j stands misses = grind (arith, from_holds, holds_from)
 
 matches_more : (n : ℕ) (rows : List Row) (row : Row) (issued issued' : ℕ → Option ℕ) → MatchesRows n rows issued
     → ((j : ℕ) → In (slots row) j → (issued j ≡ None) × (issued' j ≡ Some (length rows)))
     → ((j : ℕ) → (In (slots row) j → ⊥) → issued' j ≡ issued j) → MatchesRows n (rows ++ row ∷ []) issued'
 matches_more n rows row issued issued' matches now others =
-    let size : length (rows ++ row ∷ []) ≡ length rows + 1 = length-append rows (row ∷ []) in
-    record {
-      done = λ j t below was. by_slots row j
-          (λ stands.
-          let time : t ≡ length rows = same_some (issued' j) t (length rows) was (now j stands).1 in
-          (issue_cycle_last rows row j (matches.waiting j below (now j stands).0) stands ∙ sym time, omega arith))
-          (λ misses.
-          let old : (issue_cycle rows j ≡ t) × (t < length rows) =
-          matches.done j t below (sym (others j misses) ∙ was) in
-          let same : issue_cycle rows j ≡ t = old.0 in
-          let early : t < length rows = old.1 in
-          (issue_cycle_more rows row j (omega arith) ∙ same, omega arith));
-      waiting = λ j below none. by_slots row j
-          (λ stands. not_both (issued' j) (length rows) none (now j stands).1)
-          (λ misses. let last : issue_cycle (rows ++ row ∷ []) j ≡ length rows + 1 = issue_cycle_beyond rows row j
-          (matches.waiting j below (sym (others j misses) ∙ none)) misses in omega arith);
-    }
+    grind (arith, by_slots, issue_cycle_beyond, issue_cycle_last, issue_cycle_more, length-append)
 
 one_of : (o : Option ℕ) (j : ℕ) → In (option_to_list o) j → o ≡ Some j
-one_of None j held = absurd held
-one_of (Some x) j (inl is) = ap Some is
-one_of (Some x) j (inr none) = absurd none
+one_of o j held = grind arith
 
 two_of : (o : Option ℕ) (a j : ℕ) → In (option_to_list o ++ a ∷ []) j → (o ≡ Some j) ⊎ (j ≡ a)
-two_of None a j (inl is) = inr (sym is)
-two_of None a j (inr none) = absurd none
-two_of (Some x) a j (inl is) = inl (ap Some is)
-two_of (Some x) a j (inr (inl is)) = inr (sym is)
-two_of (Some x) a j (inr (inr none)) = absurd none
+two_of o a j held = grind arith
 
 -- who stands in the row of a choice
 from_row : (a : Choice) (b : Option Choice) (j : ℕ) → In (slots (row_with a b)) j → (j ≡ a.number)
     ⊎ (number_of b ≡ Some j)
-from_row a b j = by_bool (needs_one a.kind || needs_zero_choice b)
-    (λ t. rw t (λ held. elim held [ inl is ↦ inl (sym is) | inr rest ↦ inr (one_of (number_of b) j rest) ]))
-    (λ f. rw f (λ held. elim (two_of (number_of b) a.number j held) [ inl is ↦ inr is | inr is ↦ inl is ]))
+from_row a b j = grind (arith, one_of, two_of)
 
 in_last : (o : Option ℕ) (a : ℕ) → In (option_to_list o ++ a ∷ []) a
-in_last None a = inl refl
-in_last (Some x) a = inr (inl refl)
+in_last o a = grind arith
 
 in_first : (a : Choice) (b : Option Choice) → In (slots (row_with a b)) a.number
-in_first a b = by_bool (needs_one a.kind || needs_zero_choice b)
-    (λ t. rw t (inl refl))
-    (λ f. rw f (in_last (number_of b) a.number))
+in_first a b = grind (arith, in_last)
 
 in_second : (a b : Choice) → In (slots (row_with a (Some b))) b.number
-in_second a b = by_bool (needs_one a.kind || needs_zero_choice (Some b))
-    (λ t. rw t (inr (inl refl)))
-    (λ f. rw f (inl refl))
+in_second a b = grind arith
 
 -- nothing is ready
 pub so_far_none : (p : Plan) (w w1 w2 : Waiting) (rows rows' : List Row) (row : Row) → IsPlan p
@@ -123,62 +90,27 @@ module _ (p : Plan) (w1 w2 w3 : Waiting) (c : ℕ) (a : Choice) (first : Issues 
 
     now_issued : (b : Option Choice) → IssuesAny p w2 w3 c b → (j : ℕ) → (j ≡ a.number)
         ⊎ (number_of b ≡ Some j) → ((progress_of p.ranks.now w1).issued j ≡ None) × ((progress_of p.ranks.now w3).issued j ≡ Some c)
-    now_issued None second j (inl is) = (
-      ap (progress_of p.ranks.now w1).issued is ∙ first.waiting,
-      ap (λ xs. get_or xs j None) second.1 ∙ ap (progress_of p.ranks.now w2).issued is ∙ at_first,
-    )
-    now_issued None second j (inr is) = cc
-    now_issued (Some b) second j (inl is) =
-        let apart : j ≢ b.number =
-        (λ same. not_both ((progress_of p.ranks.now w2).issued b.number) c second.waiting
-        (ap (progress_of p.ranks.now w2).issued (sym same ∙ is) ∙ at_first)) in (
-          ap (progress_of p.ranks.now w1).issued is ∙ first.waiting,
-          issued_other (issued_list w2) (issued_list w3) b.number
-              c j second.issued apart ∙ ap (progress_of p.ranks.now w2).issued is ∙ at_first,
-        )
-    now_issued (Some b) second j (inr is) =
-        let same : b.number ≡ j = same_some (Some j) b.number j (sym is) refl in
-        let apart : j ≢ a.number =
-        (λ e. not_both ((progress_of p.ranks.now w2).issued b.number) c second.waiting
-        (ap (progress_of p.ranks.now w2).issued (same ∙ e) ∙ at_first)) in (
-          sym (beside_first j apart) ∙ ap (progress_of p.ranks.now w2).issued (sym same) ∙ second.waiting,
-          ap (progress_of p.ranks.now w3).issued (sym same) ∙ issued_at (issued_list w2) (issued_list w3) b.number c
-              second.issued second.there,
-        )
+    now_issued b second j held = grind (arith, at_first, beside_first, issued_at, issued_other)
 
     others_kept : (b : Option Choice) → IssuesAny p w2 w3 c b → (j : ℕ) → j ≢ a.number
         → ((x : Choice) → b ≡ Some x → j ≢ x.number) → (progress_of p.ranks.now w3).issued j ≡ (progress_of p.ranks.now w1).issued j
-    others_kept None second j apart other = ap (λ xs. get_or xs j None) second.1 ∙ beside_first j apart
-    others_kept (Some b) second j apart other =
-        issued_other (issued_list w2) (issued_list w3) b.number c j second.issued (other b refl)
-        ∙ beside_first j apart
+    others_kept b second j apart other = grind (arith, beside_first, issued_other)
 
     under_way_after : (b : Option Choice) → IssuesAny p w2 w3 c b → IsUnderWay p w3 (c + 1)
-    under_way_after None second = second.0
-    under_way_after (Some b) second = second.under_way
+    under_way_after b second = grind arith
 
 abbrev waits_one : Option ℕ → ℕ
 waits_one o = cond (is_none o) 1 0
 
 count_issued : (xs ys : List (Option ℕ)) (n c : ℕ) → ys ≡ set xs n (Some c) → n < length xs → get_or xs n None ≡ None
     → count_by is_none ys + 1 ≡ count_by is_none xs
-count_issued xs ys n c is below none =
-    let sum : sum_by waits_one (set xs n (Some c)) + waits_one (get_or xs n None) ≡ sum_by waits_one xs + 0 =
-    sum_by-set waits_one xs n (Some c) None below in
-    let one : waits_one (get_or xs n None) ≡ 1 = ap waits_one none in
-    let same : count_by is_none ys ≡ sum_by waits_one (set xs n (Some c)) = ap (count_by is_none) is in
-    omega arith
+count_issued xs ys n c is below none = grind (arith, sum_by-set)
 
 -- how many wait after the choices of a cycle
 pub count_after : (p : Plan) (w w1 w2 w3 : Waiting) (c : ℕ) (a : Choice) (b : Option Choice)
     → issued_list w1 ≡ issued_list w → Issues p w1 w2 c a → IssuesAny p w2 w3 c b
     → waiting_count w3 + slot_count b ≡ waiting_count w
-count_after p w w1 w2 w3 c a None same first second =
-    let one : waiting_count w2 + 1 ≡ waiting_count w1 =
-    count_issued (issued_list w1) (issued_list w2) a.number c first.issued first.there first.waiting in
-    let start : waiting_count w1 ≡ waiting_count w = ap (count_by is_none) same in
-    let end : waiting_count w3 ≡ waiting_count w2 = ap (count_by is_none) second.1 in
-    omega arith
+count_after p w w1 w2 w3 c a None same first second = grind (arith, count_issued)
 count_after p w w1 w2 w3 c a (Some b) same first second =
     let one : waiting_count w2 + 1 ≡ waiting_count w1 =
     count_issued (issued_list w1) (issued_list w2) a.number c first.issued first.there first.waiting in
@@ -249,9 +181,7 @@ pub step_count : (p : Plan) (w w1 w2 w3 : Waiting) (c n : ℕ) (first : Option C
     (b : Option Choice) → issued_list w1 ≡ issued_list w → first ≡ Some a → IssuesAny p w1 w2 c first
     → IssuesAny p w2 w3 c b
     → n ≡ slot_count b → waiting_count w3 + n ≡ waiting_count w
-step_count p w w1 w2 w3 c n first a b same some issues issues_b is =
-    ap (λ m. waiting_count w3 + m) is ∙ count_after p w w1 w2 w3 c a b same
-    (subst (λ o. IssuesAny p w1 w2 c o) some issues) issues_b
+step_count p w w1 w2 w3 c n first a b same some issues issues_b is = grind (arith, count_after)
 
 one_waits : (xs : List (Option ℕ)) → 0 < count_by is_none xs → (j : ℕ) × (j < length xs) × (get_or xs j None ≡ None)
 one_waits [] some = absurd (omega arith)

@@ -68,8 +68,7 @@ ready_from lat ops rows c i is =
     })))))
 
 pub ready_rises : (lat : Latencies) (ops : List Op) (rows : List Row) (c : ℕ) → Rises (ready lat ops rows c)
-ready_rises lat ops rows c = ordered_filter (λ (x y : ℕ). x < y) (is_ready lat ops rows c) (range_with_len 0 (length ops))
-    (rises_range 0 (length ops))
+ready_rises lat ops rows c = grind (arith, ordered_filter, rises_range)
 
 -- below cycle c operation i is issued at the same cycle by both lists of rows, or by neither
 abbrev pub SameBelow : List Row → List Row → ℕ → ℕ → Type 0
@@ -79,8 +78,7 @@ SameBelow rows rows' c i = (issue_cycle rows i ≡ issue_cycle rows' i)
 all_agree : {X : Type 0} → (p q : X → Bool) (xs : List X) → ((x : X) → In xs x → p x ≡ q x)
     → list_all p xs ≡ list_all q xs
 all_agree p q [] same = refl
-all_agree p q (x ∷ xs) same = ap (λ b. b && list_all p xs) (same x (inl refl))
-    ∙ ap (λ b. q x && b) (all_agree p q xs (λ y there. same y (inr there)))
+all_agree p q (x ∷ xs) same = grind (arith, all_agree p q xs)
 
 -- what is ready at cycle c depends on what is issued before it
 pub ready_same : (lat : Latencies) (ops : List Op) (rows rows' : List Row) (c : ℕ)

@@ -1,5 +1,5 @@
 -- Rows that are chosen one after another are lawful and greedy at their end; for `schedule` (`greedy`).
-use Rattle.std.proofs.Common.{◌≡◌, ◌≢◌, ℕ, ◌+◌, ◌<◌, ◌≤◌, List, [], ◌∷◌, ◌++◌, length, inl, inr, ap, sym, ◌∙◌, subst, arith}
+use Rattle.std.proofs.Common.{◌≡◌, ◌≢◌, ℕ, ◌+◌, ◌<◌, ◌≤◌, List, [], ◌∷◌, ◌++◌, length, inl, inr, ap, sym, ◌∙◌, arith}
 use Rattle.std.specs.Prelude.{IsTrue}
 use Rattle.std.proofs.lemmas.Bool.{cases_lt}
 use Rattle.std.proofs.lemmas.List.{length_push}
@@ -41,19 +41,10 @@ module _ (prios : List ℕ) (lat : Latencies) (ops : List Op) (rows : List Row)
     (so_far : IsChosenSoFar prios lat ops rows) where
   -- what stands in a row was ready
   pub was_ready : (c i : ℕ) → In (slots (row_at rows c)) i → IsReady lat ops rows c i
-  was_ready c i there = elim (cases_lt c (length rows)) [
-    | inl below ↦
-        ready_means lat ops rows c i
-        (chosen_in ops prios (ready lat ops rows c) i
-        (subst (λ row. In (slots row) i) (so_far c below) there))
-    | inr past ↦ absurd (subst (λ row. In (slots row) i) (row_at_past rows c past) there)
-  ]
+  was_ready c i there = grind (arith, chosen_in, ready_means, row_at_past)
 
   stands_once : (c i : ℕ) → c < length rows → In (slots (row_at rows c)) i → count_in (row_at rows c) i ≡ 1
-  stands_once c i below there =
-      let row_is : row_at rows c ≡ chosen ops prios (ready lat ops rows c) = so_far c below in
-      ap (λ row. count_in row i) row_is ∙ once_in ops prios (ready lat ops rows c) i
-      (subst (λ row. In (slots row) i) row_is there)
+  stands_once c i below there = grind (arith, once_in)
 
   units_kept : (c : ℕ) → IsTrue (keeps_units ops (row_at rows c))
   units_kept c = elim (cases_lt c (length rows)) [

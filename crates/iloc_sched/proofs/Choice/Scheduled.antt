@@ -1,5 +1,5 @@
 -- The finished schedule: `Scheduler::lend`.
-use Rattle.std.proofs.Common.{◌≡◌, ℕ, List, sym, subst}
+use Rattle.std.proofs.Common.{arith, ◌≡◌, ℕ, List}
 use Rattle.iloc_ops.specs.declared.op.Op.{Op}
 use Rattle.iloc_timed.specs.declared.latencies.Latencies.{Latencies}
 use Rattle.iloc_timed.specs.declared.row.Row.{Row}
@@ -14,9 +14,7 @@ use Rattle.iloc_sched.proofs.Choice.OneGreedy.{greedy_same_as}
 -- the same operations and rows in other places
 pub handed_out : (prios : List ℕ) (lat : Latencies) (block ops ops' : List Op) (rows rows' : List Row) → ops' ≡ ops
     → rows' ≡ rows → IsGreedyBy prios lat block ops rows → IsGreedyBy prios lat block ops' rows'
-handed_out prios lat block ops ops' rows rows' same_ops same_rows greedy =
-    subst (λ os. IsGreedyBy prios lat block os rows') (sym same_ops)
-    (subst (λ rs. IsGreedyBy prios lat block ops rs) (sym same_rows) greedy)
+handed_out prios lat block ops ops' rows rows' same_ops same_rows greedy = grind arith
 
 -- a greedy schedule has all that is promised of it
 pub the_schedule : (by : List Op → List ℕ) (lat : Latencies) (block : List Op) (s : Table)

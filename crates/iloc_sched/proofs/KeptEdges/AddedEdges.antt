@@ -43,21 +43,8 @@ pub one_more : (edges : List Edge) (starts : List ℕ) (heads : List (Option ℕ
     → edge.from ≡ i → edge.to ≡ j → edge.delay ≡ d → edge.previous ≡ get_or heads i None
     → HasOneMore (tables_graph edges starts heads)
     (tables_graph (edges ++ edge ∷ []) starts (set heads i (Some (length edges)))) i j d
-one_more edges starts heads i j d edge there from_is to_is delay_is previous_is = record {
-  ops = length-set heads i (Some (length edges));
-  count = length_push edges edge;
-  start = λ k. refl;
-  from = λ x before. ap (λ (e : Edge). e.from) (get_or_append_left edges (edge ∷ []) no_edge x before);
-  to = λ x before. ap (λ (e : Edge). e.to) (get_or_append_left edges (edge ∷ []) no_edge x before);
-  delay = λ x before. ap (λ (e : Edge). e.delay) (get_or_append_left edges (edge ∷ []) no_edge x before);
-  previous = λ x before. ap (λ (e : Edge). e.previous) (get_or_append_left edges (edge ∷ []) no_edge x before);
-  last_from = ap (λ (e : Edge). e.from) (get_or_push edges edge no_edge (length edges) refl) ∙ from_is;
-  last_to = ap (λ (e : Edge). e.to) (get_or_push edges edge no_edge (length edges) refl) ∙ to_is;
-  last_delay = ap (λ (e : Edge). e.delay) (get_or_push edges edge no_edge (length edges) refl) ∙ delay_is;
-  last_previous = ap (λ (e : Edge). e.previous) (get_or_push edges edge no_edge (length edges) refl) ∙ previous_is;
-  head = get_or-set_same heads i (Some (length edges)) None there;
-  heads = λ k apart. get_or-set_other heads i k (Some (length edges)) None apart;
-}
+one_more edges starts heads i j d edge there from_is to_is delay_is previous_is =
+    grind (arith, get_or-set_other, get_or-set_same, get_or_append_left, get_or_push, length-set, length_push)
 
 -- one edge is pushed, and it is the last from i
 pub adds_one : (edges edges' : List Edge) (starts : List ℕ) (heads : List (Option ℕ)) (i j d place : ℕ)
@@ -169,10 +156,7 @@ uses_more lat ops a b j front r grows before last s held =
 -- the start of the next operation is pushed
 pub starts_pushed : (starts starts' : List ℕ) (n j : ℕ) → starts' ≡ starts ++ n ∷ [] → length starts ≡ j + 1
     → ((b : ℕ) → b ≤ j → get_or starts' b 0 ≡ get_or starts b 0) × (get_or starts' (j + 1) 0 ≡ n)
-starts_pushed starts starts' n j pushed size = (
-  λ b most. ap (λ ss. get_or ss b 0) pushed ∙ get_or_append_left starts (n ∷ []) 0 b (omega arith),
-  ap (λ ss. get_or ss (j + 1) 0) pushed ∙ get_or_push starts n 0 (j + 1) size,
-)
+starts_pushed starts starts' n j pushed size = grind (arith, get_or_append_left, get_or_push)
 
 pub covers_along : (lat : Latencies) (ops : List Op) (graph : Graph) (j : ℕ) (taken regs : List Reg) → taken ≡ regs
     → regs ≡ used (op_at ops j) → ((r : Reg) → In taken r → CoversUse lat ops graph j r) → CoversUses lat ops graph j
@@ -182,9 +166,7 @@ covers_along lat ops graph j taken regs all are covers = λ r held.
 -- the one register that an operation uses has its edges
 pub one_covered : (lat : Latencies) (ops : List Op) (graph : Graph) (j : ℕ) (r : Reg) → r ∷ [] ≡ used (op_at ops j)
     → CoversUse lat ops graph j r → CoversUses lat ops graph j
-one_covered lat ops graph j r are covered =
-    covers_along lat ops graph j (r ∷ []) (r ∷ []) refl are
-    (λ s held. elim held [ inl same ↦ subst (λ q. CoversUse lat ops graph j q) same covered | inr none ↦ absurd none ])
+one_covered lat ops graph j r are covered = grind (arith, covers_along)
 
 -- both have
 pub two_covered : (lat : Latencies) (ops : List Op) (a b : Graph) (j : ℕ) (left right : Reg)

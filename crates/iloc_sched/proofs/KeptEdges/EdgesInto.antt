@@ -1,5 +1,5 @@
 -- The edges into an operation are side by side; for `Graph::edges_into`.
-use Rattle.std.proofs.Common.{◌≡◌, ℕ, ◌+◌, ◌-◌, ◌<◌, ◌≤◌, min, List, length, take, drop, get_or, sym, ◌∙◌, ap, subst, arith}
+use Rattle.std.proofs.Common.{◌≡◌, ℕ, ◌+◌, ◌-◌, ◌<◌, ◌≤◌, List, length, take, drop, get_or, sym, ◌∙◌, ap, subst, arith}
 use Rattle.std.specs.Prelude.{All, Any}
 use Rattle.std.proofs.lemmas.List.{get_or-drop, get_or-take, get_or_default, length-drop, length-take}
 use Rattle.iloc_ops.specs.declared.op.Op.{Op}
@@ -9,7 +9,7 @@ use Rattle.iloc_sched.specs.Graph.Near.{IsNearPair}
 use Rattle.iloc_sched.specs.declared.edges.Edge.{Edge}
 use Rattle.iloc_sched.specs.declared.edges.Edges.{Edges}
 use Rattle.iloc_sched.specs.Steps.Graph.{Graph, IsGraphOf}
-use Rattle.iloc_sched.specs.Steps.Views.{edge_at, graph_of, no_edge}
+use Rattle.iloc_sched.specs.Steps.Views.{edge_at, graph_of}
 
 module _ (lat : Latencies) (ops : List Op) (e : Edges) (kept : IsGraphOf lat ops (graph_of e)) (j : ℕ)
     (there : j < length ops) where
@@ -34,20 +34,10 @@ module _ (lat : Latencies) (ops : List Op) (e : Edges) (kept : IsGraphOf lat ops
       (kept.is_graph.rises j (j + 1) (omega arith) (omega arith), omega arith)
 
   size : length into ≡ count
-  size =
-      let up = bounds.0 in
-      let most = bounds.1 in
-      let taken : length into ≡ min count (length (drop first e.edges.items)) =
-      length-take count (drop first e.edges.items) in
-      let left : length (drop first e.edges.items) ≡ length e.edges.items - first = length-drop first e.edges.items in
-      omega arith
+  size = grind (arith, length-drop, length-take)
 
   read : (k : ℕ) (d : Edge) → k < count → get_or into k d ≡ edge_at e (first + k)
-  read k d below =
-      let up = bounds.0 in
-      let most = bounds.1 in
-      get_or-take count (drop first e.edges.items) k d below
-      ∙ (get_or-drop first e.edges.items k d ∙ get_or_default e.edges.items (first + k) d no_edge (omega arith))
+  read k d below = grind (arith, get_or-drop, get_or-take, get_or_default)
 
   abbrev IsInto : Edge → Type 0
   IsInto edge = (edge.to ≡ j) × IsNearPair lat ops edge.from j edge.delay

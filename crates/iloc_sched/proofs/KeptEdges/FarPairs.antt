@@ -1,5 +1,5 @@
 -- A delay pair that isn't near goes by way of an operation between; for `priorities` and `schedule` (`greedy`).
-use Rattle.std.proofs.Common.{◌≡◌, ℕ, zero, suc, ◌+◌, ◌<◌, ◌≤◌, Bool, true, false, if◌then◌else◌, List, length, ◌⊎◌, inl, inr, refl, sym, ap, ◌∙◌, arith}
+use Rattle.std.proofs.Common.{◌≡◌, ℕ, zero, suc, ◌+◌, ◌<◌, ◌≤◌, Bool, true, false, if◌then◌else◌, List, length, ◌⊎◌, inl, inr, refl, ap, ◌∙◌, arith}
 use Rattle.iloc_ops.specs.declared.op.Op.{Op}
 use Rattle.iloc_meaning.specs.Trace.{op_at}
 use Rattle.iloc_timed.specs.declared.kind.Kind.{Kind}
@@ -21,25 +21,13 @@ abbrev Follows : Latencies → Kind → Kind → ℕ → Type 0
 Follows lat b c d = (e : ℕ) × In (kind_delays lat b c) e × (d ≤ 1 + e)
 
 over_output : (lat : Latencies) (c : Kind) (d : ℕ) → In (kind_delays lat K.Output c) d → Follows lat K.Output c d
-over_output lat K.Store d (inl is) = (1, inl refl, omega arith)
-over_output lat K.Store d (inr none) = absurd none
-over_output lat K.Output d (inl is) = (1, inl refl, omega arith)
-over_output lat K.Output d (inr none) = absurd none
-over_output lat _ d held = absurd held
+over_output lat c d held = grind arith
 
 over_store : (lat : Latencies) (c : Kind) (d : ℕ) → In (kind_delays lat K.Store c) d → Follows lat K.Store c d
-over_store lat K.Load d (inl is) = (d, inl is, omega arith)
-over_store lat K.Load d (inr none) = absurd none
-over_store lat K.Store d (inl is) = (d, inl is, omega arith)
-over_store lat K.Store d (inr none) = absurd none
-over_store lat K.Output d (inl is) = (d, inl is, omega arith)
-over_store lat K.Output d (inr none) = absurd none
-over_store lat _ d held = absurd held
+over_store lat c d held = grind arith
 
 over_load : (lat : Latencies) (c : Kind) (d : ℕ) → In (kind_delays lat K.Load c) d → Follows lat K.Store c d
-over_load lat K.Store d (inl is) = (1, inl refl, omega arith)
-over_load lat K.Store d (inr none) = absurd none
-over_load lat _ d held = absurd held
+over_load lat c d held = grind arith
 
 -- b takes the place of a, so what a delays is delayed by way of b
 by_way : (lat : Latencies) (a b c : Kind) (d : ℕ) → (if is_output a then is_output b else is_store b) ≡ true
@@ -75,9 +63,7 @@ pub record GoesBy (lat : Latencies) (ops : List Op) (i j d : ℕ) : Type 0 where
   pub enough : d ≤ first_delay + second_delay
 
 in_when : (b : Bool) (x d : ℕ) → In (when b x) d → (b ≡ true) × (d ≡ x)
-in_when true x d (inl is) = (refl, sym is)
-in_when true x d (inr none) = absurd none
-in_when false x d held = absurd held
+in_when b x d held = grind arith
 
 goes_by : (lat : Latencies) (ops : List Op) (i j k d : ℕ) → i < k → k < j → j < length ops
     → takes_over (op_at ops i) (op_at ops k) ≡ true → In (memory_delays lat (op_at ops i) (op_at ops j)) d

@@ -1,5 +1,5 @@
 -- What stands last before the next operation, once one more is noted; for `Lasts::note`.
-use Rattle.std.proofs.Common.{◌≡◌, ℕ, ◌+◌, ◌<◌, Bool, true, false, List, [], ◌∷◌, ◌++◌, Option, Some, inl, inr, refl, sym, ◌∙◌, ap, subst, arith}
+use Rattle.std.proofs.Common.{◌≡◌, ℕ, ◌+◌, ◌<◌, Bool, true, false, List, [], ◌∷◌, ◌++◌, Option, Some, refl, sym, ◌∙◌, ap, subst, arith}
 use Rattle.std.proofs.lemmas.Bool.{false≢true}
 use Rattle.iloc_ops.specs.declared.op.Reg.{Reg}
 use Rattle.iloc_ops.specs.declared.op.Op.{Op}
@@ -16,7 +16,6 @@ use Rattle.iloc_sched.specs.Steps.Graph.{IsLast}
 use Rattle.iloc_sched.specs.Steps.Edges.Lasts.{NotesDefiner, NotesKind, IsLasts, NoStoreBetween}
 use Rattle.iloc_sched.proofs.Basics.Registers.{is_register_same, is_register_from}
 use Rattle.iloc_meaning.proofs.Cases.{by_bool}
-use Rattle.iloc_sched.proofs.Basics.Cases.{by_eq}
 use Rattle.iloc_sched.proofs.Basics.Members.{in_left, in_right, from_append}
 use Rattle.iloc_sched.proofs.Basics.LastOnes.{last_here, last_before}
 
@@ -48,12 +47,10 @@ module _ (ops : List Op) (j : ℕ) (old new : Lasts) (is : IsLasts ops old j) (k
   Last test n o = IsLast (λ i. test (kind (op_at ops i)) ≡ true) n o
 
   stays : (test : Kind → Bool) (o o' : Option ℕ) → Last test j o → test k ≡ false → o' ≡ o → Last test (j + 1) o'
-  stays test o o' last fails same = subst (λ v. Last test (j + 1) v) (sym same)
-      (last_before (λ i. test (kind (op_at ops i)) ≡ true) j o (not_here test fails) last)
+  stays test o o' last fails same = grind (arith, last_before, not_here)
 
   comes : (test : Kind → Bool) (o' : Option ℕ) → test k ≡ true → o' ≡ Some j → Last test (j + 1) o'
-  comes test o' holds same = subst (λ v. Last test (j + 1) v) (sym same)
-      (last_here (λ i. test (kind (op_at ops i)) ≡ true) j (here test holds))
+  comes test o' holds same = grind (arith, here, last_here)
 
   abbrev Loads : List ℕ → Type 0
   Loads items = (i : ℕ) → In items i → (i < j + 1) × (is_load (kind (op_at ops i)) ≡ true) × NoStoreBetween ops i (j + 1)
@@ -63,62 +60,31 @@ module _ (ops : List Op) (j : ℕ) (old new : Lasts) (is : IsLasts ops old j) (k
       → NoStoreBetween ops i (j + 1) → In items i
 
   still_none : (i : ℕ) → is_store k ≡ false → NoStoreBetween ops i j → NoStoreBetween ops i (j + 1)
-  still_none i no_store none m after below = by_eq m j
-      (λ same. ap (λ n. is_store (kind (op_at ops n))) same ∙ (ap is_store kind_is ∙ no_store))
-      (λ apart. none m after (omega arith))
+  still_none i no_store none m after below = grind arith
 
   loads_stay : is_store k ≡ false → Loads old.loads.items
-  loads_stay no_store i held =
-      let h = is.loads i held in
-      let below : i < j = h.0 in
-      (omega arith, h.1, still_none i no_store h.2)
+  loads_stay no_store i held = grind (arith, still_none)
 
   earlier_load : (i : ℕ) → i < j → is_load (kind (op_at ops i)) ≡ true → NoStoreBetween ops i (j + 1)
       → In old.loads.items i
   earlier_load i below load none = is.all_loads i below load (λ m after before. none m after (omega arith))
 
   all_loads_stay : is_load k ≡ false → AllLoads old.loads.items
-  all_loads_stay fails i below load none =
-      by_eq i j
-      (λ same. absurd (not_here is_load fails (subst (λ m. is_load (kind (op_at ops m)) ≡ true) same load)))
-      (λ apart. earlier_load i (omega arith) load none)
+  all_loads_stay fails i below load none = grind (arith, earlier_load, not_here)
 
   loads_more : is_load k ≡ true → is_store k ≡ false → Loads (old.loads.items ++ j ∷ [])
-  loads_more holds no_store i held =
-      elim (from_append old.loads.items (j ∷ []) i held) [
-        | inl front ↦ loads_stay no_store i front
-        | inr back ↦ elim back [
-          | inl same ↦ let at : j ≡ i = same in (
-            omega arith,
-            subst (λ m. is_load (kind (op_at ops m)) ≡ true) same (here is_load holds),
-            λ m after below. absurd (omega arith),
-          )
-          | inr none ↦ absurd none
-        ]
-      ]
+  loads_more holds no_store i held = grind (arith, from_append, here, loads_stay)
 
   all_loads_more : AllLoads (old.loads.items ++ j ∷ [])
-  all_loads_more i below load none =
-      by_eq i j
-      (λ same. in_right old.loads.items (j ∷ []) i (inl (sym same)))
-      (λ apart. in_left old.loads.items (j ∷ []) i (earlier_load i (omega arith) load none))
+  all_loads_more i below load none = grind (arith, earlier_load, in_left, in_right)
 
   all_loads_gone : is_store k ≡ true → is_load k ≡ false → AllLoads []
-  all_loads_gone store fails i below load none =
-      by_eq i j
-      (λ same. not_here is_load fails (subst (λ m. is_load (kind (op_at ops m)) ≡ true) same load))
-      (λ apart. false≢true (sym (none j (omega arith) (omega arith)) ∙ here is_store store))
+  all_loads_gone store fails i below load none = grind (arith, false≢true, here, not_here)
 
   noted_as : NotesDefiner (op_at ops j) old.definers new.definers j → Last is_store (j + 1) new.store
       → Last is_output (j + 1) new.output → (items : List ℕ) → new.loads.items ≡ items → Loads items → AllLoads items
       → IsLasts ops new (j + 1)
-  noted_as definers store output items same loads all = record {
-    definers = definers_noted ops j old.definers new.definers is.definers definers;
-    store = store;
-    output = output;
-    loads = subst Loads (sym same) loads;
-    all_loads = subst AllLoads (sym same) all;
-  }
+  noted_as definers store output items same loads all = grind (arith, definers_noted)
 
   -- neither a load nor a store
   noted_apart : NotesDefiner (op_at ops j) old.definers new.definers j → is_store k ≡ false → is_load k ≡ false
@@ -137,14 +103,8 @@ noted_by K.Load ops j old new is kind_is definers notes =
     (stays ops j old new is K.Load kind_is is_output old.output new.output is.output refl notes.1)
     (old.loads.items ++ j ∷ []) notes.2 (loads_more ops j old new is K.Load kind_is refl refl)
     (all_loads_more ops j old new is K.Load kind_is)
-noted_by K.Store ops j old new is kind_is definers notes =
-    noted_as ops j old new is K.Store kind_is definers
-    (comes ops j old new is K.Store kind_is is_store new.store refl notes.0)
-    (stays ops j old new is K.Store kind_is is_output old.output new.output is.output refl notes.1) [] notes.2
-    (λ i held. absurd held) (all_loads_gone ops j old new is K.Store kind_is refl refl)
-noted_by K.Output ops j old new is kind_is definers notes =
-    noted_apart ops j old new is K.Output kind_is definers refl refl notes.0
-    (comes ops j old new is K.Output kind_is is_output new.output refl notes.1) notes.2
+noted_by K.Store ops j old new is kind_is definers notes = grind (arith, all_loads_gone, comes, noted_as, stays)
+noted_by K.Output ops j old new is kind_is definers notes = grind (arith, comes, noted_apart)
 noted_by _ ops j old new is kind_is definers notes =
     noted_apart ops j old new is _ kind_is definers refl refl notes.0
     (stays ops j old new is _ kind_is is_output old.output new.output is.output refl notes.1) notes.2
@@ -156,16 +116,10 @@ noted ops j old new is definers notes = noted_by (kind (op_at ops j)) ops j old 
 
 same_kind : (k : Kind) (old mid : Lasts) (d : ByRegister) (j : ℕ) → NotesKind k old mid j
     → NotesKind k old (record mid { definers = d }) j
-same_kind K.Load old mid d j notes = notes
-same_kind _ old mid d j notes = notes
+same_kind k old mid d j notes = grind arith
 
 -- first its kind is noted, then what it defines
 pub noted_in_turn : (ops : List Op) (j : ℕ) (old mid new : Lasts) (op : Op) (k : Kind) → IsLasts ops old j
     → op ≡ op_at ops j → k ≡ kind op → NotesKind k old mid j → mid.definers ≡ old.definers
     → new ≡ record mid { definers = new.definers } → NotesDefiner op mid.definers new.definers j → IsLasts ops new (j + 1)
-noted_in_turn ops j old mid new op k is op_is kind_is notes same rest definers =
-    noted ops j old new is
-    (subst (λ f. NotesDefiner (op_at ops j) f new.definers j) same
-    (subst (λ o. NotesDefiner o mid.definers new.definers j) op_is definers))
-    (subst (λ q. NotesKind q old new j) (kind_is ∙ ap kind op_is)
-    (subst (λ (n : Lasts). NotesKind k old n j) (sym rest) (same_kind k old mid new.definers j notes)))
+noted_in_turn ops j old mid new op k is op_is kind_is notes same rest definers = grind (arith, noted, same_kind)

@@ -1,5 +1,5 @@
 -- A near pair is a use, or comes from what stands last before the operation; for `Edges::add_all`.
-use Rattle.std.proofs.Common.{◌≡◌, ℕ, ◌<◌, Bool, true, false, if◌then◌else◌, List, length, Some, ◌⊎◌, inl, inr, refl, sym, ◌∙◌, ap, subst, arith}
+use Rattle.std.proofs.Common.{◌≡◌, ℕ, ◌<◌, Bool, true, false, if◌then◌else◌, List, length, Some, ◌⊎◌, inl, inr, refl, sym, subst, arith}
 use Rattle.std.specs.Prelude.{Contains}
 use Rattle.std.proofs.lemmas.Bool.{false≢true, false_from_ne_true}
 use Rattle.iloc_ops.specs.declared.op.Reg.{Reg}
@@ -16,7 +16,7 @@ use Rattle.iloc_sched.specs.Delays.{uses_result, when, memory_delays, delays, Is
 use Rattle.iloc_sched.specs.declared.edges.lasts.Lasts.{Lasts}
 use Rattle.iloc_sched.specs.Steps.Members.{In}
 use Rattle.iloc_sched.specs.Graph.Near.{NoneBetween, IsNear, IsNearPair}
-use Rattle.iloc_sched.specs.Steps.Graph.{Graph, IsLast}
+use Rattle.iloc_sched.specs.Steps.Graph.{Graph}
 use Rattle.iloc_sched.specs.Steps.Edges.Lasts.{IsLasts}
 use Rattle.iloc_sched.specs.Steps.Renaming.ByRegister.{number_at}
 use Rattle.iloc_sched.specs.Steps.Edges.PartialGraph.{HasEdge, CoversUse, CoversUses, CoversMemory}
@@ -26,103 +26,63 @@ use Rattle.iloc_sched.proofs.Basics.LastOnes.{last_is, last_holds}
 use Rattle.iloc_sched.proofs.DelayPairs.DelayBounds.{kind_delays}
 
 before_load : (lat : Latencies) (k : Kind) (d : ℕ) → In (kind_delays lat k K.Load) d → (k ≡ K.Store) × (d ≡ lat.store)
-before_load lat K.Store d (inl is) = (refl, sym is)
-before_load lat K.Store d (inr none) = absurd none
-before_load lat _ d held = absurd held
+before_load lat k d held = grind arith
 
 before_output : (lat : Latencies) (k : Kind) (d : ℕ) → In (kind_delays lat k K.Output) d
     → ((k ≡ K.Store) × (d ≡ lat.store)) ⊎ ((k ≡ K.Output) × (d ≡ 1))
-before_output lat K.Store d (inl is) = inl (refl, sym is)
-before_output lat K.Store d (inr none) = absurd none
-before_output lat K.Output d (inl is) = inr (refl, sym is)
-before_output lat K.Output d (inr none) = absurd none
-before_output lat _ d held = absurd held
+before_output lat k d held = grind arith
 
 before_store : (lat : Latencies) (k : Kind) (d : ℕ) → In (kind_delays lat k K.Store) d
     → (d ≡ 1) × ((k ≡ K.Store) ⊎ ((k ≡ K.Output) ⊎ (k ≡ K.Load)))
-before_store lat K.Load d (inl is) = (sym is, inr (inr refl))
-before_store lat K.Load d (inr none) = absurd none
-before_store lat K.Store d (inl is) = (sym is, inl refl)
-before_store lat K.Store d (inr none) = absurd none
-before_store lat K.Output d (inl is) = (sym is, inr (inl refl))
-before_store lat K.Output d (inr none) = absurd none
-before_store lat _ d held = absurd held
+before_store lat k d held = grind arith
 
 pub store_is : (k : Kind) → is_store k ≡ true → k ≡ K.Store
-store_is K.Store holds = refl
-store_is _ holds = cc
+store_is k holds = grind arith
 
 pub output_is : (k : Kind) → is_output k ≡ true → k ≡ K.Output
-output_is K.Output holds = refl
-output_is _ holds = cc
+output_is k holds = grind arith
 
 load_is : (k : Kind) → is_load k ≡ true → k ≡ K.Load
-load_is K.Load holds = refl
-load_is _ holds = cc
+load_is k holds = grind arith
 
 module _ (lat : Latencies) (ops : List Op) (j : ℕ) (lasts : Lasts) (is : IsLasts ops lasts j) where
   none_like : (a : Kind) (i : ℕ) → kind (op_at ops i) ≡ a → NoneBetween ops i j → (k : ℕ) → i < k → k < j
       → (if is_output a then is_output (kind (op_at ops k)) else is_store (kind (op_at ops k))) ≡ false
-  none_like a i kind_is none k after before = subst (λ q. (if is_output q then is_output (kind (op_at ops k))
-      else is_store (kind (op_at ops k))) ≡ false) kind_is (none k after before)
+  none_like a i kind_is none k after before = grind arith
 
   last_store : (i : ℕ) → i < j → kind (op_at ops i) ≡ K.Store → NoneBetween ops i j → lasts.store ≡ Some i
-  last_store i below kind_is none =
-      last_is (λ k. is_store (kind (op_at ops k)) ≡ true) j lasts.store i is.store below (ap is_store kind_is)
-      (λ k after before here. false≢true (sym (none_like K.Store i kind_is none k after before) ∙ here))
+  last_store i below kind_is none = grind (arith, false≢true, last_is, none_like)
 
   last_output : (i : ℕ) → i < j → kind (op_at ops i) ≡ K.Output → NoneBetween ops i j → lasts.output ≡ Some i
-  last_output i below kind_is none =
-      last_is (λ k. is_output (kind (op_at ops k)) ≡ true) j lasts.output i is.output below (ap is_output kind_is)
-      (λ k after before here. false≢true (sym (none_like K.Output i kind_is none k after before) ∙ here))
+  last_output i below kind_is none = grind (arith, false≢true, last_is, none_like)
 
   recent_load : (i : ℕ) → i < j → kind (op_at ops i) ≡ K.Load → NoneBetween ops i j → In lasts.loads.items i
-  recent_load i below kind_is none =
-      is.all_loads i below (ap is_load kind_is) (none_like K.Load i kind_is none)
+  recent_load i below kind_is none = grind (arith, none_like)
 
   -- the delays into an operation of a kind
   delays_into : (k : Kind) → kind (op_at ops j) ≡ k → (i d : ℕ)
       → Contains (memory_delays lat (op_at ops i) (op_at ops j)) d → In (kind_delays lat (kind (op_at ops i)) k) d
-  delays_into k kind_is i d held = subst (λ q. In (kind_delays lat (kind (op_at ops i)) q) d) kind_is
-      (in_from (memory_delays lat (op_at ops i) (op_at ops j)) d held)
+  delays_into k kind_is i d held = grind (arith, in_from)
 
   module _ (graph : Graph) where
     pub covers_load : kind (op_at ops j) ≡ K.Load → ((i : ℕ) → lasts.store ≡ Some i → HasEdge graph j i lat.store)
         → CoversMemory lat ops graph j
-    covers_load kind_is stored = λ i d below held none.
-        let h = before_load lat (kind (op_at ops i)) d (delays_into K.Load kind_is i d held) in
-        subst (λ e. HasEdge graph j i e) (sym h.1) (stored i (last_store i below h.0 none))
+    covers_load kind_is stored = grind (arith, before_load, delays_into, last_store)
 
     pub covers_output : kind (op_at ops j) ≡ K.Output → ((i : ℕ) → lasts.store ≡ Some i → HasEdge graph j i lat.store)
         → ((i : ℕ) → lasts.output ≡ Some i → HasEdge graph j i 1) → CoversMemory lat ops graph j
-    covers_output kind_is stored emitted = λ i d below held none.
-        elim (before_output lat (kind (op_at ops i)) d (delays_into K.Output kind_is i d held)) [
-          | inl h ↦ subst (λ e. HasEdge graph j i e) (sym h.1) (stored i (last_store i below h.0 none))
-          | inr h ↦ subst (λ e. HasEdge graph j i e) (sym h.1) (emitted i (last_output i below h.0 none))
-        ]
+    covers_output kind_is stored emitted = grind (arith, before_output, delays_into, last_output, last_store)
 
     pub covers_store : kind (op_at ops j) ≡ K.Store → ((i : ℕ) → lasts.store ≡ Some i → HasEdge graph j i 1)
         → ((i : ℕ) → lasts.output ≡ Some i → HasEdge graph j i 1)
         → ((i : ℕ) → In lasts.loads.items i → HasEdge graph j i 1) → CoversMemory lat ops graph j
-    covers_store kind_is stored emitted loaded = λ i d below held none.
-        let h = before_store lat (kind (op_at ops i)) d (delays_into K.Store kind_is i d held) in
-        subst (λ e. HasEdge graph j i e) (sym h.0)
-        (elim h.1 [
-          | inl store ↦ stored i (last_store i below store none)
-          | inr rest ↦ elim rest [
-            | inl output ↦ emitted i (last_output i below output none)
-            | inr load ↦ loaded i (recent_load i below load none)
-          ]
-        ])
+    covers_store kind_is stored emitted loaded = grind (arith, before_store, delays_into, last_output, last_store, recent_load)
 
     -- a used register's definition is the one that is noted
     pub covers_use : IsRenamed ops → (r : Reg)
         → ((i : ℕ) → number_at lasts.definers r.0 ≡ Some i → HasEdge graph j i (latency lat (op_at ops i)))
         → CoversUse lat ops graph j r
-    covers_use renamed r noted = λ i below defines.
-        noted i
-        (last_is (λ k. defined (op_at ops k) ≡ Some r) j (number_at lasts.definers r.0) i (is.definers r) below defines
-        (λ k after before again. let same : k ≡ i = renamed.once k i r again defines in omega arith))
+    covers_use renamed r noted = grind (arith, last_is)
 
   -- what takes the place of one of a kind
   abbrev Replaced : Kind → ℕ → Bool
@@ -130,40 +90,19 @@ module _ (lat : Latencies) (ops : List Op) (j : ℕ) (lasts : Lasts) (is : IsLas
 
   memory_pair : (i d : ℕ) → i < j → j < length ops → (a b : Kind) → kind (op_at ops i) ≡ a → kind (op_at ops j) ≡ b
       → In (kind_delays lat a b) d → ((k : ℕ) → i < k → k < j → Replaced a k ≡ false) → IsNearPair lat ops i j d
-  memory_pair i d below within a b i_is j_is held none =
-      let there : In (memory_delays lat (op_at ops i) (op_at ops j)) d =
-      subst (λ q. In (kind_delays lat (kind (op_at ops i)) q) d) (sym j_is)
-      (subst (λ q. In (kind_delays lat q b) d) (sym i_is) held) in
-      record {
-        order = below;
-        within = within;
-        delay = contains_from (delays lat (op_at ops i) (op_at ops j)) d
-            (in_right (when (uses_result (op_at ops i) (op_at ops j)) (latency lat (op_at ops i)))
-            (memory_delays lat (op_at ops i) (op_at ops j)) d there);
-        near = inr (
-          contains_from (memory_delays lat (op_at ops i) (op_at ops j)) d there,
-          λ k after before. subst (λ q. Replaced q k ≡ false) (sym i_is) (none k after before),
-        );
-      }
+  memory_pair i d below within a b i_is j_is held none = grind (arith, contains_from, in_right)
 
   store_there : (i : ℕ) → lasts.store ≡ Some i
       → (i < j) × (kind (op_at ops i) ≡ K.Store) × ((k : ℕ) → i < k → k < j → Replaced K.Store k ≡ false)
-  store_there i at =
-      let h : IsLast (λ k. is_store (kind (op_at ops k)) ≡ true) j (Some i) =
-      subst (IsLast (λ k. is_store (kind (op_at ops k)) ≡ true) j) at is.store in
-      (h.0, store_is (kind (op_at ops i)) h.1, λ k after before. false_from_ne_true (Replaced K.Store k) (h.2 k after before))
+  store_there i at = grind (arith, false_from_ne_true, store_is)
 
   output_there : (i : ℕ) → lasts.output ≡ Some i
       → (i < j) × (kind (op_at ops i) ≡ K.Output) × ((k : ℕ) → i < k → k < j → Replaced K.Output k ≡ false)
-  output_there i at =
-      let h : IsLast (λ k. is_output (kind (op_at ops k)) ≡ true) j (Some i) =
-      subst (IsLast (λ k. is_output (kind (op_at ops k)) ≡ true) j) at is.output in
-      (h.0, output_is (kind (op_at ops i)) h.1, λ k after before. false_from_ne_true (Replaced K.Output k) (h.2 k after before))
+  output_there i at = grind (arith, false_from_ne_true, output_is)
 
   pub definer_there : (r : Reg) (i : ℕ) → number_at lasts.definers r.0 ≡ Some i
       → (i < j) × (defined (op_at ops i) ≡ Some r)
-  definer_there r i at = last_holds (λ k. defined (op_at ops k) ≡ Some r) j (number_at lasts.definers r.0) i
-      (is.definers r) at
+  definer_there r i at = grind (arith, last_holds)
 
   pub store_before : (b : Kind) (d : ℕ) → In (kind_delays lat K.Store b) d → j < length ops → kind (op_at ops j) ≡ b
       → (i : ℕ) → lasts.store ≡ Some i → IsNearPair lat ops i j d

@@ -141,15 +141,11 @@ module _ (ops : List Op) (op : Op) where
 
   pub kinds_more : (kinds kinds' : List Kind) (ops' : List Op) → ops' ≡ ops ++ op ∷ []
       → kinds' ≡ kinds ++ kind op ∷ [] → kinds ≡ map kind ops → kinds' ≡ map kind ops'
-  kinds_more kinds kinds' ops' ops_is kinds_is kinds_were =
-      kinds_is ∙ ap (λ ks. ks ++ kind op ∷ []) kinds_were ∙ sym (map-append kind ops (op ∷ []))
-      ∙ ap (map kind) (sym ops_is)
+  kinds_more kinds kinds' ops' ops_is kinds_is kinds_were = grind (arith, map-append)
 
   pub latencies_more : (lat : Latencies) (own own' : List ℕ) (ops' : List Op) → ops' ≡ ops ++ op ∷ []
       → own' ≡ own ++ latency lat op ∷ [] → own ≡ map (latency lat) ops → own' ≡ map (latency lat) ops'
-  latencies_more lat own own' ops' ops_is own_is own_was =
-      own_is ∙ ap (λ ns. ns ++ latency lat op ∷ []) own_was ∙ sym (map-append (latency lat) ops (op ∷ []))
-      ∙ ap (map (latency lat)) (sym ops_is)
+  latencies_more lat own own' ops' ops_is own_is own_was = grind (arith, map-append)
 
   -- it is the next
   pub is_next : (lasts : Lasts) (j : ℕ) (ops' : List Op) → ops' ≡ ops ++ op ∷ [] → j ≡ length ops

@@ -16,9 +16,7 @@ use Rattle.iloc_timed.proofs.WholeRuns.{short_latency}
 
 pair_along : (lat : Latencies) (ops : List Op) (i i' j j' d d' : ℕ) → i' ≡ i → j' ≡ j → d' ≡ d
     → IsNearPair lat ops i j d → IsNearPair lat ops i' j' d'
-pair_along lat ops i i' j j' d d' i_is j_is d_is pair =
-    subst (λ x. IsNearPair lat ops x j' d') (sym i_is)
-    (subst (λ x. IsNearPair lat ops i x d') (sym j_is) (subst (λ x. IsNearPair lat ops i j x) (sym d_is) pair))
+pair_along lat ops i i' j j' d d' i_is j_is d_is pair = grind arith
 
 -- one edge more
 module _ (lat : Latencies) (ops : List Op) (graph graph' : Graph) (i j d : ℕ) (is : IsPartialGraph lat ops graph j)
@@ -30,41 +28,10 @@ module _ (lat : Latencies) (ops : List Op) (graph graph' : Graph) (i j d : ℕ) 
   last_place x there after = let size : graph'.count ≡ graph.count + 1 = more.count in omega arith
 
   head_more : (k : ℕ) → k < graph.ops → IsLast (λ x. graph'.from x ≡ k) (graph.count + 1) (graph'.head k)
-  head_more k below =
-      by_eq k i
-      (λ same.
-      subst (λ o. IsLast (λ x. graph'.from x ≡ k) (graph.count + 1) o) (sym (ap graph'.head same ∙ more.head))
-      (last_here (λ x. graph'.from x ≡ k) graph.count (more.last_from ∙ sym same)))
-      (λ apart.
-      subst (λ o. IsLast (λ x. graph'.from x ≡ k) (graph.count + 1) o) (sym (more.heads k apart))
-      (last_before (λ x. graph'.from x ≡ k) graph.count (graph.head k)
-      (λ here. apart (sym here ∙ more.last_from))
-      (last_same (λ x. graph.from x ≡ k) (λ x. graph'.from x ≡ k) graph.count (graph.head k)
-      (λ x there here. more.from x there ∙ here) (λ x there here. sym (more.from x there) ∙ here) (is.heads k below))))
+  head_more k below = grind (arith, last_before, last_here, last_same)
 
   previous_more : (x : ℕ) → x < graph'.count → IsLast (λ y. graph'.from y ≡ graph'.from x) x (graph'.previous x)
-  previous_more x there =
-      by_lt x graph.count
-      (λ before.
-      subst (λ o. IsLast (λ y. graph'.from y ≡ graph'.from x) x o) (sym (more.previous x before))
-      (last_same (λ y. graph.from y ≡ graph.from x) (λ y. graph'.from y ≡ graph'.from x) x (graph.previous x)
-      (λ y below here. more.from y (omega arith) ∙ here ∙ sym (more.from x before))
-      (λ y below here. sym (more.from y (omega arith)) ∙ here ∙ more.from x before)
-      (is.previous_edges x before)))
-      (λ after.
-      subst (λ z. IsLast (λ y. graph'.from y ≡ graph'.from z) z (graph'.previous z)) (sym (last_place x there after))
-      (subst (λ o. IsLast (λ y. graph'.from y ≡ graph'.from graph.count) graph.count o) (sym more.last_previous)
-      (last_same (λ y. graph.from y ≡ i) (λ y. graph'.from y ≡ graph'.from graph.count) graph.count (graph.head i)
-      (λ y below here. more.from y below ∙ here ∙ sym more.last_from)
-      (λ y below here. sym (more.from y below) ∙ here ∙ more.last_from)
-      (is.heads i source_there))))
-    where
-      source_there : i < graph.ops
-      source_there =
-          let order : i < j = pair.order in
-          let within : j < length ops = pair.within in
-          let size : graph.ops ≡ length ops = is.size in
-          omega arith
+  previous_more x there = grind (arith, last_place, last_same)
 
   pub partial_more : IsPartialGraph lat ops graph' j
   partial_more = record {
@@ -128,53 +95,24 @@ module _ (lat : Latencies) (ops : List Op) (graph graph' : Graph) (i j d : ℕ) 
   }
 
   edges_stay : (a e : ℕ) → HasEdge graph j a e → HasEdge graph' j a e
-  edges_stay a e edge =
-      let there : edge.place < graph.count = edge.there in
-      let first : graph'.start j ≡ graph.start j = more.start j in
-      let size : graph'.count ≡ graph.count + 1 = more.count in
-      let after : graph.start j ≤ edge.place = edge.after in
-      record {
-        place = edge.place;
-        after = omega arith;
-        there = omega arith;
-        source = more.from edge.place there ∙ edge.source;
-        long = subst (λ n. e ≤ n) (sym (more.delay edge.place there)) edge.long;
-      }
+  edges_stay a e edge = grind arith
 
   pub grows_by_one : Grows lat ops graph graph' j
   grows_by_one = record { partial = partial_more; keeps = edges_stay }
 
   pub has_new : HasEdge graph' j i d
-  has_new =
-      let first : graph'.start j ≡ graph.start j = more.start j in
-      let size : graph'.count ≡ graph.count + 1 = more.count in
-      let top : graph.start j ≤ graph.count = is.top in
-      let same : graph'.delay graph.count ≡ d = more.last_delay in
-      record {
-        place = graph.count;
-        after = omega arith;
-        there = omega arith;
-        source = more.last_from;
-        long = omega arith;
-      }
+  has_new = grind arith
 
 pub grows_then : (lat : Latencies) (ops : List Op) (a b c : Graph) (j : ℕ) → Grows lat ops a b j → Grows lat ops b c j
     → Grows lat ops a c j
-grows_then lat ops a b c j first second = record {
-  partial = second.partial;
-  keeps = λ i d edge.
-      second.keeps i d (first.keeps i d edge);
-}
+grows_then lat ops a b c j first second = grind arith
 
 -- the edges into j are all there, and those into the next operation begin behind them
 module _ (lat : Latencies) (ops : List Op) (graph : Graph) (j : ℕ) (is : IsPartialGraph lat ops graph j)
     (near : (i d : ℕ) → IsDelayPair lat ops i j d → IsNear lat ops i j d → HasEdge graph j i d)
     (start' : ℕ → ℕ) (starts : (b : ℕ) → b ≤ j → start' b ≡ graph.start b) (end : start' (j + 1) ≡ graph.count) where
   below_end : (b : ℕ) → b ≤ j → graph.start b ≤ graph.count
-  below_end b most =
-      let up : graph.start b ≤ graph.start j = is.rises b j most (omega arith) in
-      let top : graph.start j ≤ graph.count = is.top in
-      omega arith
+  below_end b most = grind arith
 
   rises_more : (a b : ℕ) → a ≤ b → b ≤ j + 1 → start' a ≤ start' b
   rises_more a b order most =
@@ -194,35 +132,11 @@ module _ (lat : Latencies) (ops : List Op) (graph : Graph) (j : ℕ) (is : IsPar
       omega arith)
 
   into_more : (b x : ℕ) → b < j + 1 → start' b ≤ x → x < start' (b + 1) → graph.to x ≡ b
-  into_more b x below from_start to_end =
-      let first : start' b ≡ graph.start b = starts b (omega arith) in
-      by_eq b j
-      (λ same.
-      let there : start' (b + 1) ≡ graph.count = ap (λ k. start' (k + 1)) same ∙ end in
-      let begin : graph.start b ≡ graph.start j = ap graph.start same in
-      is.into_last x (omega arith) (omega arith) ∙ sym same)
-      (λ apart.
-      let second : start' (b + 1) ≡ graph.start (b + 1) = starts (b + 1) (omega arith) in
-      is.into b x (omega arith) (omega arith) (omega arith))
+  into_more b x below from_start to_end = grind arith
 
   to_there_more : (x : ℕ) → x < start' (j + 1) → (graph.to x < j + 1) × (start' (graph.to x) ≤ x)
       × (x < start' (graph.to x + 1))
-  to_there_more x there =
-      by_lt x (graph.start j)
-      (λ before.
-      let old : (graph.to x < j) × (graph.start (graph.to x) ≤ x) × (x < graph.start (graph.to x + 1)) =
-      is.to_there x before in
-      let below : graph.to x < j = old.0 in
-      let after : graph.start (graph.to x) ≤ x = old.1 in
-      let until : x < graph.start (graph.to x + 1) = old.2 in
-      let first : start' (graph.to x) ≡ graph.start (graph.to x) = starts (graph.to x) (omega arith) in
-      let second : start' (graph.to x + 1) ≡ graph.start (graph.to x + 1) = starts (graph.to x + 1) (omega arith) in
-      (omega arith, omega arith, omega arith))
-      (λ late.
-      let same : graph.to x ≡ j = is.into_last x late (omega arith) in
-      let first : start' (graph.to x) ≡ graph.start j = ap start' same ∙ starts j (omega arith) in
-      let second : start' (graph.to x + 1) ≡ graph.count = ap (λ k. start' (k + 1)) same ∙ end in
-      (omega arith, omega arith, omega arith))
+  to_there_more x there = grind arith
 
   all_more : (i b d : ℕ) → b < j + 1 → IsDelayPair lat ops i b d → IsNear lat ops i b d → (x : ℕ) × (x < start' (j + 1))
       × (graph.to x ≡ b) × (graph.from x ≡ i) × (d ≤ graph.delay x)
@@ -240,18 +154,7 @@ module _ (lat : Latencies) (ops : List Op) (graph : Graph) (j : ℕ) (is : IsPar
       (old.0, omega arith, old.2, old.3, old.4))
 
   pub closed : IsPartialGraph lat ops (record graph { start = start' }) (j + 1)
-  closed = record {
-    size = is.size;
-    rises = rises_more;
-    top = omega arith;
-    into = into_more;
-    into_last = λ x from_start there. absurd (omega arith);
-    to_there = to_there_more;
-    sound = is.sound;
-    heads = is.heads;
-    previous_edges = is.previous_edges;
-    all = all_more;
-  }
+  closed = grind (arith, all_more, into_more, rises_more, to_there_more)
 
 module _ (lat : Latencies) (ops : List Op) (graph : Graph) (is : IsPartialGraph lat ops graph (length ops)) where
   none_behind : (x : ℕ) → graph.start (length ops) ≤ x → x < graph.count → ⊥

@@ -1,5 +1,5 @@
 -- The calendar of a plan, as ranks are put into it, released and taken.
-use Rattle.std.proofs.Common.{◌≡◌, ◌≢◌, ℕ, ◌+◌, ◌/◌, ◌<◌, ◌≤◌, ◌⊎◌, ◌||◌, Bool, true, false, eqb, length, get_or, inl, inr, refl, sym, ◌∙◌, ap, subst, arith}
+use Rattle.std.proofs.Common.{◌≡◌, ◌≢◌, ℕ, ◌+◌, ◌<◌, ◌≤◌, ◌⊎◌, ◌||◌, Bool, true, false, eqb, length, sym, ◌∙◌, ap, arith}
 use Rattle.std.proofs.lemmas.Bool.{true≢false, or_cases}
 use Rattle.iloc_sched.specs.declared.cycle.calendar.Calendar.{Calendar}
 use Rattle.iloc_sched.specs.declared.cycle.class.Class.{Class}
@@ -16,51 +16,27 @@ use Rattle.iloc_sched.proofs.Ranks.Cells.{by_both}
 use Rattle.iloc_sched.proofs.Walking.EdgeWalk.{Enters}
 
 pub place_small : (k : Class) → place_of k < 4
-place_small C.Memory = omega arith
-place_small _ = omega arith
+place_small k = grind arith
 
 -- an operation of the rest keeps nothing out
 pub rest_is_free : (k : Class) → place_of k ≡ 3 → excludes k k ≡ false
-rest_is_free C.Memory last = absurd (omega arith)
-rest_is_free C.Product last = absurd (omega arith)
-rest_is_free C.Output last = absurd (omega arith)
-rest_is_free C.Rest last = refl
+rest_is_free k last = grind arith
 
 same_class : (l k : Class) → place_of l ≡ place_of k → (excludes k k || false) ≡ excludes l k
-same_class C.Memory C.Memory same = refl
-same_class C.Product C.Product same = refl
-same_class C.Output C.Output same = refl
-same_class C.Rest C.Rest same = refl
-same_class _ _ same = absurd (omega arith)
+same_class l k same = grind arith
 
 other_class : (l k : Class) → place_of l ≢ place_of k → excludes l k ≡ false
-other_class C.Memory C.Memory apart = absurd (apart refl)
-other_class C.Product C.Product apart = absurd (apart refl)
-other_class C.Output C.Output apart = absurd (apart refl)
-other_class _ _ apart = refl
+other_class l k apart = grind arith
 
 pub true_or : (a b : Bool) → (a ≡ true) ⊎ (b ≡ true) → (a || b) ≡ true
-true_or true b is = refl
-true_or false b (inl is) = cc
-true_or false b (inr is) = is
+true_or a b is = grind arith
 
 -- the room is as it was
 pub within_kept : (c c' : Calendar) (r : ℕ) → KeepsRoom c c' → IsWithin c r → IsWithin c' r
-within_kept c c' r keeps is =
-    let long = keeps.words in
-    record {
-      word = let h = is.word in omega arith;
-      block = λ some. subst (λ b. r / 4096 < b) (sym keeps.blocks) (is.block (λ none. some (keeps.blocks ∙ none)));
-    }
+within_kept c c' r keeps is = grind arith
 
 pub room_kept : (c c' : Calendar) (n : ℕ) → KeepsRoom c c' → HasRoom c n → HasRoom c' n
-room_kept c c' n keeps room =
-    let long = keeps.words in
-    record {
-      ranks = λ r low. within_kept c c' r keeps (room.ranks r low);
-      first = let h = room.first in omega arith;
-      blocks = λ b low. let h = room.blocks b (subst (λ m. b < m) keeps.blocks low) in omega arith;
-    }
+room_kept c c' n keeps room = grind (arith, within_kept)
 
 pub room_none : (c : Calendar) (n : ℕ) → HasRoom c n → HasRoom c 0
 room_none c n room = record { ranks = λ r low. absurd (omega arith); first = room.first; blocks = room.blocks }
@@ -77,19 +53,12 @@ same_room c c' same = record { words = ap (length {A = ℕ}) same.words; blocks 
 
 -- what a class keeps out is known as before
 pub kept_put : (p : Plan) (c c' : Calendar) (n s k : ℕ) (b : Bool) → s ≤ 32 → Puts c c' s k b → KeepsOut p n c → KeepsOut p n c'
-kept_put p c c' n s k b low puts kept = record {
-  each = λ class i there. puts.others (33 + place_of class) (rank_of p i) (omega (arith, place_small class)) (λ same _. absurd (omega arith))
-      ∙ kept.each class i there;
-  only = λ class r held. kept.only class r
-      (sym (puts.others (33 + place_of class) r (omega (arith, place_small class)) (λ same _. absurd (omega arith))) ∙ held);
-}
+kept_put p c c' n s k b low puts kept = grind (arith, place_small)
 
 module _ (p : Plan) (plan : IsPlan p) where
   -- each operation has a rank of its own
   pub ranks_apart : (j k : ℕ) → j < length p.tables.now.ops.items → k < length p.tables.now.ops.items → rank_of p j ≡ rank_of p k → j ≡ k
-  ranks_apart j k j_there k_there same =
-      let size = plan.priorities in
-      sym (plan.ranked.operation_of j (omega arith)) ∙ ap (λ r. get_or p.order.now r 0) same ∙ plan.ranked.operation_of k (omega arith)
+  ranks_apart j k j_there k_there same = grind arith
 
   module _ (c c' : Calendar) (is : IsCalendar p c) where
     -- operation j goes into a set of operations, or out of it
@@ -104,35 +73,13 @@ module _ (p : Plan) (plan : IsPlan p) where
     }
 
     pub calendar_released : (b : ℕ) → b < 32 → Releases c c' b → KeepsRoom c c' → IsCalendar p c'
-    calendar_released b low released keeps = record {
-      room = room_kept c c' (length p.tables.now.ops.items) keeps is.room;
-      ranked = λ t r t_low held. by_eq t 32
-          (λ ready. elim (or_cases (has c 32 r) (has c b r) (sym (released.union r) ∙ ap (λ u. has c' u r) (sym ready) ∙ held)) [
-            | inl old ↦ is.ranked 32 r (omega arith) old
-            | inr due ↦ is.ranked b r (omega arith) due
-          ])
-          (λ other. by_eq t b
-          (λ same. absurd (true≢false (sym held ∙ ap (λ u. has c' u r) same ∙ released.empty r)))
-          (λ another. is.ranked t r t_low (sym (released.others t r (omega arith) other another) ∙ held)));
-      kept = record {
-        each = λ k i i_there. released.others (33 + place_of k) (rank_of p i) (omega (arith, place_small k)) (λ same. absurd (omega arith))
-            (λ same. absurd (omega arith)) ∙ is.kept.each k i i_there;
-        only = λ k r held. is.kept.only k r
-            (sym (released.others (33 + place_of k) r (omega (arith, place_small k)) (λ same. absurd (omega arith))
-            (λ same. absurd (omega arith))) ∙ held);
-      };
-    }
+    calendar_released b low released keeps = grind (arith, or_cases, place_small, room_kept, true≢false)
 
   -- operation j goes into bucket b if it has come to its last edge
   pub puts_enters : (c c' : Calendar) (b j : ℕ) (ready : Bool) (at_end : Type 0) → b < 32 → j < length p.tables.now.ops.items
       → Puts c c' b (rank_of p j) (ready || has c b (rank_of p j)) → (ready ≡ true → at_end) → (at_end → ready ≡ true)
       → Enters (length p.tables.now.ops.items) (bucket_of p.ranks.now c) (bucket_of p.ranks.now c') b j at_end
-  puts_enters c c' b j ready at_end low there puts end begin = record {
-    comes = λ over. puts.here ∙ true_or ready (has c b (rank_of p j)) (inl (begin over));
-    was = λ held. elim (or_cases ready (has c b (rank_of p j)) (sym puts.here ∙ held)) [ inl is ↦ inr (end is) | inr old ↦ inl old ];
-    others = λ a k a_low k_there apart. puts.others a (rank_of p k) (omega arith)
-        (λ same ranks. apart same (ranks_apart k j k_there there ranks));
-  }
+  puts_enters c c' b j ready at_end low there puts end begin = grind (arith, or_cases, ranks_apart, true_or)
 
   -- what operation n keeps out is noted for its class
   pub keeps_out_more : (c c' : Calendar) (n : ℕ) (k : Class) → n < length p.tables.now.ops.items → KeepsOut p n c
@@ -171,5 +118,4 @@ module _ (p : Plan) (plan : IsPlan p) where
 -- the same with equals
 pub puts_as : (c1 c k : Calendar) (s r r' : ℕ) (ready : Bool) → c1 ≡ c → r ≡ r' → Puts c1 k s r (ready || has c1 s r)
     → Puts c k s r' (ready || has c s r')
-puts_as c1 c k s r r' ready same rank puts =
-    subst (λ (d : Calendar). Puts d k s r' (ready || has d s r')) same (subst (λ n. Puts c1 k s n (ready || has c1 s n)) rank puts)
+puts_as c1 c k s r r' ready same rank puts = grind arith

@@ -1,14 +1,11 @@
 -- One word of one set is written.
-use Rattle.std.proofs.Common.{◌≡◌, ◌≢◌, ℕ, zero, suc, ◌+◌, ◌*◌, ◌/◌, ◌%◌, ◌<◌, List, length, get_or, set, replicate, ap, ap₂, sym, ◌∙◌, refl, arith, get_or-set_other}
-use Rattle.std.specs.Int.{bit_at}
 use Rattle.std.proofs.lemmas.Grind.{get_or-set_at}
+use Rattle.std.proofs.Common.{◌≡◌, ◌≢◌, ℕ, zero, suc, ◌+◌, ◌*◌, ◌/◌, ◌%◌, ◌<◌, List, length, get_or, set, replicate, ap, refl, arith, get_or-set_other}
+use Rattle.std.specs.Int.{bit_at}
 use Rattle.iloc_sched.specs.Steps.Cycle.RankSets.{word_at, rank_bit}
-use Rattle.iloc_sched.proofs.Basics.Cases.{by_eq}
 
 pub by_both : {P : Type 0} → (t s u w : ℕ) → (t ≡ s → u ≡ w → P) → ((t ≡ s → u ≡ w → ⊥) → P) → P
-by_both t s u w same apart = by_eq t s
-    (λ first. by_eq u w (same first) (λ other. apart (λ _ second. other second)))
-    (λ other. apart (λ first _. other first))
+by_both t s u w same apart = grind arith
 
 module _ (words : List ℕ) (s w v : ℕ) where
   pub cell_same : w * 37 + s < length words → word_at (set words (w * 37 + s) v) s w ≡ v
@@ -24,13 +21,7 @@ module _ (words : List ℕ) (s k v : ℕ) (small : s < 37) (there : k / 64 * 37 
 
   pub put_other : ((i : ℕ) → i < 64 → i ≢ k % 64 → bit_at v i ≡ bit_at (word_at words s (k / 64)) i)
       → (t r : ℕ) → t < 37 → (t ≡ s → r ≡ k → ⊥) → rank_bit (set words (k / 64 * 37 + s) v) t r ≡ rank_bit words t r
-  put_other others t r low apart = by_both t s (r / 64) (k / 64)
-      (λ same here.
-      ap₂ (λ a b. bit_at (word_at (set words (k / 64 * 37 + s) v) a b) (r % 64)) same here
-      ∙ ap (λ x. bit_at x (r % 64)) (cell_same words s (k / 64) v there)
-      ∙ others (r % 64) (omega arith) (λ e. apart same (omega arith))
-      ∙ ap₂ (λ a b. bit_at (word_at words a b) (r % 64)) (sym same) (sym here))
-      (λ other. ap (λ x. bit_at x (r % 64)) (cell_other words s (k / 64) v small t (r / 64) low other))
+  put_other others t r low apart = grind (arith, by_both, cell_other, cell_same)
 
 pub read_replicate : {X : Type 0} (n : ℕ) (x : X) (k : ℕ) → get_or (replicate n x) k x ≡ x
 read_replicate zero x k = refl

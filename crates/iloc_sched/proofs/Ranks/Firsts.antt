@@ -56,8 +56,7 @@ low_there words left block fits holds first = by_eq left 0
 -- what is left is there still
 pub still_held : (words : List ℕ) (rest rest' block low : ℕ) → HoldsBits words rest block → bit_at rest' low ≡ 0
     → ((i : ℕ) → i < 64 → i ≢ low → bit_at rest' i ≡ bit_at rest i) → HoldsBits words rest' block
-still_held words rest rest' block low holds gone stays =
-    λ i small set. holds i small (λ out. set (stays i small (λ same. set (ap (bit_at rest') same ∙ gone)) ∙ out))
+still_held words rest rest' block low holds gone stays = grind arith
 
 module _ (words : List ℕ) (k block some left : ℕ) (so_far : IsSearched words k block some left) (fits : left < 2 ^ 64)
     (more : left ≢ 0) where

@@ -1,5 +1,5 @@
 -- What words say of sets: put, released, first; for the functions of `Calendar`.
-use Rattle.std.proofs.Common.{◌≡◌, ◌≢◌, ℕ, zero, suc, ◌+◌, ◌-◌, ◌*◌, ◌/◌, ◌%◌, ◌<◌, ◌≤◌, ◌&&◌, ◌||◌, not, Bool, true, false, eqb, List, length, min, None, refl, sym, ◌∙◌, ap, subst, arith}
+use Rattle.std.proofs.Common.{◌≡◌, ◌≢◌, ℕ, ◌+◌, ◌-◌, ◌*◌, ◌/◌, ◌%◌, ◌<◌, ◌≤◌, ◌&&◌, ◌||◌, not, Bool, true, false, eqb, List, length, min, None, sym, ◌∙◌, ap, subst, arith}
 use Rattle.std.specs.Int.{bit_at}
 use Rattle.std.proofs.lemmas.Nat.Bits.{bit_at-lt}
 use lib.ListN.{get_or-eq_default}
@@ -11,7 +11,7 @@ use Rattle.iloc_sched.specs.declared.cycle.class.Class.{Class}
 use Rattle.iloc_sched.specs.Steps.Cycle.Calendar.{has, offers, IsFirst, KeepsRoom, Puts, Releases}
 use Rattle.iloc_sched.specs.Steps.Cycle.Classes.{place_of}
 use Rattle.iloc_sched.specs.Steps.Cycle.RankSets.{word_at, rank_bit, IsSummary, AddsBit, TakesBit, MovesAt, NotesMoved, HoldsBits, open_bit}
-use Rattle.iloc_sched.proofs.Basics.Cases.{by_eq, by_lt}
+use Rattle.iloc_sched.proofs.Basics.Cases.{by_lt}
 use Rattle.iloc_sched.proofs.Ranks.Calendars.{place_small}
 use Rattle.iloc_sched.proofs.Ranks.Moves.{KeepsElse, moved_ready}
 use Rattle.iloc_sched.proofs.Ranks.WordBits.{no_bit, test_added}
@@ -20,16 +20,10 @@ pub bit_small : (words : List ℕ) (s r : ℕ) → rank_bit words s r < 2
 bit_small words s r = bit_at-lt (word_at words s (r / 64)) (r % 64)
 
 pub puts_from : (c c' : Calendar) (s k : ℕ) (b : Bool) → AddsBit c.words.items c'.words.items b s k → Puts c c' s k (b || has c s k)
-puts_from c c' s k b adds = record {
-  here = ap (λ x. eqb x 1) adds.here ∙ test_added b (rank_bit c.words.items s k) (bit_small c.words.items s k);
-  others = λ t r low apart. ap (λ x. eqb x 1) (adds.others t r low apart);
-}
+puts_from c c' s k b adds = grind (arith, bit_small, test_added)
 
 pub takes_from : (c c' : Calendar) (s k : ℕ) → TakesBit c.words.items c'.words.items true s k → Puts c c' s k false
-takes_from c c' s k takes = record {
-  here = let gone : rank_bit c'.words.items s k ≡ 0 = omega (arith, takes.here) in ap (λ x. eqb x 1) gone;
-  others = λ t r low apart. ap (λ x. eqb x 1) (takes.others t r low apart);
-}
+takes_from c c' s k takes = grind arith
 
 -- a word past the end has nothing
 pub past_end : (words : List ℕ) (s w : ℕ) → length words ≤ w * 37 + s → word_at words s w ≡ 0
@@ -58,17 +52,13 @@ open_there summary words k block low right = λ i small set.
 -- nor have those that it has no bits for
 pub beyond : (summary words : List ℕ) (s blocks : ℕ) → s < 32 → IsSummary summary words → length summary ≡ blocks * 37 → (w : ℕ)
     → blocks ≤ w / 64 → word_at words s w ≡ 0
-beyond summary words s blocks low right size w past =
-    let none : rank_bit summary s w ≡ 0 = no_bit (word_at summary s (w / 64)) (w % 64) (past_end summary s (w / 64) (omega arith)) in
-    let least : min 1 (word_at words s w) ≡ 0 = sym (right.buckets s w low) ∙ none in
-    omega arith
+beyond summary words s blocks low right size w past = grind (arith, no_bit, past_end)
 
 no_member : (words : List ℕ) (s r : ℕ) → word_at words s (r / 64) ≡ 0 → eqb (rank_bit words s r) 1 ≡ false
 no_member words s r none = ap (λ x. eqb x 1) (no_bit (word_at words s (r / 64)) (r % 64) none)
 
 or_none : (a b : Bool) → b ≡ false → a ≡ (a || b)
-or_none true b none = refl
-or_none false b none = sym none
+or_none a b none = grind arith
 
 -- the ranks of the first blocks are released
 pub record IsReleased (c c' : Calendar) (b n : ℕ) : Type 0 where
@@ -78,12 +68,7 @@ pub record IsReleased (c c' : Calendar) (b n : ℕ) : Type 0 where
   pub room : KeepsRoom c c'
 
 pub none_released : (c : Calendar) (b : ℕ) → IsReleased c c b 0
-none_released c b = record {
-  union = λ r low. absurd (omega arith);
-  empty = λ r low. absurd (omega arith);
-  others = λ s r low apart. refl;
-  room = record { words = refl; blocks = refl };
-}
+none_released c b = grind arith
 
 -- one block more
 module _ (c c1 c2 : Calendar) (b n : ℕ) (small : b < 32) (before : IsReleased c c1 b n)
@@ -92,16 +77,7 @@ module _ (c c1 c2 : Calendar) (b n : ℕ) (small : b < 32) (before : IsReleased 
     (others : (s r : ℕ) → s < 37 → (r / 4096 ≡ n → (s ≢ 32) × (s ≢ b)) → has c2 s r ≡ has c1 s r)
     (room : KeepsRoom c1 c2) where
   pub one_released : IsReleased c c2 b (n + 1)
-  one_released = record {
-    union = λ r low. by_eq (r / 4096) n
-        (λ here. union r here ∙ ap (λ x. x || has c1 b r) (before.others 32 r (omega arith) (λ less. absurd (omega arith)))
-        ∙ ap (λ x. has c 32 r || x) (before.others b r (omega arith) (λ less. absurd (omega arith))))
-        (λ other. others 32 r (omega arith) (λ here. absurd (other here)) ∙ before.union r (omega arith));
-    empty = λ r low. by_eq (r / 4096) n (λ here. empty r here)
-        (λ other. others b r (omega arith) (λ here. absurd (other here)) ∙ before.empty r (omega arith));
-    others = λ s r low apart. others s r low (λ here. apart (omega arith)) ∙ before.others s r low (λ less. apart (omega arith));
-    room = record { words = room.words ∙ before.room.words; blocks = room.blocks ∙ before.room.blocks };
-  }
+  one_released = grind arith
 
 -- all blocks
 pub all_released : (c c' : Calendar) (b : ℕ) → b < 32 → c.blocks ≢ 0 → IsReleased c c' b c.blocks → Releases c c' b
@@ -120,36 +96,17 @@ all_released c c' b small some released = record {
 -- a bucket has nothing in a block whose word of the summary is 0
 pub block_without : (c : Calendar) (b block : ℕ) → b < 32 → c.blocks ≢ 0 → word_at c.summary.items b block ≡ 0
     → (r : ℕ) → r / 4096 ≡ block → has c b r ≡ false
-block_without c b block small some none r here =
-    let at : r / 64 / 64 ≡ block = omega arith in
-    let bit : rank_bit c.summary.items b (r / 64) ≡ 0 =
-    no_bit (word_at c.summary.items b (r / 64 / 64)) (r / 64 % 64) (ap (word_at c.summary.items b) at ∙ none) in
-    let is : rank_bit c.summary.items b (r / 64) ≡ min 1 (word_at c.words.items b (r / 64)) = (c.summarised some).buckets b (r / 64) small in
-    no_member c.words.items b r (omega arith)
+block_without c b block small some none r here = grind (arith, no_bit, no_member)
 
 -- so to release it changes nothing
 pub block_as_released : (c : Calendar) (b block : ℕ) → b < 32 → c.blocks ≢ 0 → word_at c.summary.items b block ≡ 0
     → (r : ℕ) → r / 4096 ≡ block → has c 32 r ≡ (has c 32 r || has c b r)
-block_as_released c b block small some none r here =
-    or_none (has c 32 r) (has c b r) (block_without c b block small some none r here)
+block_as_released c b block small some none r here = grind (arith, block_without, or_none)
 
 -- one word is all
 pub one_word_released : (c c' : Calendar) (b : ℕ) → b < 32 → length c.words.items ≤ 37 → MovesAt c.words.items c'.words.items b 0
     → KeepsElse (λ w. w ≡ 0) c.words.items c'.words.items b → Releases c c' b
-one_word_released c c' b small single moved kept = record {
-  union = λ r. by_eq (r / 64) 0
-      (λ here. moved_ready c.words.items c'.words.items b r (subst (λ w. MovesAt c.words.items c'.words.items b w) (sym here) moved))
-      (λ other. same 32 r (omega arith) (λ here. absurd (other here)) ∙ or_none (has c 32 r) (has c b r)
-      (no_member c.words.items b r (past_end c.words.items b (r / 64) (omega arith))));
-  empty = λ r. by_eq (r / 64) 0
-      (λ here. no_member c'.words.items b r (ap (word_at c'.words.items b) here ∙ moved.0))
-      (λ other. same b r (omega arith) (λ here. absurd (other here))
-      ∙ no_member c.words.items b r (past_end c.words.items b (r / 64) (omega arith)));
-  others = λ s r low first second. same s r low (λ _. (first, second));
-}
-  where
-    same : (s r : ℕ) → s < 37 → (r / 64 ≡ 0 → (s ≢ 32) × (s ≢ b)) → has c' s r ≡ has c s r
-    same s r low apart = ap (λ x. eqb (bit_at x (r % 64)) 1) (kept s (r / 64) low apart)
+one_word_released c c' b small single moved kept = grind (arith, moved_ready, no_member, or_none, past_end)
 
 -- the words of a block
 module _ (xs ys : List ℕ) (b block : ℕ) (moved : (w : ℕ) → w / 64 ≡ block → MovesAt xs ys b w)
@@ -164,10 +121,7 @@ module _ (xs ys : List ℕ) (b block : ℕ) (moved : (w : ℕ) → w / 64 ≡ bl
   block_others s r low apart = ap (λ x. eqb (bit_at x (r % 64)) 1) (kept s (r / 64) low (λ here. apart (omega arith)))
 
 offers_bits : (a b : ℕ) → a < 2 → b < 2 → (eqb a 1 && not (eqb b 1)) ≡ eqb (min a (1 - b)) 1
-offers_bits (suc (suc a)) b p q = absurd (omega arith)
-offers_bits zero (suc (suc b)) p q = absurd (omega arith)
-offers_bits (suc zero) (suc (suc b)) p q = absurd (omega arith)
-offers_bits _ _ p q = refl
+offers_bits a b p q = grind arith
 
 -- what is offered is what is open
 module _ (c : Calendar) (beside : Class) where
@@ -175,8 +129,7 @@ module _ (c : Calendar) (beside : Class) where
   words = c.words.items
 
   is_offered : (r x : ℕ) → open_bit words (place_of beside) r ≡ x → offers c beside r ≡ eqb x 1
-  is_offered r x is = offers_bits (rank_bit words 32 r) (rank_bit words (33 + place_of beside) r) (bit_small words 32 r)
-      (bit_small words (33 + place_of beside) r) ∙ ap (λ y. eqb y 1) is
+  is_offered r x is = grind (arith, bit_small, offers_bits)
 
   pub none_in_blocks : c.blocks ≢ 0 → ((r : ℕ) → r / 64 / 64 < c.blocks → open_bit words (place_of beside) r ≡ 0) → IsFirst (offers c beside) None
   none_in_blocks some none = λ r. is_offered r 0 (by_lt (r / 64 / 64) c.blocks (none r)
@@ -196,8 +149,7 @@ module _ (v : Vec ℕ) (xs ws : List ℕ) (same : xs ≡ v.items) where
   takes_back b s k takes = subst (λ ys. TakesBit v.items ys b s k) (sym (with_items_is v ws (long takes.size))) (subst (λ ys. TakesBit ys ws b s k) same takes)
 
   pub notes_back : (some block b n : ℕ) → NotesMoved xs ws some block b n → NotesMoved v.items (with_items v ws).items some block b n
-  notes_back some block b n notes = subst (λ ys. NotesMoved v.items ys some block b n) (sym (with_items_is v ws (long notes.size)))
-      (subst (λ ys. NotesMoved ys ws some block b n) same notes)
+  notes_back some block b n notes = grind (arith, long, with_items_is)
 
   pub moves_back : (b w : ℕ) → length ws ≡ length xs → MovesAt xs ws b w → MovesAt v.items (with_items v ws).items b w
   moves_back b w size moved = subst (λ ys. MovesAt v.items ys b w) (sym (with_items_is v ws (long size))) (subst (λ ys. MovesAt ys ws b w) same moved)

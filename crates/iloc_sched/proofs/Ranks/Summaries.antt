@@ -1,9 +1,8 @@
 -- A rank is added to a set or taken out, or words are searched, and the summary stays right.
-use Rattle.std.proofs.Common.{◌≡◌, ℕ, ◌+◌, ◌-◌, ◌*◌, ◌/◌, ◌%◌, ◌^◌, ◌<◌, ◌≤◌, List, length, set, min, max, Bool, true, false, ap, ap₂, sym, ◌∙◌, arith, bit_and, bit_or, length-set}
+use Rattle.std.proofs.Common.{◌≡◌, ℕ, ◌+◌, ◌-◌, ◌*◌, ◌/◌, ◌%◌, ◌^◌, ◌<◌, ◌≤◌, List, length, set, max, Bool, true, false, ap, ap₂, sym, ◌∙◌, arith, bit_and, bit_or, length-set}
 use Rattle.std.specs.Int.{bit_at}
 use Rattle.std.proofs.lemmas.Nat.Bits.{bit_at-lt, bit_at_and}
 use Rattle.iloc_sched.specs.Steps.Cycle.RankSets.{word_at, rank_bit, open_bit, IsSummary, IsSearched, AddsBit, TakesBit}
-use Rattle.iloc_meaning.proofs.Cases.{by_bool}
 use Rattle.iloc_sched.proofs.Basics.Cases.{by_eq}
 use Rattle.iloc_sched.proofs.Ranks.Firsts.{none_open}
 use Rattle.iloc_sched.proofs.Ranks.WordBits.{one_if, and_same, and_other, or_same, or_other, or_some}
@@ -25,54 +24,22 @@ module _ (words : List ℕ) (s k : ℕ) (small : s < 37) (word : k / 64 * 37 + s
   added_others b = put_other words s k _ small word (λ i _ apart. or_other (word_at words s (k / 64)) (k % 64) (omega arith) b i apart)
 
   pub adds_bit : (b : Bool) → AddsBit words (added words s k b) b s k
-  adds_bit b = record {
-    here = added_here b;
-    others = added_others b;
-    word = ap (min 1) (cell_same words s (k / 64) _ word) ∙ or_some (word_at words s (k / 64)) (k % 64) (omega arith) b;
-    words_kept = λ t w low apart. cell_other words s (k / 64) _ small t w low apart;
-    size = length-set words (k / 64 * 37 + s) _;
-  }
+  adds_bit b = grind (arith, added_here, added_others, cell_other, cell_same, length-set, or_some)
 
   pub takes_bit : (b : Bool) → TakesBit words (removed words s k b) b s k
-  takes_bit b = record {
-    here = put_same words s k _ small word ∙ and_same (word_at words s (k / 64)) (k % 64) (omega arith) b;
-    others = put_other words s k _ small word
-        (λ i within apart. and_other (word_at words s (k / 64)) (k % 64) (omega arith) b i within apart);
-    words_kept = λ t w low apart. cell_other words s (k / 64) _ small t w low apart;
-    size = length-set words (k / 64 * 37 + s) _;
-  }
+  takes_bit b = grind (arith, and_other, and_same, cell_other, length-set, put_other, put_same)
 
 -- a rank is added to a bucket
 module _ (summary summary' words words' : List ℕ) (s k : ℕ) (small : s < 32) (right : IsSummary summary words) where
   pub IsSummary-added : (b : Bool) → AddsBit words words' b s k → AddsBit summary summary' b s (k / 64) → IsSummary summary' words'
-  IsSummary-added b below above = record {
-    buckets = λ t w low. by_both t s w (k / 64)
-        (λ same at. ap₂ (rank_bit summary') same at ∙ above.here ∙ ap (λ x. max x (one_if b)) (right.buckets s (k / 64) small) ∙ sym below.word
-        ∙ ap₂ (λ a b. min 1 (word_at words' a b)) (sym same) (sym at))
-        (λ other. above.others t w (omega arith) other ∙ right.buckets t w low ∙ ap (min 1) (sym (below.words_kept t w (omega arith) other)));
-    closed = λ c r low none.
-        let was = right.closed c r low (sym (above.others (33 + c) (r / 64) (omega arith) (λ same _. absurd (omega arith))) ∙ none) in
-        let ready = below.others 32 r (omega arith) (λ same _. absurd (omega arith)) in
-        let kept = below.others (33 + c) r (omega arith) (λ same _. absurd (omega arith)) in
-        omega arith;
-    there = λ c w low some.
-        let h = right.there c w low (λ none. some (above.others (33 + c) w (omega arith) (λ same _. absurd (omega arith)) ∙ none)) in
-        let size = below.size in
-        omega arith;
-    rest = λ r. below.others 36 r (omega arith) (λ same _. absurd (omega arith)) ∙ right.rest r;
-  }
+  IsSummary-added b below above = grind (arith, by_both)
 
 -- where no more is open than before
 module _ (summary words words' : List ℕ) (right : IsSummary summary words) where
   less_open : ((s w : ℕ) → s < 32 → word_at words' s w ≡ word_at words s w)
       → ((c r : ℕ) → c < 4 → open_bit words' c r ≤ open_bit words c r) → length words' ≡ length words
       → ((r : ℕ) → rank_bit words' 36 r ≡ 0) → IsSummary summary words'
-  less_open same less size rest = record {
-    buckets = λ s w low. right.buckets s w low ∙ ap (min 1) (sym (same s w low));
-    closed = λ c r low none. let was = right.closed c r low none in let most = less c r low in omega arith;
-    there = λ c w low some. let h = right.there c w low some in omega arith;
-    rest = rest;
-  }
+  less_open same less size rest = grind arith
 
   pub IsSummary-kept_out : (j k : ℕ) (b : Bool) → j < 4 → (j ≡ 3 → b ≡ false) → AddsBit words words' b (33 + j) k
       → IsSummary summary words'
@@ -96,41 +63,12 @@ module _ (summary words words' : List ℕ) (right : IsSummary summary words) whe
       (λ other. adds.others 36 r (omega arith) other ∙ right.rest r))
 
   pub IsSummary-taken : (k : ℕ) → TakesBit words words' true 32 k → IsSummary summary words'
-  IsSummary-taken k takes = less_open
-      (λ s w low. takes.words_kept s w (omega arith) (λ same _. absurd (omega arith)))
-      (λ c r low.
-      let kept = takes.others (33 + c) r (omega arith) (λ same _. absurd (omega arith)) in
-      by_eq r k
-      (λ at. let gone = ap (rank_bit words' 32) at ∙ takes.here in omega arith)
-      (λ apart. let ready = takes.others 32 r (omega arith) (λ _ at. apart at) in omega arith))
-      takes.size
-      (λ r. takes.others 36 r (omega arith) (λ same _. absurd (omega arith)) ∙ right.rest r)
+  IsSummary-taken k takes = grind (arith, less_open)
 
 -- a word leaves the summary of a class if nothing is ready in it
 pub IsSummary-emptied : (summary summary' words : List ℕ) (j w : ℕ) (b : Bool) → j < 4 → IsSummary summary words
     → (b ≡ true → word_at words 32 w ≡ 0) → TakesBit summary summary' b (33 + j) w → IsSummary summary' words
-IsSummary-emptied summary summary' words j w b small right none takes = record {
-  buckets = λ s v low. takes.others s v (omega arith) (λ same _. absurd (omega arith)) ∙ right.buckets s v low;
-  closed = λ c r low out. by_both (33 + c) (33 + j) (r / 64) w
-      (λ same at. by_bool b
-      (λ empty. none_open words c r (ap (word_at words 32) at ∙ none empty))
-      (λ kept. right.closed c r low (ap₂ (rank_bit summary) same at ∙ stays kept ∙ ap₂ (rank_bit summary') (sym same) (sym at) ∙ out)))
-      (λ other. right.closed c r low (sym (takes.others (33 + c) (r / 64) (omega arith) other) ∙ out));
-  there = λ c v low held. by_both (33 + c) (33 + j) v w
-      (λ same at. right.there c v low
-      (λ was.
-      let now = ap₂ (rank_bit summary') same at ∙ takes.here in
-      let before = ap₂ (rank_bit summary) same at in
-      held (omega arith)))
-      (λ other. right.there c v low (λ was. held (takes.others (33 + c) v (omega arith) other ∙ was)));
-  rest = right.rest;
-}
-  where
-    stays : b ≡ false → rank_bit summary (33 + j) w ≡ rank_bit summary' (33 + j) w
-    stays kept =
-        let is = takes.here ∙ ap (λ x. min (rank_bit summary (33 + j) w) (1 - one_if x)) kept in
-        let bit = bit_at-lt (word_at summary (33 + j) (w / 64)) (w % 64) in
-        omega arith
+IsSummary-emptied summary summary' words j w b small right none takes = grind (arith, bit_at-lt, by_both, none_open)
 
 -- the words of a block were searched for what is open beside a class
 module _ (summary words : List ℕ) (k block some left : ℕ) (small : k < 4) (there : block * 37 + 37 ≤ length summary)
@@ -140,8 +78,7 @@ module _ (summary words : List ℕ) (k block some left : ℕ) (small : k < 4) (t
   cleared = set summary (block * 37 + (33 + k)) left
 
   bit_here : (t w : ℕ) → t ≡ 33 + k → w / 64 ≡ block → rank_bit cleared t w ≡ bit_at left (w % 64)
-  bit_here t w same at = ap₂ (λ a b. bit_at (word_at cleared a b) (w % 64)) same at
-      ∙ ap (λ x. bit_at x (w % 64)) (cell_same summary (33 + k) block left (omega arith))
+  bit_here t w same at = grind (arith, cell_same)
 
   bit_was : (t w : ℕ) → t ≡ 33 + k → w / 64 ≡ block → rank_bit summary t w ≡ 0 → bit_at some (w % 64) ≡ 0
   bit_was t w same at none = fits (w % 64) (ap₂ (λ a b. bit_at (word_at summary a b) (w % 64)) (sym same) (sym at) ∙ none)

@@ -41,8 +41,7 @@ and_other n k small true i within apart = bit_at_clear_other w64 n k small i wit
 and_other n k small false i within apart = and_all n k i within
 
 pub test_added : (b : Bool) (x : ℕ) → x < 2 → eqb (max x (one_if b)) 1 ≡ (b || eqb x 1)
-test_added true x small = eq-eqb (max x 1) 1 (omega arith)
-test_added false x small = let e : max x 0 ≡ x = omega arith in ap (λ y. eqb y 1) e
+test_added b x small = grind (arith, eq-eqb)
 
 -- the set bit of a word that is cleared makes it smaller
 pub cleared_less : (n k : ℕ) → k < 64 → bit_at n k ≡ 1 → bit_and n (2 ^ 64 - 1 - 1 * 2 ^ k % 2 ^ 64) < n

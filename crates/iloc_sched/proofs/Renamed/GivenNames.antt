@@ -11,8 +11,7 @@ use Rattle.iloc_sched.specs.Steps.Renaming.NamingWalk.{Stands, also, also_all, n
 use Rattle.iloc_sched.proofs.Renamed.Sources.{is_source-refl, is_source-true, is_source-false, stands_left, stands_right}
 
 regroup : (a b c : Bool) → ((a || b) || c) ≡ (b || (a || c))
-regroup true true c = refl
-regroup _ b c = refl
+regroup a b c = grind arith
 
 abbrev unless : Bool → Source → List Source
 unless b s = if b then [] else s ∷ []
@@ -20,21 +19,12 @@ unless b s = if b then [] else s ∷ []
 struck_last : (ms stood : List Source) (s : Source)
     → struck stood (ms ++ s ∷ []) ≡ struck stood ms
     ++ unless (list_any (is_source s) stood || list_any (is_source s) (struck stood ms)) s
-struck_last [] stood s =
-    by_bool (list_any (is_source s) stood) (λ t. rw t refl) (λ t. rw t refl)
-struck_last (x ∷ rest) stood s =
-    by_bool (list_any (is_source x) stood)
-    (λ t. rw t (struck_last rest stood s))
-    (λ t. rw t (
-    ap (λ ys. x ∷ ys) (struck_last rest (x ∷ stood) s)
-    ∙ ap (λ b. x ∷ (struck (x ∷ stood) rest ++ unless b s))
-    (regroup (is_source s x) (list_any (is_source s) stood) (list_any (is_source s) (struck (x ∷ stood) rest)))
-    ))
+struck_last [] stood s = grind arith
+struck_last (x ∷ rest) stood s = grind (arith, regroup, struck_last rest stood s, struck_last rest (x ∷ stood) s)
 
 also_unless : (sources : List Source) (s : Source) → sources ++ unless (list_any (is_source s) sources) s
     ≡ also sources s
-also_unless sources s =
-    by_bool (list_any (is_source s) sources) (λ t. rw t (append-nil sources)) (λ t. rw t refl)
+also_unless sources s = grind (arith, append-nil)
 
 pub struck_push : (ms : List Source) (s : Source) → struck [] (ms ++ s ∷ []) ≡ also (struck [] ms) s
 struck_push ms s = struck_last ms [] s ∙ also_unless (struck [] ms) s
@@ -42,39 +32,27 @@ struck_push ms s = struck_last ms [] s ∙ also_unless (struck [] ms) s
 -- a numbering is made mention by mention
 pub struck_more : (ms more : List Source) → struck [] (ms ++ more) ≡ also_all (struck [] ms) more
 struck_more ms [] = ap (struck []) (append-nil ms)
-struck_more ms (s ∷ rest) =
-    ap (struck []) (sym (append_assoc ms (s ∷ []) rest))
-    ∙ struck_more (ms ++ s ∷ []) rest
-    ∙ ap (λ sources. also_all sources rest) (struck_push ms s)
+struck_more ms (s ∷ rest) = grind (arith, append_assoc, struck_push, struck_more (ms ++ s ∷ []) rest)
 
 -- a source that is numbered keeps its number
 pub place_kept : (sources : List Source) (s t : Source) → Stands sources t → place_of (sources ++ s ∷ []) t
     ≡ place_of sources t
 place_kept [] s t there = absurd cc
-place_kept (x ∷ rest) s t there =
-    by_bool (is_source t x) (λ b. rw b refl) (λ b. rw b (ap (λ n. n + 1) (place_kept rest s t (rw b at there))))
+place_kept (x ∷ rest) s t there = grind (arith, place_kept rest s t)
 
 -- a new source gets the next number
 pub place_new : (sources : List Source) (s : Source) → list_any (is_source s) sources ≡ false
     → place_of (sources ++ s ∷ []) s ≡ length sources
 place_new [] s new = rw (is_source-refl s) refl
-place_new (x ∷ rest) s new =
-    by_bool (is_source s x)
-    (λ b. absurd (let no : true ≡ false = rw b at new in cc))
-    (λ b. rw b (let more : place_of (rest ++ s ∷ []) s ≡ length rest = place_new rest s (rw b at new) in omega arith))
+place_new (x ∷ rest) s new = grind (arith, place_new rest s)
 
 number_kept : (sources : List Source) (s t : Source) → is_source t s ≡ false → number_of (sources ++ s ∷ []) t
     ≡ number_of sources t
-number_kept sources s t apart = by_bool (list_any (is_source t) sources)
-    (λ b. rw (list_any-append (is_source t) sources (s ∷ []), b) (ap Some (place_kept sources s t b)))
-    (λ b. rw (list_any-append (is_source t) sources (s ∷ []), b, apart) refl)
+number_kept sources s t apart = grind (arith, list_any-append, place_kept)
 
 number_new : (sources : List Source) (s : Source) → list_any (is_source s) sources ≡ false
     → number_of (sources ++ s ∷ []) s ≡ Some (length sources)
-number_new sources s new =
-    let stands : Stands (sources ++ s ∷ []) s =
-    rw (list_any-append (is_source s) sources (s ∷ []), new, is_source-refl s) refl in
-    rw stands (ap Some (place_new sources s new))
+number_new sources s new = grind (arith, is_source-refl, list_any-append, place_new)
 
 -- a register whose source has a number keeps all as it is
 pub use_named : (n : ℕ) (sources : List Source) (now : Reg → Source) (given : ℕ) (current : Reg → Option ℕ) (r : Reg)
@@ -88,22 +66,14 @@ use_named n sources now given current r name follows is =
 -- a register without a number reads its start
 at_start : (n : ℕ) (sources : List Source) (now : Reg → Source) (given : ℕ) (current : Reg → Option ℕ) (r : Reg)
     → Follows n sources now given current → list_any (is_source (now r)) sources ≡ false → now r ≡ Start r
-at_start n sources now given current r follows new = elim (follows.origin r) [
-  | inl start ↦ start
-  | inr there ↦ absurd (let no : true ≡ false = sym there ∙ new in cc)
-]
+at_start n sources now given current r follows new = grind arith
 
 same_register : (q r : Reg) → q.0 == r.0 ≡ true → q ≡ r
 same_register q r same = ap (λ (n : ℕ). record { 0 = n }) (eqb-true q.0 r.0 same)
 
 stands_either : (sources : List Source) (s t : Source) → Stands (sources ++ s ∷ []) t → Stands sources t ⊎ (t ≡ s)
-stands_either [] s t there = by_bool (is_source t s) (λ b. inr (is_source-true t s b))
-    (λ b. absurd (let no : false ≡ true = rw b at there in cc))
-stands_either (x ∷ rest) s t there =
-    by_bool (is_source t x) (λ b. inl (rw b refl)) (λ b. elim (stands_either rest s t (rw b at there)) [
-      | inl within ↦ inl (rw b within)
-      | inr last ↦ inr last
-    ])
+stands_either [] s t there = grind (arith, is_source-true)
+stands_either (x ∷ rest) s t there = grind (arith, stands_either rest s t)
 
 -- a source that is new takes the next number: the register r reads it from now on, and each other what it read
 pub name_next : (n m : ℕ) (sources : List Source) (now now' : Reg → Source) (given given' : ℕ) (current current' : Reg
@@ -170,16 +140,12 @@ use_new n sources now given given' current current' r follows none next =
 pub name_had : (n : ℕ) (sources : List Source) (now : Reg → Source) (given : ℕ) (current : Reg → Option ℕ) (r : Reg)
     (name : ℕ) → Follows n sources now given current → current r ≡ Some name
     → name ≡ place_of (also sources (now r)) (now r)
-name_had n sources now given current r name follows is = by_bool (list_any (is_source (now r)) sources)
-    (λ b. rw b (let one : Some name ≡ Some (place_of sources (now r)) = sym is ∙ follows.numbers r ∙ rw b refl in cc))
-    (λ b. absurd (let none : Some name ≡ None = sym is ∙ follows.numbers r ∙ rw b refl in cc))
+name_had n sources now given current r name follows is = grind arith
 
 -- the name of a register that has none yet
 pub name_next_given : (n : ℕ) (sources : List Source) (now : Reg → Source) (given : ℕ) (current : Reg → Option ℕ)
     (r : Reg) → Follows n sources now given current → current r ≡ None → given ≡ place_of (also sources (now r)) (now r)
-name_next_given n sources now given current r follows none = by_bool (list_any (is_source (now r)) sources)
-    (λ b. absurd (let some : None ≡ Some (place_of sources (now r)) = sym none ∙ follows.numbers r ∙ rw b refl in cc))
-    (λ b. rw b (follows.count ∙ sym (place_new sources (now r) b)))
+name_next_given n sources now given current r follows none = grind (arith, place_new)
 
 -- the definition of operation n
 pub define_new : (n : ℕ) (sources : List Source) (now : Reg → Source) (given given' : ℕ) (current current' : Reg

@@ -6,8 +6,7 @@ use Rattle.iloc_ops.specs.declared.op.Reg.{Reg}
 use Rattle.iloc_ops.specs.declared.op.Op.{Op}
 use Rattle.iloc_ops.specs.declared.op.Op.TheVariants.{Nop}
 use Rattle.iloc_ops.specs.Registers.{used, defined}
-use Rattle.iloc_meaning.specs.Trace.{op_at, is_register}
-use Rattle.iloc_meaning.proofs.Cases.{by_bool}
+use Rattle.iloc_meaning.specs.Trace.{op_at}
 use Rattle.iloc_sched.specs.Renaming.{Source, source, own_source, mentions, mentions_before, numbering, renamed_op, renamed_by}
 use Rattle.iloc_sched.specs.Renaming.Source.{Result}
 use Rattle.iloc_sched.specs.Steps.Renaming.NamingWalk.{Stands}
@@ -18,10 +17,7 @@ use Rattle.iloc_sched.proofs.Renamed.Sources.{is_source-refl, stands_in, stands_
 -- a result that an operation reads is that of an earlier one
 pub source_earlier : (ops : List Op) (i j : ℕ) (r : Reg) → source ops i r ≡ Result j → j < i
 source_earlier ops zero j r is = absurd cc
-source_earlier ops (suc i) j r is =
-    by_bool (is_register r (defined (op_at ops i)))
-    (λ t. let here : Result i ≡ Result j = rw t at is in let same : i ≡ j = cc in omega arith)
-    (λ t. let earlier : j < i = source_earlier ops i j r (rw t at is) in omega arith)
+source_earlier ops (suc i) j r is = grind (arith, source_earlier ops i j r)
 
 mention_stands : (ops : List Op) (n i : ℕ) (s : Source) → i < n → Stands (mentions ops i) s
     → Stands (mentions_before ops n) s

@@ -1,12 +1,9 @@
 -- The renamed operations define each register once and have the block's outcome: `rename` (`once`, `outcome`).
-use Rattle.std.proofs.Common.{◌≡◌, ◌≢◌, ℕ, zero, suc, ◌<◌, ◌≤◌, true, false, List, [], ◌∷◌, length, map, Option, Some, None, option_map, ℤ, refl, sym, ap, subst, ◌∙◌, arith, inl, inr, eq-eqb, ne_eqb}
-use Rattle.std.specs.Prelude.{not}
-use Rattle.std.proofs.lemmas.Bool.{cases_lt}
+use Rattle.std.proofs.Common.{◌≡◌, ◌≢◌, ℕ, zero, suc, ◌<◌, ◌≤◌, true, false, List, [], ◌∷◌, length, map, Option, Some, option_map, ℤ, refl, sym, ap, subst, ◌∙◌, arith, inl, inr, eq-eqb, ne_eqb}
 use Rattle.std.proofs.lemmas.List.{get_or_past}
 use Rattle.std.proofs.lemmas.List.Elements.{All-get_or, filter_passes}
 use Rattle.iloc_ops.specs.declared.op.Reg.{Reg}
 use Rattle.iloc_ops.specs.declared.op.Op.{Op}
-use Rattle.iloc_ops.specs.declared.op.Op.TheVariants.{Nop}
 use Rattle.iloc_ops.specs.Registers.{used, defined}
 use Rattle.iloc_ops.proofs.Renaming.{used-with_registers, defined-with_registers}
 use Rattle.iloc_meaning.specs.Effect.{effect}
@@ -27,13 +24,11 @@ use Rattle.iloc_sched.proofs.Renamed.WithoutNops.{is_nop-with_registers, outcome
 -- an operation that is renamed defines the register that is named for it
 own_is_defined : (d : Option Reg) (r own : Reg) → is_register r d ≡ true → is_register own (option_map (λ q. own) d)
     ≡ true
-own_is_defined None r own is = absurd cc
-own_is_defined (Some q) r own is = eq-eqb own.0 own.0 refl
+own_is_defined d r own is = grind (arith, eq-eqb)
 
 other_is_not : (d : Option Reg) (other own : Reg) → ((q : Reg) → d ≡ Some q → other.0 ≢ own.0)
     → is_register other (option_map (λ q. own) d) ≡ false
-other_is_not None other own apart = refl
-other_is_not (Some q) other own apart = ne_eqb other.0 own.0 (apart q refl)
+other_is_not d other own apart = grind (arith, ne_eqb)
 
 -- the operations, renamed
 abbrev new : List Op → List Op
@@ -41,8 +36,7 @@ new ops = renamed_by ops (numbering ops)
 
 pub defined_at : (ops : List Op) (i : ℕ) → i < length ops
     → defined (op_at (new ops) i) ≡ option_map (λ r. name_of (numbering ops) (Result i)) (defined (op_at ops i))
-defined_at ops i below = ap defined (renamed_op_at ops (numbering ops) i below)
-    ∙ defined-with_registers _ _ (op_at ops i)
+defined_at ops i below = grind (arith, defined-with_registers, renamed_op_at)
 
 used_at : (ops : List Op) (i : ℕ) → i < length ops
     → used (op_at (new ops) i) ≡ map (λ r. name_of (numbering ops) (source ops i r)) (used (op_at ops i))
@@ -102,22 +96,14 @@ outcome_new ops memory =
 
 pub renaming_keeps_the_outcome : (block : List Op) (memory : List ℤ) → outcome (renamed block) memory
     ≡ outcome block memory
-renaming_keeps_the_outcome block memory =
-    outcome_new (without_nops block) memory ∙ outcome_without_nops block memory
+renaming_keeps_the_outcome block memory = grind (arith, outcome_new, outcome_without_nops)
 
 -- what defines or uses a register is an operation of the block
 defining_within : (ops : List Op) (i : ℕ) (r : Reg) → defined (op_at ops i) ≡ Some r → i < length ops
-defining_within ops i r is = elim (cases_lt i (length ops)) [
-  | inl below ↦ below
-  | inr past ↦ let none : op_at ops i ≡ Nop = get_or_past ops i Nop past in
-      absurd (let no : None ≡ Some r = rw none at is in cc)
-]
+defining_within ops i r is = grind (arith, get_or_past)
 
 using_within : (ops : List Op) (i : ℕ) (r : Reg) → In (used (op_at ops i)) r → i < length ops
-using_within ops i r there = elim (cases_lt i (length ops)) [
-  | inl below ↦ below
-  | inr past ↦ let none : op_at ops i ≡ Nop = get_or_past ops i Nop past in absurd (rw none at there)
-]
+using_within ops i r there = grind (arith, get_or_past)
 
 mapped : {X Y : Type 0} (f : X → Y) (xs : List X) (y : Y) → In (map f xs) y → (x : X) × In xs x × (f x ≡ y)
 mapped f [] y there = absurd there
@@ -130,32 +116,18 @@ record Defines (ops : List Op) (i : ℕ) (r : Reg) : Type 0 where
   name : name_of (numbering ops) (Result i) ≡ r
 
 pub named_defined : (d : Option Reg) (own r : Reg) → option_map (λ q. own) d ≡ Some r → (q : Reg) × (d ≡ Some q) × (own ≡ r)
-named_defined None own r is = absurd cc
-named_defined (Some q) own r is = (q, refl, cc)
+named_defined d own r is = grind arith
 
 defines_new : (ops : List Op) (i : ℕ) (r : Reg) → i < length ops → defined (op_at (new ops) i) ≡ Some r
     → Defines ops i r
-defines_new ops i r below is =
-    let found = named_defined (defined (op_at ops i)) (name_of (numbering ops) (Result i)) r
-    (sym (defined_at ops i below) ∙ is) in
-    record { stands = definition_numbered ops i found.0 below found.1; name = found.2 }
+defines_new ops i r below is = grind (arith, defined_at, definition_numbered, named_defined)
 
 no_nop : (block : List Op) (i : ℕ) → i < length (without_nops block) → is_nop (op_at (without_nops block) i) ≡ false
-no_nop block i below =
-    let passed : not (is_nop (op_at (without_nops block) i)) ≡ true =
-    All-get_or (λ op. not (is_nop op) ≡ true) (without_nops block) i Nop below
-    (filter_passes (λ op. not (is_nop op)) block) in
-    by_bool (is_nop (op_at (without_nops block) i)) (λ t. absurd (let no : false ≡ true = rw t at passed in cc))
-    (λ f. f)
+no_nop block i below = grind (arith, All-get_or, filter_passes)
 
 renamed_once : (ops : List Op) (i j : ℕ) (r : Reg) → defined (op_at (new ops) i) ≡ Some r
     → defined (op_at (new ops) j) ≡ Some r → i ≡ j
-renamed_once ops i j r first second =
-    let at_i = defines_new ops i r (rw length-renamed_by at (defining_within (new ops) i r first)) first in
-    let at_j = defines_new ops j r (rw length-renamed_by at (defining_within (new ops) j r second)) second in
-    let same : Result i ≡ Result j = name_apart (numbering ops) (Result i) (Result j) at_i.stands at_j.stands
-    (at_i.name ∙ sym at_j.name) in
-    cc
+renamed_once ops i j r first second = grind (arith, defines_new, defining_within, length-renamed_by, name_apart)
 
 renamed_before : (ops : List Op) (i j : ℕ) (r : Reg) → In (used (op_at (new ops) i)) r
     → defined (op_at (new ops) j) ≡ Some r → j < i

@@ -13,14 +13,12 @@ use Rattle.iloc_ops.specs.Operands.{operands_in}
 use Rattle.iloc_ops.specs.Registers.{used, defined, used_in, defined_in, renumbered, with_registers}
 use Rattle.iloc_ops.proofs.Renaming.{with_registers-same}
 use Rattle.iloc_meaning.specs.Trace.{op_at, is_register}
-use Rattle.iloc_meaning.proofs.Cases.{by_bool}
 use Rattle.iloc_sched.specs.Renaming.{Source, is_source, source, own_source, numbering, name_of, renamed_op, renamed_by, is_nop, without_nops, renamed}
 use Rattle.iloc_sched.specs.Renaming.Source.{Result}
 use Rattle.iloc_sched.specs.Steps.Renaming.NamingWalk.{Stands, also, also_all, Follows, NamesNext, NamesUse, NamesDefinition, Named, numbering_with, UsesNamed, NextNamed, NamesAll, next_renamed}
 use Rattle.iloc_sched.specs.Steps.Members.{In}
 use Rattle.iloc_sched.proofs.Basics.Members.{in_map}
 use Rattle.iloc_sched.proofs.Renamed.MentionedSources.{use_numbered, definition_numbered, length-renamed_by}
-use Rattle.std.proofs.Math.Path.{fun_ext}
 use Rattle.iloc_sched.proofs.Renamed.GivenNames.{place_new, define_new}
 use Rattle.iloc_sched.proofs.Renamed.OneMoreOperation.{map_same, op_at_kept, op_at_last, source_kept, length_more, also_all-append, numbering_more, name_also_all, used_stands}
 
@@ -37,9 +35,7 @@ use_stands done uses r there =
 
 with_more : (done : List Op) (uses : List Reg) (r : Reg) → numbering_with done (uses ++ r ∷ [])
     ≡ also (numbering_with done uses) (source done (length done) r)
-with_more done uses r =
-    ap (also_all (numbering done)) (map-append (source done (length done)) uses (r ∷ []))
-    ∙ also_all-append (numbering done) (map (source done (length done)) uses) (source done (length done) r ∷ [])
+with_more done uses r = grind (arith, also_all-append, map-append)
 
 -- one more use
 pub uses_more : (done : List Op) (uses names : List Reg) (given given' : ℕ) (current current' : Reg → Option ℕ)
@@ -74,8 +70,7 @@ use_named_next done uses names given given' current current' r name step named =
 -- the sources of registers after one more operation
 source_more : (done : List Op) (op : Op) → source (done ++ op ∷ []) (suc (length done))
     ≡ (λ r. if is_register r (defined op) then Result (length done) else source done (length done) r)
-source_more done op = fun_ext (λ r. rw (op_at_last done op, source_kept done op (length done) r (omega arith))
-    refl)
+source_more done op = grind (arith, op_at_last, source_kept)
 
 whole : (done : List Op) (op : Op) (given : ℕ) (current : Reg → Option ℕ)
     → Follows (suc (length done)) (also_all (numbering_with done (used op)) (own_source (length done) (defined op)))
@@ -97,9 +92,7 @@ named_without done op names given current named none =
 
 own_is_new : (n : ℕ) (sources : List Source) (now : Reg → Source) (given : ℕ) (current : Reg → Option ℕ)
     → Follows n sources now given current → list_any (is_source (Result n)) sources ≡ false
-own_is_new n sources now given current follows =
-    by_bool (list_any (is_source (Result n)) sources) (λ b. absurd (let below : n < n = follows.results n b in
-    omega arith)) (λ b. b)
+own_is_new n sources now given current follows = grind arith
 
 -- an operation that defines a register
 pub named_with : (done : List Op) (op : Op) (names : List Reg) (given given' : ℕ) (current current' : Reg → Option ℕ)
@@ -115,8 +108,7 @@ named_with done op names given given' current current' r named is next =
 
 own_same : (d : Option Reg) (own own' : Reg) → ((r : Reg) → d ≡ Some r → own ≡ own')
     → option_map (λ r. own) d ≡ option_map (λ r. own') d
-own_same None own own' same = refl
-own_same (Some r) own own' same = ap Some (same r refl)
+own_same d own own' same = grind arith
 
 -- the renamed operation
 pub renamed_next : (done : List Op) (op : Op) (names : List Reg) (given : ℕ) (current : Reg → Option ℕ)
@@ -273,9 +265,7 @@ next_pushed done ops more op next before is pushed = rw (pushed, before, is) (sy
 
 -- what comes after a block and is no `nop` isn't left out
 pub without_nops_more : (past : List Op) (op : Op) → is_nop op ≡ false → without_nops (past ++ op ∷ []) ≡ without_nops past ++ op ∷ []
-without_nops_more past op is_not =
-    filter-append (λ q. not (is_nop q)) past (op ∷ [])
-    ∙ ap (λ b. without_nops past ++ cond (not b) (op ∷ []) []) is_not
+without_nops_more past op is_not = grind (arith, filter-append)
 
 -- a loop over a block passes a `nop`
 pub nop_passed : (block : List Op) (i : ℕ) (other : Op) → i < length block → is_nop (get_or block i other) ≡ true
@@ -295,19 +285,12 @@ op_taken block i other below is_not =
 -- all of a block is renamed
 pub all_renamed : (block items : List Op) (i : ℕ) (ops : List Op) → length items ≤ i → items ≡ block
     → ops ≡ renamed_by (without_nops (take i items)) (numbering (without_nops (take i items))) → ops ≡ renamed block
-all_renamed block items i ops past same are =
-    are ∙ ap renamed (take_all i items past ∙ same)
+all_renamed block items i ops past same are = grind (arith, take_all)
 
 shorter : (block : List Op) → length (without_nops block) ≤ length block
 shorter [] = omega arith
-shorter (op ∷ rest) =
-    let less : length (without_nops rest) ≤ length rest = shorter rest in
-    by_bool (is_nop op) (λ t. rw t (omega arith)) (λ t. rw t (omega arith))
+shorter (op ∷ rest) = grind (arith, shorter rest)
 
 -- no operation is added
 pub renamed_fits : (block : List Op) → length (renamed block) ≤ length block
-renamed_fits block = omega (
-  arith,
-  length-renamed_by (without_nops block) (numbering (without_nops block)),
-  shorter block,
-)
+renamed_fits block = grind (arith, length-renamed_by, shorter)

@@ -1,11 +1,7 @@
 -- Traces with the same effects, one by one, have the same outcome; for `rename` (`outcome`).
-use Rattle.std.proofs.Common.{◌≡◌, ℕ, if◌then◌else◌, List, [], ◌∷◌, ℤ, refl, ap}
-use Rattle.std.proofs.Math.Path.{fun_ext}
-use Rattle.iloc_meaning.specs.declared.outcome.Outcome.TheVariants.{Finished, Fault}
-use Rattle.iloc_meaning.specs.Memory.{with_words}
-use Rattle.iloc_meaning.specs.Trace.{Executed, is_write_to, word_after}
+use Rattle.std.proofs.Common.{arith, ◌≡◌, ℕ, List, [], ◌∷◌, ℤ, refl}
+use Rattle.iloc_meaning.specs.Trace.{Executed, word_after}
 use Rattle.iloc_meaning.specs.Outcome.{has_fault, emitted, outcome_of}
-use Rattle.iloc_meaning.proofs.Cases.{by_bool}
 
 -- two traces from one memory end alike, whatever their registers are
 pub record SameEnd (memory : List ℤ) (trace other : List Executed) : Type 0 where
@@ -15,10 +11,7 @@ pub record SameEnd (memory : List ℤ) (trace other : List Executed) : Type 0 wh
 
 pub same_outcome : (memory : List ℤ) (trace other : List Executed) → SameEnd memory trace other
     → outcome_of memory trace ≡ outcome_of memory other
-same_outcome memory trace other same =
-    rw (same.faults, same.outputs)
-    (ap (λ (words : ℕ → ℤ). if has_fault other then Fault else Finished (emitted other) (with_words memory words))
-    (fun_ext same.words))
+same_outcome memory trace other same = grind arith
 
 -- each operation of the one has the effect of its fellow in the other
 abbrev pub SameEffects : List Executed → List Executed → Type 0
@@ -32,10 +25,7 @@ pub same_words : (memory : List ℤ) (trace other : List Executed) → SameEffec
 same_words memory [] [] same a = refl
 same_words memory [] (f ∷ others) same a = absurd same
 same_words memory (e ∷ trace) [] same a = absurd same
-same_words memory (e ∷ trace) (f ∷ others) same a =
-    by_bool (is_write_to a f.effect)
-    (λ w. rw (same.0, w) refl)
-    (λ w. rw (same.0, w) (same_words memory trace others same.1 a))
+same_words memory (e ∷ trace) (f ∷ others) same a = grind (arith, same_words memory trace others same.1 a)
 
 same_outputs : (trace other : List Executed) → SameEffects trace other → emitted trace ≡ emitted other
 same_outputs [] [] same = refl
@@ -50,8 +40,4 @@ same_faults (e ∷ trace) [] same = absurd same
 same_faults (e ∷ trace) (f ∷ others) same = rw (same.0, same_faults trace others same.1) refl
 
 pub same_end : (memory : List ℤ) (trace other : List Executed) → SameEffects trace other → SameEnd memory trace other
-same_end memory trace other same = record {
-  words = same_words memory trace other same;
-  outputs = same_outputs trace other same;
-  faults = same_faults trace other same;
-}
+same_end memory trace other same = grind (arith, same_faults, same_outputs, same_words)

@@ -1,13 +1,13 @@
 -- A block without its `nop`s has the block's outcome; for `rename` (`outcome`).
-use Rattle.std.proofs.Common.{◌≡◌, ℕ, zero, suc, ◌+◌, ◌<◌, true, List, [], ◌∷◌, length, drop, ℤ, refl, sym, ap, ◌∙◌, arith, append-nil}
+use Rattle.std.proofs.Common.{◌≡◌, ℕ, zero, suc, ◌+◌, true, List, [], ◌∷◌, length, drop, ℤ, refl, arith, append-nil}
 use Rattle.std.proofs.Math.Seq.{drop-cons, drop-length}
 use Rattle.iloc_ops.specs.declared.op.Reg.{Reg}
 use Rattle.iloc_ops.specs.declared.op.Op.{Op}
-use Rattle.iloc_ops.specs.declared.op.Op.TheVariants.{Load, Nop}
-use Rattle.iloc_ops.specs.Registers.{defined, with_registers}
+use Rattle.iloc_ops.specs.declared.op.Op.TheVariants.{Nop}
+use Rattle.iloc_ops.specs.Registers.{with_registers}
 use Rattle.iloc_meaning.specs.declared.effect.Effect.{Effect}
-use Rattle.iloc_meaning.specs.Trace.{Executed, result_of, is_register, is_write_to, register_after, then_executed, before}
-use Rattle.iloc_meaning.specs.Outcome.{emitted, outcome}
+use Rattle.iloc_meaning.specs.Trace.{Executed, register_after, then_executed, before}
+use Rattle.iloc_meaning.specs.Outcome.{outcome}
 use Rattle.iloc_meaning.proofs.Cases.{by_bool}
 use Rattle.iloc_meaning.proofs.Effects.{effect_same}
 use Rattle.iloc_sched.specs.Renaming.{is_nop, without_nops}
@@ -22,41 +22,22 @@ pub record Alike (memory : List ℤ) (trace other : List Executed) : Type 0 wher
 alike_more : (memory : List ℤ) (trace other : List Executed) (op : Op) (e e' : Effect) → e ≡ e'
     → Alike memory trace other → Alike memory (record { op = op; effect = e } ∷ trace)
     (record { op = op; effect = e' } ∷ other)
-alike_more memory trace other op e e' same alike = record {
-  registers = λ r. by_bool (is_register r (defined op)) (λ d. rw d (ap result_of same)) (λ d. rw d (alike.registers r));
-  end = record {
-    words = λ a. rw same (by_bool (is_write_to a e') (λ w. rw w refl) (λ w. rw w (alike.end.words a)));
-    outputs = rw (same, alike.end.outputs) refl;
-    faults = rw (same, alike.end.faults) refl;
-  };
-}
+alike_more memory trace other op e e' same alike = grind arith
 
 alike_after : (memory : List ℤ) (trace other : List Executed) (op : Op) → Alike memory trace other
     → Alike memory (then_executed memory op trace) (then_executed memory op other)
-alike_after memory trace other op alike =
-    alike_more memory trace other op _ _ (effect_same op _ _ _ _ (λ r there. alike.registers r)
-    (λ a good. alike.end.words a)) alike
+alike_after memory trace other op alike = grind (arith, alike_more, effect_same)
 
 pub is_nop-true : (op : Op) → is_nop op ≡ true → op ≡ Nop
-is_nop-true Nop is = refl
-is_nop-true _ is = absurd cc
+is_nop-true op is = grind arith
 
 pub is_nop-with_registers : (new : Reg → Reg) (own : Reg) (op : Op) → is_nop (with_registers new own op) ≡ is_nop op
-is_nop-with_registers new own (Load addr dest) = refl
-is_nop-with_registers new own _ = refl
+is_nop-with_registers new own op = grind arith
 
 -- a `nop` changes nothing
 alike_nop : (memory : List ℤ) (trace other : List Executed) (op : Op) → is_nop op ≡ true → Alike memory trace other
     → Alike memory trace (then_executed memory op other)
-alike_nop memory trace other op is alike =
-    rw (is_nop-true op is) record {
-      registers = alike.registers;
-      end = record {
-        words = alike.end.words;
-        outputs = alike.end.outputs ∙ sym (append-nil (emitted other));
-        faults = alike.end.faults;
-      };
-    }
+alike_nop memory trace other op is alike = grind (arith, append-nil, is_nop-true)
 
 -- the trace from there through these operations
 abbrev onward : List ℤ → List Op → List Executed → List Executed
@@ -74,11 +55,8 @@ onward_alike memory (op ∷ rest) trace other alike =
 -- the operations that are left lead to the whole trace
 onward_rest : (memory : List ℤ) (ops : List Op) (left i : ℕ) → left + i ≡ length ops
     → onward memory (drop i ops) (before memory ops i) ≡ before memory ops (length ops)
-onward_rest memory ops zero i all =
-    let last : i ≡ length ops = omega arith in rw (last, drop-length ops) refl
-onward_rest memory ops (suc left) i all =
-    let within : i < length ops = omega arith in
-    rw (drop-cons ops i Nop) (onward_rest memory ops left (suc i) (omega arith))
+onward_rest memory ops zero i all = grind (arith, drop-length)
+onward_rest memory ops (suc left) i all = grind (arith, drop-cons, onward_rest memory ops left (suc i))
 
 onward_all : (memory : List ℤ) (ops : List Op) → onward memory ops [] ≡ before memory ops (length ops)
 onward_all memory ops = onward_rest memory ops (length ops) 0 (omega arith)

@@ -8,16 +8,12 @@ use Rattle.iloc_sched.proofs.Basics.Cases.{by_eq, by_lt, not_both, same_some, no
 
 -- what passes below n is at most the last that does
 pub up_to_last : (P : ℕ → Type 0) (n : ℕ) (last : Option ℕ) (x : ℕ) → IsLast P n last → x < n → P x → UpTo last x
-up_to_last P n None x is below passes = is x below passes
-up_to_last P n (Some m) x is below passes = by_lt m x (λ more. absurd (is.2 x more below passes)) (λ less. less)
+up_to_last P n last x is below passes = grind arith
 
 -- what waits for edges is within all edges
 pub within_count : (graph : Graph) → IsGraph graph → (j x : ℕ) → j < graph.ops → x < graph.start (j + 1)
     → x < graph.count
-within_count graph is j x there below =
-    let more : graph.start (j + 1) ≤ graph.start graph.ops = is.rises (j + 1) graph.ops (omega arith) (omega arith) in
-    let last : graph.start graph.ops ≡ graph.count = is.last in
-    omega arith
+within_count graph is j x there below = grind arith
 
 -- i is issued at cycle c: the edges out of it are unmet still
 pub begins : (graph : Graph) (w : Progress) (f i c : ℕ) (issued' : ℕ → Option ℕ) → IsGraph graph
@@ -70,8 +66,7 @@ begins graph w f i c issued' is waits can before at others =
 -- of the edges out of i up to x those other than x are up to the one before it
 pub up_to_previous : (graph : Graph) → IsGraph graph → (x y : ℕ) → x < graph.count → graph.from y ≡ graph.from x → y ≤ x
     → y ≢ x → UpTo (graph.previous x) y
-up_to_previous graph is x y there same most apart =
-    up_to_last (λ z. graph.from z ≡ graph.from x) x (graph.previous x) y (is.previous_edges x there) (omega arith) same
+up_to_previous graph is x y there same most apart = grind (arith, up_to_last)
 
 -- the edge before x out of the same operation is another
 below_last : (P : ℕ → Type 0) (n : ℕ) (last : Option ℕ) (y : ℕ) → IsLast P n last → UpTo last y → y < n
@@ -79,8 +74,7 @@ below_last P n None y last up = absurd up
 below_last P n (Some m) y last up = let below : m < n = last.0 in omega arith
 
 pub previous_below : (graph : Graph) → IsGraph graph → (x y : ℕ) → x < graph.count → UpTo (graph.previous x) y → y < x
-previous_below graph is x y there =
-    below_last (λ z. graph.from z ≡ graph.from x) x (graph.previous x) y (is.previous_edges x there)
+previous_below graph is x y there = grind (arith, below_last)
 
 module _ (graph : Graph) (w : Progress) (f i x : ℕ) (is : IsGraph graph) (waits : Waits graph w f i (Some x))
     (there : x < graph.count) (from_i : graph.from x ≡ i) where
@@ -107,13 +101,7 @@ module _ (graph : Graph) (w : Progress) (f i x : ℕ) (is : IsGraph graph) (wait
   -- no other operation has
   others_same : (k : ℕ) → k < graph.ops → k ≢ graph.to x
       → w.unmet k ≡ count_from (without waits.is_unmet x) (graph.start k) (graph.start (k + 1) - graph.start k)
-  others_same k within apart =
-      let up : graph.start k ≤ graph.start (k + 1) = is.rises k (k + 1) (omega arith) (omega arith) in
-      waits.unmet k within
-      ∙ sym (count_same waits.is_unmet (without waits.is_unmet x) (graph.start k) (graph.start (k + 1) - graph.start k)
-      (λ y from below. without_other waits.is_unmet x y
-      (λ same. apart (sym (is.into k x within (subst (λ a. graph.start k ≤ a) same from)
-      (subst (λ a. a < graph.start (k + 1)) same (omega arith)))))))
+  others_same k within apart = grind (arith, count_same, without, without_other)
 
 -- of n operations j alone goes into bucket b, where it has come to its last edge
 pub record Enters (n : ℕ) (bucket bucket' : ℕ → ℕ → Bool) (b j : ℕ) (at_end : Type 0) : Type 0 where

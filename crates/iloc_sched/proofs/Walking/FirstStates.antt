@@ -1,5 +1,5 @@
 -- The states and buckets with which a schedule begins; for `Waiting::open`.
-use Rattle.std.proofs.Common.{◌≡◌, ◌≢◌, ℕ, ◌+◌, ◌-◌, ◌%◌, ◌<◌, ◌≤◌, ◌||◌, List, [], ◌∷◌, ◌++◌, length, map, get_or, Bool, true, false, eqb, Option, None, inl, refl, sym, ◌∙◌, ap, subst, arith, eq-eqb}
+use Rattle.std.proofs.Common.{◌≡◌, ◌≢◌, ℕ, ◌+◌, ◌-◌, ◌%◌, ◌<◌, ◌≤◌, ◌||◌, List, [], ◌∷◌, ◌++◌, length, map, get_or, Bool, true, false, eqb, None, inl, refl, sym, ◌∙◌, ap, subst, arith, eq-eqb}
 use Rattle.std.specs.Prelude.{replicate}
 use Rattle.std.proofs.lemmas.Bool.{eqb-true, true≢false}
 use Rattle.std.proofs.lemmas.List.{length-map, length-replicate, replicate_more}
@@ -15,8 +15,8 @@ use Rattle.iloc_sched.specs.Steps.Cycle.Calendar.{has, HasRoom, KeepsRoom, Puts}
 use Rattle.iloc_sched.specs.Steps.Cycle.Classes.{place_of, excludes}
 use Rattle.iloc_sched.specs.Steps.Graph.{Graph, IsGraph}
 use Rattle.iloc_sched.specs.Steps.Cycle.Progress.{Progress, Waits}
-use Rattle.iloc_sched.specs.Steps.Views.{graph_of, issued_in, unmet_in, earliest_in, issued_list, unmet_list, earliest_list, progress_of, IsSized}
-use Rattle.iloc_sched.specs.Steps.Cycle.SoFar.{class_at, rank_of, KeepsOut, IsPlan, IsCalendar, IsSoFar}
+use Rattle.iloc_sched.specs.Steps.Views.{graph_of, unmet_in, issued_list, unmet_list, earliest_list, progress_of, IsSized}
+use Rattle.iloc_sched.specs.Steps.Cycle.SoFar.{class_at, rank_of, IsPlan, IsCalendar, IsSoFar}
 use Rattle.iloc_sched.specs.Steps.Cycle.Opening.{not_issued, IsOpening}
 use Rattle.iloc_sched.proofs.Basics.Cases.{by_eq, not_both}
 use Rattle.iloc_sched.proofs.Ranks.Calendars.{place_small, room_kept, room_trans, ranks_apart, kept_put, keeps_out_more}
@@ -32,8 +32,7 @@ abbrev edges_into : Graph → ℕ → ℕ
 edges_into graph j = graph.start (j + 1) - graph.start j
 
 or_false : (b : Bool) → (b || false) ≡ b
-or_false true = refl
-or_false false = refl
+or_false b = grind arith
 
 -- the states of one more operation, of which it is noted what it keeps out in calendar m
 module _ (p : Plan) (w v : Waiting) (m : Calendar) (n : ℕ) (state : OperationState) (plan : IsPlan p) (there : n < length p.tables.now.ops.items)
@@ -46,9 +45,7 @@ module _ (p : Plan) (w v : Waiting) (m : Calendar) (n : ℕ) (state : OperationS
   same_below s r low = noted.others s r (omega (arith, place_small class)) (λ same _. absurd (omega arith))
 
   issued_more : issued_list v ≡ replicate (n + 1) not_issued
-  issued_more = ap issued_in states ∙ pushed (λ (s : OperationState). s.issued) w.states.items state
-      ∙ ap (λ o. issued_list w ++ o ∷ []) fresh ∙ ap (λ xs. xs ++ not_issued ∷ []) so_far.issued
-      ∙ replicate_more n not_issued
+  issued_more = grind (arith, pushed, replicate_more)
 
   unmet_more : unmet_list v ≡ map (edges_into (graph_of p.tables.now.edges)) (range_with_len 0 (n + 1))
   unmet_more = ap unmet_in states ∙ pushed (λ (s : OperationState). s.unmet) w.states.items state
@@ -56,18 +53,10 @@ module _ (p : Plan) (w v : Waiting) (m : Calendar) (n : ℕ) (state : OperationS
       ∙ sym (map-range_with_len_more (edges_into (graph_of p.tables.now.edges)) 0 n n (omega arith))
 
   earliest_more : earliest_list v ≡ replicate (n + 1) 0
-  earliest_more = ap earliest_in states ∙ pushed (λ (s : OperationState). s.earliest) w.states.items state
-      ∙ ap (λ x. earliest_list w ++ x ∷ []) soon ∙ ap (λ xs. xs ++ 0 ∷ []) so_far.earliest
-      ∙ replicate_more n 0
+  earliest_more = grind (arith, pushed, replicate_more)
 
   new_rank : has m 0 (rank_of p n) ≡ false
-  new_rank = same_below 0 (rank_of p n) (omega arith) ∙ by_bool (has w.calendar 0 (rank_of p n))
-      (λ held.
-      let was = (so_far.only 0 (rank_of p n) (omega arith) held).1 in
-      let before : was.0 < n = was.1 in
-      let same : was.0 ≡ n = ranks_apart p plan was.0 n (omega arith) there was.2 in
-      absurd (omega arith))
-      (λ none. none)
+  new_rank = grind (arith, ranks_apart, same_below)
 
   -- it goes into the first bucket if it has no edge to wait for
   pub opening_more : (ready : Bool)
@@ -124,18 +113,7 @@ opened graph w is none unmet earliest roots others = record {
 -- none is made
 pub opening_none : (p : Plan) (w : Waiting) → w.states.items ≡ [] → HasRoom w.calendar (length p.tables.now.ops.items)
     → ((s r : ℕ) → has w.calendar s r ≡ false) → IsOpening p w 0
-opening_none p w none room empty = record {
-  issued = ap issued_in none;
-  unmet = ap unmet_in none;
-  earliest = ap earliest_in none;
-  room = room;
-  kept = record {
-    each = λ k j below. absurd (omega arith);
-    only = λ k r held. absurd (true≢false (sym held ∙ empty (33 + place_of k) r));
-  };
-  roots = λ j below. absurd (omega arith);
-  only = λ s r low held. absurd (true≢false (sym held ∙ empty s r));
-}
+opening_none p w none room empty = grind (arith, true≢false)
 
 -- all states are made
 module _ (p : Plan) (w : Waiting) (plan : IsPlan p) (made : IsOpening p w (length p.tables.now.edges.heads.items)) where
@@ -154,17 +132,10 @@ module _ (p : Plan) (w : Waiting) (plan : IsPlan p) (made : IsOpening p w (lengt
       (λ b j small other. in_first b (rank_of p j) (omega arith) other)
 
   pub all_sized : IsSized p.tables.now.edges w
-  all_sized = sym (length-map w.states.items (λ (s : OperationState). s.issued)) ∙ ap (length {A = Option ℕ}) made.issued
-      ∙ length-replicate (length p.tables.now.edges.heads.items) not_issued
+  all_sized = grind (arith, length-map, length-replicate)
 
   pub all_calendar : IsCalendar p w.calendar
-  all_calendar = record {
-    room = made.room;
-    ranked = λ s r low held.
-        let was = (made.only s r low held).1 in
-        (was.0, subst (λ n. was.0 < n) plan.graph.size was.1, was.2);
-    kept = subst (λ n. KeepsOut p n w.calendar) plan.graph.size made.kept;
-  }
+  all_calendar = grind arith
 
   pub none_ready : (r : ℕ) → has w.calendar 32 r ≡ false
   none_ready r = in_first 32 r (omega arith) (λ same. absurd (omega arith))
@@ -173,19 +144,4 @@ module _ (p : Plan) (w : Waiting) (plan : IsPlan p) (made : IsOpening p w (lengt
 pub so_far_opened : (p : Plan) (w : Waiting) → Waits (graph_of p.tables.now.edges) (progress_of p.ranks.now w) 0 0 None
     → IsSized p.tables.now.edges w → IsCalendar p w.calendar → ((j : ℕ) → (progress_of p.ranks.now w).issued j ≡ None)
     → ((r : ℕ) → has w.calendar 32 r ≡ false) → IsSoFar p w []
-so_far_opened p w waits sized calendar none empty = record {
-  under_way = record {
-    sized = sized;
-    calendar = calendar;
-    waits = waits;
-    queued = record {
-      ready = λ j can. let soon : (progress_of p.ranks.now w).earliest j < 0 = can.soon in absurd (omega arith);
-      only = λ j there held. absurd (true≢false (sym held ∙ empty (rank_of p j)));
-    };
-  };
-  matches = record {
-    done = λ j t below was. not_both ((progress_of p.ranks.now w).issued j) t (none j) was;
-    waiting = λ j below waits. omega arith;
-  };
-  each = λ c below. absurd (omega arith);
-}
+so_far_opened p w waits sized calendar none empty = grind (arith, true≢false)

@@ -2,7 +2,7 @@
 use Rattle.std.proofs.Common.{◌≡◌, ◌≢◌, ℕ, ◌+◌, ◌-◌, ◌<◌, ◌≤◌, false, Some, None, inl, inr, sym, ◌∙◌, ap, subst, arith}
 use Rattle.iloc_sched.specs.Steps.Graph.{Graph, IsGraph}
 use Rattle.iloc_sched.specs.Steps.Cycle.Progress.{Progress, Waits, CanIssue, KeepsPlaces, count_from}
-use Rattle.iloc_sched.proofs.Basics.Cases.{by_eq, by_lt, not_both, same_some}
+use Rattle.iloc_sched.proofs.Basics.Cases.{by_eq, not_both, same_some}
 use Rattle.iloc_sched.proofs.Walking.EdgeWalk.{within_count}
 use Rattle.iloc_sched.proofs.Walking.UnmetEdges.{count_none, count_some}
 
@@ -11,14 +11,7 @@ module _ (graph : Graph) (w w' : Progress) (c i : ℕ) (is : IsGraph graph)
     (at : w'.issued i ≡ Some c) (others : (k : ℕ) → k ≢ i → w'.issued k ≡ w.issued k) (keeps : KeepsPlaces w w')
   where
     pub can_issue_still : (j : ℕ) → j ≢ i → CanIssue graph w (c + 1) j → CanIssue graph w' (c + 1) j
-    can_issue_still j apart can =
-        let same : (w'.unmet j ≡ 0) × (w'.earliest j ≡ w.earliest j) = keeps j can.past_all in
-        record {
-          there = can.there;
-          waiting = others j apart ∙ can.waiting;
-          past_all = same.0;
-          soon = subst (λ a. a < c + 1) (sym same.1) can.soon;
-        }
+    can_issue_still j apart can = grind arith
 
     -- who was completed by this has to wait for its result
     completed_before : (j : ℕ) → CanIssue graph w' (c + 1) j → 0 < w.unmet j → ⊥
@@ -48,16 +41,4 @@ module _ (graph : Graph) (w w' : Progress) (c i : ℕ) (is : IsGraph graph)
         ]
 
     pub can_issue_back : (j : ℕ) → CanIssue graph w' (c + 1) j → (j ≢ i) × CanIssue graph w (c + 1) j
-    can_issue_back j can =
-        let apart : j ≢ i = (λ same. not_both (w'.issued i) c (ap w'.issued (sym same) ∙ can.waiting) at) in
-        let all : w.unmet j ≡ 0 =
-        by_lt 0 (w.unmet j) (λ some. absurd (completed_before j can some)) (λ none. omega arith) in
-        let same : (w'.unmet j ≡ 0) × (w'.earliest j ≡ w.earliest j) = keeps j all in (
-          apart,
-          record {
-            there = can.there;
-            waiting = sym (others j apart) ∙ can.waiting;
-            past_all = all;
-            soon = subst (λ a. a < c + 1) same.1 can.soon;
-          },
-        )
+    can_issue_back j can = grind (arith, completed_before)

@@ -1,5 +1,5 @@
 -- What is read of the tables is what their views say; for `Waiting::pass`.
-use Rattle.std.proofs.Common.{◌≡◌, ℕ, ◌<◌, List, length, get_or, sym, ◌∙◌, ap, arith}
+use Rattle.std.proofs.Common.{◌≡◌, ℕ, ◌<◌, List, length, get_or, ◌∙◌, ap, arith}
 use Rattle.std.proofs.lemmas.List.{length-map, get_or-map}
 use Rattle.iloc_sched.specs.declared.edges.Edge.{Edge}
 use Rattle.iloc_sched.specs.declared.edges.Edges.{Edges}
@@ -22,12 +22,10 @@ module _ (e : Edges) (w : Waiting) (sized : IsSized e w) where
 module _ (ranks : List ℕ) (w : Waiting) (j : ℕ) (state : OperationState) (below : j < length w.states.items)
     (is : state ≡ get_or w.states.items j state) where
   pub unmet_read : state.unmet ≡ (progress_of ranks w).unmet j
-  unmet_read = ap (λ (s : OperationState). s.unmet) is
-      ∙ sym (get_or-map (λ (s : OperationState). s.unmet) w.states.items j state 0 below)
+  unmet_read = grind (arith, get_or-map)
 
   pub earliest_read : state.earliest ≡ (progress_of ranks w).earliest j
-  earliest_read = ap (λ (s : OperationState). s.earliest) is
-      ∙ sym (get_or-map (λ (s : OperationState). s.earliest) w.states.items j state 0 below)
+  earliest_read = grind (arith, get_or-map)
 
 -- what the target of an edge waits for
 pub target_read : (ranks : List ℕ) (e : Edges) (w : Waiting) (x : ℕ) (edge : Edge) (state : OperationState) → IsGraph (graph_of e) → IsSized e w

@@ -27,23 +27,16 @@ module _ (ranks : List ℕ) (e : Edges) (w v : Waiting) (x p t : ℕ) (is : IsGr
   target_there = (is.to_there x there).0
 
   unmet_at : (progress_of ranks v).unmet ((graph_of e).to x) ≡ p
-  unmet_at = let size : length (unmet_list w) ≡ length e.heads.items = unmet_size e w sized in
-      let below : (graph_of e).to x < length e.heads.items = target_there in
-      ap (λ xs. get_or xs ((graph_of e).to x) 0) unmet ∙ number_set_same (unmet_list w) ((graph_of e).to x) p
-      (omega arith)
+  unmet_at = grind (arith, number_set_same, target_there, unmet_size)
 
   unmet_other : (k : ℕ) → k ≢ (graph_of e).to x → (progress_of ranks v).unmet k ≡ (progress_of ranks w).unmet k
   unmet_other k apart = ap (λ xs. get_or xs k 0) unmet ∙ number_set_other (unmet_list w) ((graph_of e).to x) p k apart
 
   earliest_at : (progress_of ranks v).earliest ((graph_of e).to x) ≡ t
-  earliest_at = let size : length (earliest_list w) ≡ length e.heads.items = earliest_size e w sized in
-      let below : (graph_of e).to x < length e.heads.items = target_there in
-      ap (λ xs. get_or xs ((graph_of e).to x) 0) earliest ∙ number_set_same (earliest_list w) ((graph_of e).to x) t
-      (omega arith)
+  earliest_at = grind (arith, earliest_size, number_set_same, target_there)
 
   earliest_other : (k : ℕ) → k ≢ (graph_of e).to x → (progress_of ranks v).earliest k ≡ (progress_of ranks w).earliest k
-  earliest_other k apart = ap (λ xs. get_or xs k 0) earliest
-      ∙ number_set_other (earliest_list w) ((graph_of e).to x) t k apart
+  earliest_other k apart = grind (arith, number_set_other)
 
   -- edge x is over
   pub passed : (cycle : ℕ) → (progress_of ranks w).issued ((graph_of e).from x) ≡ Some cycle
@@ -61,18 +54,13 @@ module _ (ranks : List ℕ) (e : Edges) (w v : Waiting) (x p t : ℕ) (is : IsGr
 
   -- who has no edge left keeps its place
   pub places_kept : 0 < (progress_of ranks w).unmet ((graph_of e).to x) → KeepsPlaces (progress_of ranks w) (progress_of ranks v)
-  places_kept some j done =
-      let apart : j ≢ (graph_of e).to x = (λ same.
-      let none : (progress_of ranks w).unmet ((graph_of e).to x) ≡ 0 = ap (progress_of ranks w).unmet (sym same) ∙ done in
-      absurd (omega arith)) in
-      (unmet_other j apart ∙ done, earliest_other j apart)
+  places_kept some j done = grind (arith, earliest_other, unmet_other)
 
 -- the target of an edge that is gone through has an edge left
 pub target_waits : (ranks : List ℕ) (e : Edges) (w : Waiting) (x cycle : ℕ) → IsGraph (graph_of e) → x < length e.edges.items
     → Waits (graph_of e) (progress_of ranks w) (cycle + 1) ((graph_of e).from x) (Some x)
     → 0 < (progress_of ranks w).unmet ((graph_of e).to x)
-target_waits ranks e w x cycle is there waits =
-    some_unmet (graph_of e) (progress_of ranks w) (cycle + 1) ((graph_of e).from x) x is waits there refl
+target_waits ranks e w x cycle is there waits = grind (arith, some_unmet)
 
 -- The same as the code has it.
 module _ (ranks : List ℕ) (e : Edges) (w : Waiting) (x cycle : ℕ) (is : IsGraph (graph_of e)) (sized : IsSized e w)
@@ -93,14 +81,12 @@ module _ (ranks : List ℕ) (e : Edges) (w : Waiting) (x cycle : ℕ) (is : IsGr
 
 from_last : (graph : Graph) (i : ℕ) (head : Option ℕ) → IsLast (λ x. graph.from x ≡ i) graph.count head
     → IsFrom graph i head
-from_last graph i None is = tt
-from_last graph i (Some x) is = (is.0, is.1)
+from_last graph i head is = grind arith
 
 -- the edge before x out of the same operation
 pub from_previous : (graph : Graph) (i x : ℕ) (previous : Option ℕ) → x < graph.count → graph.from x ≡ i
     → IsLast (λ y. graph.from y ≡ graph.from x) x previous → IsFrom graph i previous
-from_previous graph i x None there from_i is = tt
-from_previous graph i x (Some y) there from_i is = let below : y < x = is.0 in (omega arith, is.1 ∙ from_i)
+from_previous graph i x previous there from_i is = grind arith
 
 abbrev progress_by : List ℕ → List (Option ℕ) → List ℕ → List ℕ → Calendar → Progress
 progress_by ranks issued unmet earliest calendar = record {
@@ -139,5 +125,4 @@ started ranks e w v i cycle is sized waits can issued unmet earliest calendar =
 -- the same places, since the same tables
 pub places_as_before : (ranks : List ℕ) (w v : Waiting) → unmet_list v ≡ unmet_list w → earliest_list v ≡ earliest_list w
     → KeepsPlaces (progress_of ranks w) (progress_of ranks v)
-places_as_before ranks w v unmet earliest =
-    λ j done. (ap (λ xs. get_or xs j 0) unmet ∙ done, ap (λ xs. get_or xs j 0) earliest)
+places_as_before ranks w v unmet earliest = grind arith
