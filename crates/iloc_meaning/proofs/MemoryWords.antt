@@ -18,10 +18,7 @@ word_number a n good size = grind (arith, nat_tests)
 
 pub word_at-with_words : (memory : List ℤ) (word : ℕ → ℤ) (a : ℕ) → length memory ≡ WORDS → is_good (pos a) ≡ true
     → word_at (with_words memory word) a ≡ word a
-word_at-with_words memory word a size good =
-    get_or-map-range_with_len (λ k. word (4 * k)) 0 (length memory) (a / 4) (a / 4) (pos 0) (word_number a _ good size)
-    (omega arith)
-    ∙ ap word (four_times a good)
+word_at-with_words memory word a size good = grind (arith, get_or-map-range_with_len, word_number, four_times)
 
 -- a write at a good address changes the one word
 pub set-with_words : (memory : List ℤ) (word next : ℕ → ℤ) (a : ℕ) (w : ℤ) → length memory ≡ WORDS

@@ -1,5 +1,5 @@
 -- A memory is put back from the last write to the first.
-use Rattle.std.proofs.Common.{◌≡◌, ◌/◌, ℕ, List, [], ◌∷◌, ◌++◌, set, ℤ, pos, refl, ap, ◌∙◌}
+use Rattle.std.proofs.Common.{arith, ◌≡◌, ◌/◌, ℕ, List, [], ◌∷◌, ◌++◌, set, ℤ, refl, ap}
 use Rattle.std.proofs.lemmas.List.{set-set, set-get_or}
 use Rattle.iloc_meaning.specs.declared.scratch.Replaced.{Replaced}
 use Rattle.iloc_meaning.specs.Memory.{word_at}
@@ -14,7 +14,4 @@ put_back-last (s ∷ later) r words = ap (λ back. set back (s.address / 4) s.wo
 -- a write is undone
 pub put_back-write : (replaced : List Replaced) (words : List ℤ) (a : ℕ) (old new : ℤ) → old ≡ word_at words a
     → put_back (replaced ++ record { address = a; word = old } ∷ []) (set words (a / 4) new) ≡ put_back replaced words
-put_back-write replaced words a old new was =
-    put_back-last replaced (record { address = a; word = old }) (set words (a / 4) new)
-    ∙ ap (put_back replaced) (set-set words (a / 4) new old ∙ ap (set words (a / 4)) was
-    ∙ set-get_or words (a / 4) (pos 0))
+put_back-write replaced words a old new was = grind (arith, put_back-last, set-set, set-get_or)

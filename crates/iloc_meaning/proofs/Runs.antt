@@ -6,7 +6,6 @@ use Rattle.std.proofs.lemmas.Bool.{or_right}
 use Rattle.iloc_meaning.specs.Memory.{WORDS, word_at, with_words}
 use Rattle.iloc_ops.specs.declared.op.Reg.{Reg}
 use Rattle.iloc_ops.specs.declared.op.Op.{Op}
-use Rattle.iloc_ops.specs.declared.op.Op.TheVariants.{Nop}
 use Rattle.iloc_meaning.specs.declared.machine_state.MachineState.{MachineState}
 use Rattle.iloc_meaning.specs.declared.outcome.Outcome.TheVariants.{Fault}
 use Rattle.iloc_meaning.specs.Trace.{then_executed, before}
@@ -35,9 +34,7 @@ begins state memory size registers words outputs = record {
 -- the trace with the operation that comes next
 pub next : (memory : List ℤ) (ops items : List Op) (i : ℕ) (other : Op) → items ≡ ops → i < length items
     → before memory ops (i + 1) ≡ then_executed memory (get_or items i other) (before memory ops i)
-next memory ops items i other same within =
-    let here : get_or ops i Nop ≡ get_or items i other = rw same (get_or_default ops i Nop other (rw same at within)) in
-    rw add-one (ap (λ op. then_executed memory op (before memory ops i)) here)
+next memory ops items i other same within = grind (arith, get_or_default, add-one)
 
 -- a run that takes the next operation goes on
 pub goes_on : (memory : List ℤ) (ops items : List Op) (i : ℕ) (other : Op) (state : MachineState) → items ≡ ops

@@ -1,8 +1,7 @@
-use Rattle.std.proofs.Common.{get_or, pos, ap, ◌∙◌}
+use Rattle.std.proofs.lemmas.Grind.{common_steps}
+use Rattle.std.proofs.Common.{arith}
 use Rattle.iloc_meaning.proofs.RegisterValues.{value_of-alone}
 use Rattle.iloc_meaning.proofs.registers.Registers.new.Goals as goal
 
 pub returns : goal.returns
-returns c =
-    λ r. value_of-alone _ _ r c.new-2.ensures.empty
-    ∙ ap (λ table. get_or table r.0 (pos 0)) c.new.ensures.items
+returns c = grind (arith, value_of-alone, common_steps)
