@@ -1,5 +1,5 @@
 -- When the results of a schedule arrive.
-use Rattle.std.proofs.Common.{◌≡◌, ◌<◌, ◌≤◌, ℕ, ◌+◌, ◌==◌, ◌||◌, true, false, List, ◌++◌, length, get_or, Option, Some, None, IfSome, option_to_list, unwrap_or, max, map, arith, refl, inl, inr}
+use Rattle.std.proofs.Common.{◌≡◌, ◌<◌, ◌≤◌, ℕ, ◌+◌, ◌==◌, true, List, ◌++◌, length, get_or, Option, Some, None, IfSome, option_to_list, unwrap_or, max, map, arith, refl, inl, inr}
 use Rattle.std.specs.Prelude.{option_map}
 use Rattle.std.specs.List.{list_any, range_with_len}
 use Rattle.std.proofs.lemmas.Bool.{eqb-true, or_cases, cases_lt}
@@ -10,7 +10,6 @@ use Rattle.iloc_timed.specs.declared.latencies.Latencies.{Latencies}
 use Rattle.iloc_timed.specs.declared.row.Row.{Row}
 use Rattle.iloc_timed.specs.declared.kind.Kind.{Kind}
 use Rattle.iloc_timed.specs.declared.kind.Kind.TheVariants as K
-use Rattle.iloc_timed.specs.Kinds.{kind}
 use Rattle.iloc_timed.specs.Latency.{latency, latency_of}
 use Rattle.iloc_timed.specs.Steps.Longest.{longest}
 use Rattle.iloc_timed.specs.Rows.{row_at, slots, holds, issue_cycle, times_issued, AreNumbered, IsTable}
@@ -40,13 +39,7 @@ arrival_le_cycles lat ops rows i within =
 
 pub cycles_le : (lat : Latencies) (ops : List Op) (rows : List Row) (m : ℕ)
     → ((i : ℕ) → i < length ops → issue_cycle rows i + latency lat (op_at ops i) ≤ m) → cycles lat ops rows ≤ m
-cycles_le lat ops rows m each =
-    let f : ℕ → ℕ = λ j. issue_cycle rows j + latency lat (op_at ops j) in
-    let size : length (map f (range_with_len 0 (length ops))) ≡ length ops =
-    length-map-range_with_len f 0 (length ops) in
-    fold_max_le 0 (map f (range_with_len 0 (length ops))) m (omega arith) (λ k within.
-    let below : k < length ops = rw size at within in
-    rw (get_or-map-range_with_len f 0 (length ops) k k 0 below (omega arith)) (each k below))
+cycles_le lat ops rows m each = grind (arith, length-map-range_with_len, fold_max_le, get_or-map-range_with_len)
 
 -- what a slot of a row holds arrives by the last cycle
 slot_le_cycles : (lat : Latencies) (ops : List Op) (rows : List Row) (c : ℕ) (slot : Option ℕ) → c < length rows
@@ -95,32 +88,14 @@ one_known ops rows c table = one_numbered ops rows c (table_numbered ops rows ta
 either_arrives : (lat : Latencies) (ops : List Op) (c i : ℕ) (one zero : Option ℕ)
     → list_any (λ j. i == j) (option_to_list one ++ option_to_list zero) ≡ true
     → c + latency lat (op_at ops i) ≤ max (arrival_in lat ops c zero) (arrival_in lat ops c one)
-either_arrives lat ops c i None None any = absurd cc
-either_arrives lat ops c i None (Some z) any = elim (or_cases (i == z) false any) [
-  | inl same ↦ let is : i ≡ z = eqb-true i z same in rw is (omega arith)
-  | inr never ↦ absurd cc
-]
-either_arrives lat ops c i (Some o) None any = elim (or_cases (i == o) false any) [
-  | inl same ↦ let is : i ≡ o = eqb-true i o same in rw is (omega arith)
-  | inr never ↦ absurd cc
-]
-either_arrives lat ops c i (Some o) (Some z) any = elim (or_cases (i == o) ((i == z) || false) any) [
-  | inl same ↦ let is : i ≡ o = eqb-true i o same in rw is (omega arith)
-  | inr other ↦ elim (or_cases (i == z) false other) [
-    | inl same ↦ let is : i ≡ z = eqb-true i z same in rw is (omega arith)
-    | inr never ↦ absurd cc
-  ]
-]
+either_arrives lat ops c i one zero any = grind (arith, or_cases, eqb-true)
 
 -- what is issued in row c arrives by the greater of the two cycles
 pub issued_arrives : (lat : Latencies) (ops : List Op) (rows : List Row) (i : ℕ) → i < length ops → AreNumbered ops rows
     → issue_cycle rows i + latency lat (op_at ops i)
     ≤ max (arrival_in lat ops (issue_cycle rows i) (row_at rows (issue_cycle rows i)).zero)
     (arrival_in lat ops (issue_cycle rows i) (row_at rows (issue_cycle rows i)).one)
-issued_arrives lat ops rows i within numbered =
-    let once : times_issued rows i ≡ 1 = numbered.once i within in
-    either_arrives lat ops (issue_cycle rows i) i (row_at rows (issue_cycle rows i)).one
-    (row_at rows (issue_cycle rows i)).zero (stands_there rows i (omega arith)).1
+issued_arrives lat ops rows i within numbered = grind (arith, either_arrives, stands_there)
 
 issued_below : (ops : List Op) (rows : List Row) (i : ℕ) → i < length ops → AreNumbered ops rows
     → issue_cycle rows i < length rows
@@ -143,10 +118,7 @@ pub record IsLastFrom (lat : Latencies) (ops : List Op) (rows : List Row) (c las
 
 pub none_from_end : (lat : Latencies) (ops : List Op) (rows : List Row) → AreNumbered ops rows
     → IsLastFrom lat ops rows (length rows) 0
-none_from_end lat ops rows numbered = record {
-  most = omega arith;
-  each = λ i within from. absurd (omega (arith, issued_below ops rows i within numbered));
-}
+none_from_end lat ops rows numbered = grind (arith, issued_below)
 
 pub one_row_more : (lat : Latencies) (ops : List Op) (rows : List Row) (c last next final : ℕ) → AreNumbered ops rows
     → c < length rows → IsLastFrom lat ops rows (c + 1) last
@@ -172,13 +144,4 @@ one_row_more lat ops rows c last next final numbered within so_far first second 
 -- no row before cycle c holds what arrives later
 pub last_is_cycles : (lat : Latencies) (ops : List Op) (rows : List Row) (c last : ℕ)
     → (0 < c → c + longest lat ≤ last) → IsLastFrom lat ops rows c last → last ≡ cycles lat ops rows
-last_is_cycles lat ops rows c last past so_far =
-    let least : cycles lat ops rows ≤ last =
-    cycles_le lat ops rows last (λ i known. elim (cases_lt (issue_cycle rows i) c) [
-      | inl before ↦
-          let late : c + longest lat ≤ last = past (omega arith) in
-          let most : latency lat (op_at ops i) ≤ longest lat = latency_le_longest lat (kind (op_at ops i)) in
-          omega arith
-      | inr from ↦ so_far.each i known from
-    ]) in
-    omega (arith, so_far.most)
+last_is_cycles lat ops rows c last past so_far = grind (arith, cycles_le, cases_lt, latency_le_longest)

@@ -81,19 +81,7 @@ after_issue : (memory : List ℤ) (c due : ℕ) (op : Op) (log : List Issued) (m
     → AreUnderWay c (record { due = due; executed = record { op = op; effect = done } } ∷ log) wheel
     → Follows memory c (then_issued memory c due op log) (record machine { state = record machine.state { outputs = outputs }; wheel = wheel })
 after_issue memory c due op log machine done outputs wheel from upto follows is fine says way =
-    let same : effect op (register_in (landed c log)) (word_in memory (landed c log)) ≡ done =
-    effect_now memory c log machine op follows ∙ sym is in
-    let e : Issued = record { due = due; executed = record { op = op; effect = done } } in
-    let later : landed c (e ∷ log) ≡ landed c log = landed-later c e log from in
-    rw same record {
-      size = follows.size;
-      same_size = follows.same_size;
-      registers = λ r. follows.registers r ∙ ap (λ l. register_in l r) (sym later);
-      words = λ a good. follows.words a good ∙ ap (λ l. word_in memory l a) (sym later);
-      under_way = way;
-      all_land = (upto, record { no_fault = fine; goes = rw is (results_go op _ _) }, follows.all_land);
-      outputs = says ∙ ap (λ l. l ++ emitted_by done) follows.outputs;
-    }
+    grind (arith, effect_now, landed-later, results_go)
 
 pub after_fault : (memory : List ℤ) (c due : ℕ) (op : Op) (log : List Issued) (machine : Machine)
     → Follows memory c log machine → Faults ≡ effect op (value_of machine.state.registers) (word_at machine.state.memory.words)
@@ -140,8 +128,4 @@ pub after_nothing : (memory : List ℤ) (c due : ℕ) (op : Op) (log : List Issu
     → due < c + 16 → Follows memory c log machine
     → Nothing ≡ effect op (value_of machine.state.registers) (word_at machine.state.memory.words)
     → Follows memory c (then_issued memory c due op log) machine
-after_nothing memory c due op log machine from upto follows is =
-    let e : Issued = record { due = due; executed = record { op = op; effect = Nothing } } in
-    after_issue memory c due op log machine Nothing machine.state.outputs machine.wheel from upto follows is refl
-    (sym (append-nil machine.state.outputs.items))
-    (not_pushed c e log machine.wheel refl follows.under_way)
+after_nothing memory c due op log machine from upto follows is = grind (arith, after_issue, append-nil, not_pushed)

@@ -9,8 +9,7 @@ le_fold_max a (x ∷ xs) = let rest : max a x ≤ fold max (max a x) xs = le_fol
 
 pub item_le_fold_max : (a : ℕ) (xs : List ℕ) (k : ℕ) → k < length xs → get_or xs k 0 ≤ fold max a xs
 item_le_fold_max a [] k within = absurd (omega arith)
-item_le_fold_max a (x ∷ xs) zero within = let rest : max a x ≤ fold max (max a x) xs = le_fold_max (max a x) xs in
-    omega arith
+item_le_fold_max a (x ∷ xs) zero within = grind (arith, le_fold_max)
 item_le_fold_max a (x ∷ xs) (suc k) within = item_le_fold_max (max a x) xs k (omega arith)
 
 pub fold_max_le : (a : ℕ) (xs : List ℕ) (m : ℕ) → a ≤ m → ((k : ℕ) → k < length xs → get_or xs k 0 ≤ m)

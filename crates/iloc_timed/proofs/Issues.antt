@@ -5,18 +5,13 @@ use Rattle.std.specs.List.{list_any}
 use Rattle.std.proofs.lemmas.List.Sums.{sum_by-cons, get_or-le-sum_by}
 use Rattle.iloc_meaning.proofs.Cases.{by_bool}
 use Rattle.iloc_timed.specs.declared.row.Row.{Row}
-use Rattle.iloc_timed.specs.Rows.{empty_row, row_at, slots, holds, issue_cycle, times_issued}
+use Rattle.iloc_timed.specs.Rows.{row_at, slots, holds, issue_cycle, times_issued}
 use Rattle.iloc_timed.proofs.Counts.{count_by_some, count_by_none}
 
 -- an operation that stands in a slot of some row stands at least once
 pub stands_once : (rows : List Row) (c i : ℕ) → c < length rows → holds (row_at rows c) i ≡ true
     → 1 ≤ times_issued rows i
-stands_once rows c i within there =
-    let here : 1 ≤ count_by (λ j. i == j) (slots (row_at rows c)) =
-    count_by_some (λ j. i == j) (slots (row_at rows c)) there in
-    let all : count_by (λ j. i == j) (slots (row_at rows c)) ≤ times_issued rows i =
-    get_or-le-sum_by (λ row. count_by (λ j. i == j) (slots row)) rows c empty_row within in
-    omega arith
+stands_once rows c i within there = grind (arith, count_by_some, get_or-le-sum_by)
 
 times-cons : (row : Row) (rows : List Row) (i : ℕ) → times_issued (row ∷ rows) i ≡ count_by (λ j. i == j) (slots row)
     + times_issued rows i
@@ -43,15 +38,7 @@ issued_there (row ∷ rows) (suc c) i once within there =
 pub stands_there : (rows : List Row) (i : ℕ) → 1 ≤ times_issued rows i → (issue_cycle rows i < length rows)
     × (holds (row_at rows (issue_cycle rows i)) i ≡ true)
 stands_there [] i some = absurd (omega arith)
-stands_there (row ∷ rows) i some =
-    let both : times_issued (row ∷ rows) i ≡ count_by (λ j. i == j) (slots row) + times_issued rows i =
-    times-cons row rows i in
-    by_bool (holds row i)
-    (λ t. rw t (omega arith, t))
-    (λ f. let none : count_by (λ j. i == j) (slots row) ≡ 0 = count_by_none (λ j. i == j) (slots row) f in
-    let rest : (issue_cycle rows i < length rows) × (holds (row_at rows (issue_cycle rows i)) i ≡ true) =
-    stands_there rows i (omega arith) in
-    rw (f, add-one) (omega arith, rest.1))
+stands_there (row ∷ rows) i some = grind (arith, times-cons, by_bool, count_by_none, add-one, stands_there rows i)
 
 any_last : (one : Option ℕ) (i : ℕ) → list_any (λ j. i == j) (option_to_list one ++ option_to_list (Some i)) ≡ true
 any_last None i = or_left (i == i) false (eq-eqb i i refl)

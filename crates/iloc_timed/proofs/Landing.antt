@@ -1,16 +1,13 @@
 -- What results leave when they land.
-use Rattle.std.proofs.Common.{◌≡◌, ◌<◌, ◌≤◌, ℕ, ◌+◌, ◌==◌, ◌&&◌, nat_lt, nat_le, Bool, true, false, if◌then◌else◌, List, [], ◌∷◌, ◌++◌, Option, Some, None, IfSome, option_to_list, ℤ, pos, arith, refl, sym, ap, ◌∙◌, ne_eqb, append-nil}
+use Rattle.std.proofs.Common.{◌≡◌, ◌<◌, ◌≤◌, ℕ, ◌+◌, ◌==◌, ◌&&◌, nat_lt, nat_le, Bool, true, false, if◌then◌else◌, List, [], ◌∷◌, Option, Some, None, IfSome, option_to_list, ℤ, pos, arith, refl, sym, ap, ◌∙◌, ne_eqb, append-nil}
 use Rattle.std.specs.Prelude.{fold, find, filter, option_map}
 use Rattle.std.proofs.lemmas.Bool.{and_parts, and_right, lt-ltb, le-ltb, eqb-true}
 use Rattle.std.proofs.lemmas.Bool.Decides.{nat_tests}
 use Rattle.std.proofs.lemmas.List.Sums.{fold-append}
 use Rattle.std.proofs.lemmas.List.Elements.{filter_agree}
 use Rattle.iloc_ops.specs.declared.op.Reg.{Reg}
-use Rattle.iloc_ops.specs.Registers.{defined}
 use Rattle.iloc_meaning.specs.declared.effect.Effect.{Effect}
-use Rattle.iloc_meaning.specs.declared.effect.Effect.TheVariants.{Faults, Gives}
-use Rattle.iloc_meaning.specs.Memory.{word_at}
-use Rattle.iloc_meaning.specs.Trace.{Executed, result_of, written_by, is_register, defines, is_write_to, writes_to, result_or_zero, written_or}
+use Rattle.iloc_meaning.specs.Trace.{Executed, result_of, written_by, is_register, is_write_to, result_or_zero, written_or}
 use Rattle.iloc_meaning.specs.Outcome.{is_fault}
 use Rattle.iloc_meaning.specs.Results.{GoesTo}
 use Rattle.iloc_meaning.proofs.Cases.{by_bool}
@@ -39,33 +36,20 @@ later_below c e (Some f) first rest = by_bool (nat_lt e.due f.due) (λ t. rw t r
 
 recent_below : (test : Executed → Bool) (c : ℕ) (log : List Issued) → IfSome (recent test c log) (λ e. e.due < c)
 recent_below test c [] = tt
-recent_below test c (e ∷ earlier) = by_bool (nat_lt e.due c)
-    (λ below. by_bool (test e.executed)
-    (λ passes. rw (below, passes) (later_below c e (recent test c earlier) (grind (arith, nat_tests))
-    (recent_below test c earlier)))
-    (λ fails. rw (below, fails) (recent_below test c earlier)))
-    (λ above. rw above (recent_below test c earlier))
+recent_below test c (e ∷ earlier) = grind (arith, by_bool, later_below, nat_tests, recent_below test c earlier)
 
 newest_due : (test : Executed → Bool) (d : ℕ) (log : List Issued) → IfSome (newest test d log) (λ e. e.due ≡ d)
 newest_due test d [] = tt
-newest_due test d (e ∷ earlier) = by_bool (test e.executed && (e.due == d))
-    (λ both. rw both (eqb-true e.due d (and_parts (test e.executed) (e.due == d) both).1))
-    (λ fails. rw fails (newest_due test d earlier))
+newest_due test d (e ∷ earlier) = grind (arith, by_bool, eqb-true, and_parts, newest_due test d earlier)
 
 -- against one that was due before, the newest stays
 later_or_else : (e : Issued) (d : ℕ) (new old : Option Issued) → e.due < d → IfSome new (λ f. f.due ≡ d)
     → Some (later e (or_else new old)) ≡ or_else new (Some (later e old))
 unfolding or_else
-later_or_else e d None old before due = refl
-later_or_else e d (Some f) old before due =
-    let less : nat_lt e.due f.due ≡ true = lt-ltb e.due f.due (omega arith) in
-    rw less refl
+later_or_else e d new old before due = grind (arith, lt-ltb)
 
 pub later_newest : (e : Issued) (o : Option Issued) → IfSome o (λ f. f.due < e.due + 1) → later e o ≡ e
-later_newest e None below = refl
-later_newest e (Some f) below =
-    let least : nat_lt e.due f.due ≡ false = le-ltb e.due f.due (omega arith) in
-    rw least refl
+later_newest e o below = grind (arith, le-ltb)
 
 -- one cycle on, the last is the newest of those that are due, or else the last before
 recent_more : (test : Executed → Bool) (d : ℕ) (log : List Issued)
@@ -122,20 +106,8 @@ fold_due : (test : Executed → Bool) (left : Executed → ℤ) (land : ℤ → 
     → fold land v (due_at d log) ≡ left_by_issued left v (newest test d log)
 unfolding left_by_issued
 fold_due test left land lands n d v [] all = refl
-fold_due test left land lands n d v (e ∷ earlier) all = by_bool (e.due == d)
-    (λ here.
-    let front : fold land v (due_at d earlier ++ option_to_list (sent e.executed))
-    ≡ fold land (fold land v (due_at d earlier)) (option_to_list (sent e.executed)) =
-    fold-append land v (due_at d earlier) (option_to_list (sent e.executed)) in
-    by_bool (test e.executed)
-    (λ passes. rw (here, passes) (front ∙ lands.one e.executed _ all.1 ∙ rw passes refl))
-    (λ fails. rw (here, fails) (front ∙ lands.one e.executed _ all.1
-    ∙ rw fails (fold_due test left land lands n d v earlier all.2))))
-    (λ elsewhere.
-    let front : fold land v (due_at d earlier ++ []) ≡ fold land v (due_at d earlier) =
-    ap (fold land v) (append-nil (due_at d earlier)) in
-    let skip : (test e.executed && false) ≡ false = and_right (test e.executed) false refl in
-    rw (elsewhere, skip) (front ∙ fold_due test left land lands n d v earlier all.2))
+fold_due test left land lands n d v (e ∷ earlier) all =
+    grind (arith, by_bool, fold-append, append-nil, and_right, fold_due test left land lands n d v earlier all.2)
 
 -- what is due at cycle d turns what was left before into what is left then
 left_more : (test : Executed → Bool) (left : Executed → ℤ) (land : ℤ → Pending → ℤ) → LandsAt test left land
@@ -159,39 +131,21 @@ word_is_left v (Some e) = refl
 register_case : (r : Reg) (register : Option Reg) (effect : Effect) (v : ℤ) → is_fault effect ≡ false
     → GoesTo register effect → fold (landed_in_register r) v (option_to_list (sent_by register effect))
     ≡ (if is_register r register then result_of effect else v)
-register_case r None (Gives result) v fault goes = absurd goes
-register_case r None _ v fault goes = refl
-register_case r (Some s) Faults v fault goes = absurd cc
-register_case r (Some s) (Gives result) v fault goes = refl
-register_case r (Some s) _ v fault goes = absurd goes
+register_case r register effect v fault goes = grind arith
 
 word_case : (a : ℕ) (register : Option Reg) (effect : Effect) (v : ℤ)
     → fold (landed_in_word a) v (option_to_list (sent_by register effect))
     ≡ (if is_write_to a effect then written_by effect else v)
-word_case a None (Gives result) v = refl
-word_case a _ Faults v = refl
-word_case a _ _ v = refl
+word_case a register effect v = grind arith
 
 -- one cycle on, the registers and the words are those before with what is due then
 pub register_more : (r : Reg) (n d : ℕ) (log : List Issued) → AllLand n log → register_in (landed (d + 1) log) r
     ≡ fold (landed_in_register r) (register_in (landed d log) r) (due_at d log)
-register_more r n d log all =
-    let lands : LandsAt (defines r) (λ (e : Executed). result_of e.effect) (landed_in_register r) =
-    record { one = λ e v ok. register_case r (defined e.op) e.effect v ok.no_fault ok.goes } in
-    result_is_left (last_that (defines r) (landed (d + 1) log))
-    ∙ left_more (defines r) _ _ lands n d (pos 0) log all
-    ∙ ap (λ v. fold (landed_in_register r) v (due_at d log))
-    (sym (result_is_left (last_that (defines r) (landed d log))))
+register_more r n d log all = grind (arith, register_case, result_is_left, left_more)
 
 pub word_more : (memory : List ℤ) (a n d : ℕ) (log : List Issued) → AllLand n log
     → word_in memory (landed (d + 1) log) a ≡ fold (landed_in_word a) (word_in memory (landed d log) a) (due_at d log)
-word_more memory a n d log all =
-    let lands : LandsAt (writes_to a) (λ (e : Executed). written_by e.effect) (landed_in_word a) =
-    record { one = λ e v ok. word_case a (defined e.op) e.effect v } in
-    word_is_left (word_at memory a) (last_that (writes_to a) (landed (d + 1) log))
-    ∙ left_more (writes_to a) _ _ lands n d (word_at memory a) log all
-    ∙ ap (λ v. fold (landed_in_word a) v (due_at d log))
-    (sym (word_is_left (word_at memory a) (last_that (writes_to a) (landed d log))))
+word_more memory a n d log all = grind (arith, word_case, word_is_left, left_more)
 
 -- what isn't due before cycle c hasn't landed then
 pub landed-later : (c : ℕ) (e : Issued) (log : List Issued) → c ≤ e.due → landed c (e ∷ log) ≡ landed c log
@@ -199,9 +153,7 @@ landed-later c e log later = let after : nat_lt e.due c ≡ false = le-ltb e.due
 
 pub landed_all : (c : ℕ) (log : List Issued) → AllLand c log → landed c log ≡ log
 landed_all c [] all = refl
-landed_all c (e ∷ earlier) all =
-    let before : nat_lt e.due c ≡ true = lt-ltb e.due c all.0 in
-    rw before (ap (λ l. e ∷ l) (landed_all c earlier all.2))
+landed_all c (e ∷ earlier) all = grind (arith, lt-ltb, landed_all c earlier all.2)
 
 -- what has arrived at cycle c is what landed before the next
 pub landed_is_arrived : (c : ℕ) (log : List Issued) → landed (c + 1) log ≡ arrived c log

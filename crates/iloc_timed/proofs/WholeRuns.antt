@@ -1,5 +1,5 @@
 -- Rows, and the run of a schedule from its start to its end.
-use Rattle.std.proofs.Common.{◌≡◌, ◌<◌, ◌≤◌, ℕ, zero, suc, ◌+◌, ◌-◌, ◌*◌, ◌/◌, nat_le, Bool, true, false, List, [], ◌∷◌, ◌++◌, length, get_or, map, Option, Some, None, option_to_list, Result, Ok, Err, IfOk, IfSome, ℤ, pos, arith, refl, sym, ap, ◌∙◌, add-one, add-zero, add-suc, subst}
+use Rattle.std.proofs.Common.{◌≡◌, ◌<◌, ◌≤◌, ℕ, zero, suc, ◌+◌, ◌-◌, ◌*◌, ◌/◌, Bool, true, false, List, [], ◌∷◌, ◌++◌, length, get_or, map, Option, Some, option_to_list, Result, Ok, Err, IfOk, IfSome, ℤ, pos, arith, refl, sym, ap, ◌∙◌, add-one, add-zero, add-suc, subst}
 use Rattle.std.proofs.lemmas.Bool.{or_right, or_from, lt-leb}
 use Rattle.std.proofs.lemmas.List.{get_or_default}
 use Rattle.std.proofs.lemmas.List.FromFn.{fill_by_all}
@@ -7,21 +7,19 @@ use Rattle.iloc_ops.specs.declared.op.Reg.{Reg}
 use Rattle.iloc_ops.specs.declared.op.Op.{Op}
 use Rattle.iloc_ops.specs.declared.op.Op.TheVariants.{Nop}
 use Rattle.iloc_meaning.specs.declared.outcome.Outcome.TheVariants.{Finished, Fault}
-use Rattle.iloc_meaning.specs.Memory.{WORDS, word_at, with_words}
+use Rattle.iloc_meaning.specs.Memory.{WORDS, with_words}
 use Rattle.iloc_meaning.specs.Registers.{value_of}
 use Rattle.iloc_meaning.proofs.MemoryWords.{good_word}
 use Rattle.iloc_meaning.specs.Trace.{op_at}
-use Rattle.iloc_meaning.specs.Effect.{effect}
-use Rattle.iloc_meaning.specs.Outcome.{is_fault, has_fault}
+use Rattle.iloc_meaning.specs.Outcome.{has_fault}
 use Rattle.iloc_timed.specs.declared.kind.Kind.{Kind}
-use Rattle.iloc_timed.specs.declared.kind.Kind.TheVariants as K
 use Rattle.iloc_timed.specs.declared.latencies.Latencies.{Latencies}
 use Rattle.iloc_timed.specs.declared.row.Row.{Row}
 use Rattle.iloc_timed.specs.declared.machine.Machine.{Machine}
 use Rattle.iloc_timed.specs.Kinds.{kind}
 use Rattle.iloc_timed.specs.Latency.{latency, latency_of}
 use Rattle.iloc_timed.specs.Rows.{row_at, slots}
-use Rattle.iloc_timed.specs.Timed.{Issued, arrived, register_in, word_in, issue, issue_all, issued_before, executed_in, timed_outcome, timed_outcome_of}
+use Rattle.iloc_timed.specs.Timed.{Issued, arrived, word_in, issue, issue_all, issued_before, executed_in, timed_outcome, timed_outcome_of}
 use Rattle.iloc_timed.specs.Wheel.{list_at}
 use Rattle.iloc_timed.specs.Steps.Machine.{landed, AllLand, Follows, After, then_issued}
 use Rattle.iloc_timed.proofs.Landing.{landed_all, landed_is_arrived}
@@ -33,60 +31,30 @@ if_ok P Q (Err e) follows holds = tt
 
 -- an operation takes one cycle at least
 pub some_latency : (lat : Latencies) (k : Kind) → 1 ≤ latency_of lat k
-some_latency lat K.Load = lat.some_load
-some_latency lat K.Store = lat.some_store
-some_latency lat K.Mult = lat.some_mult
-some_latency lat K.Output = omega arith
-some_latency lat K.Other = omega arith
+some_latency lat k = grind arith
 
 -- a schedule begins with all registers 0, the memory handed in, no output and nothing under way
 pub begins : (machine : Machine) (memory : List ℤ) → length memory ≡ WORDS
     → ((r : Reg) → value_of machine.state.registers r ≡ pos 0) → machine.state.memory ≡ record { first = memory; words = memory }
     → machine.state.outputs.items ≡ [] → length machine.wheel ≡ 16 → ((c : ℕ) → list_at machine.wheel c ≡ [])
     → Follows memory 0 [] machine
-begins machine memory size registers words outputs count empty = record {
-  size = size;
-  same_size = ap (λ m. length m.words) words ∙ size;
-  registers = registers;
-  words = λ a good. ap (λ m. word_at m.words a) words;
-  under_way = record { count = count; due = λ d after before. empty d };
-  all_land = tt;
-  outputs = outputs;
-}
+begins machine memory size registers words outputs count empty = grind arith
 
 -- what is issued in a slot
 pub slot_issued : (lat : Latencies) (memory : List ℤ) (ops : List Op) (c i : ℕ) (op : Op) (log : List Issued)
     → op ≡ op_at ops i → then_issued memory (c + 1) (c + latency lat op) op log
     ≡ issue_all lat memory ops c (option_to_list (Some i)) log
-slot_issued lat memory ops c i op log is =
-    ap (λ l. record {
-      due = c + latency lat op;
-      executed = record { op = op; effect = effect op (register_in l) (word_in memory l) };
-    } ∷ log)
-    (landed_is_arrived c log)
-    ∙ ap (λ o. issue lat memory c log o ∷ log) is
+slot_issued lat memory ops c i op log is = grind (arith, landed_is_arrived)
 
 -- what is issued in a cycle has not arrived in it
 arrived-issue : (lat : Latencies) (memory : List ℤ) (c : ℕ) (log before : List Issued) (op : Op)
     → arrived c (issue lat memory c before op ∷ log) ≡ arrived c log
-arrived-issue lat memory c log before op =
-    let some : 1 ≤ latency lat op = some_latency lat (kind op) in
-    let later : nat_le (c + latency lat op) c ≡ false = lt-leb (c + latency lat op) c (omega arith) in
-    rw later refl
+arrived-issue lat memory c log before op = grind (arith, some_latency, lt-leb)
 
 both_issued : (lat : Latencies) (memory : List ℤ) (ops : List Op) (c : ℕ) (one other : Option ℕ) (log : List Issued)
     → issue_all lat memory ops c (option_to_list one) (issue_all lat memory ops c (option_to_list other) log)
     ≡ issue_all lat memory ops c (option_to_list one ++ option_to_list other) log
-both_issued lat memory ops c None None log = refl
-both_issued lat memory ops c None (Some z) log = refl
-both_issued lat memory ops c (Some o) None log = refl
-both_issued lat memory ops c (Some o) (Some z) log =
-    let first : Issued = issue lat memory c log (op_at ops z) in
-    ap (λ l. record {
-      due = c + latency lat (op_at ops o);
-      executed = record { op = op_at ops o; effect = effect (op_at ops o) (register_in l) (word_in memory l) };
-    }
-    ∷ first ∷ log) (arrived-issue lat memory c log log (op_at ops z))
+both_issued lat memory ops c one other log = grind (arith, arrived-issue)
 
 -- the slots of a row, unit 0 first, read the same
 pub row_issued : (lat : Latencies) (memory : List ℤ) (ops : List Op) (c : ℕ) (row : Row) (log : List Issued)
@@ -98,8 +66,7 @@ row_issued lat memory ops c row log = both_issued lat memory ops c row.one row.z
 fault_stays : (more log : List Issued) → has_fault (executed_in log) ≡ true → has_fault (executed_in (more ++ log))
     ≡ true
 fault_stays [] log fault = fault
-fault_stays (e ∷ more) log fault = or_right (is_fault e.executed.effect) (has_fault (executed_in (more ++ log)))
-    (fault_stays more log fault)
+fault_stays (e ∷ more) log fault = grind (arith, or_right, fault_stays more log fault)
 
 pub fault_later : (lat : Latencies) (memory : List ℤ) (ops : List Op) (rows : List Row) (c more : ℕ)
     → has_fault (executed_in (issued_before lat memory ops rows c)) ≡ true
@@ -129,8 +96,7 @@ stops lat memory ops rows c within fault =
 
 pub no_fault : (c : ℕ) (log : List Issued) → AllLand c log → has_fault (executed_in log) ≡ false
 no_fault c [] all = refl
-no_fault c (e ∷ earlier) all = or_from (is_fault e.executed.effect) (has_fault (executed_in earlier)) all.1.no_fault
-    (no_fault c earlier all.2)
+no_fault c (e ∷ earlier) all = grind (arith, or_from, no_fault c earlier all.2)
 
 -- a run whose results have all landed
 pub finishes : (memory : List ℤ) (n : ℕ) (log : List Issued) (machine : Machine) → AllLand n log
@@ -149,11 +115,7 @@ finishes memory n log machine all follows =
 
 -- and 16 at most
 pub short_latency : (lat : Latencies) (k : Kind) → latency_of lat k ≤ 16
-short_latency lat K.Load = lat.short_load
-short_latency lat K.Store = lat.short_store
-short_latency lat K.Mult = lat.short_mult
-short_latency lat K.Output = omega arith
-short_latency lat K.Other = omega arith
+short_latency lat k = grind arith
 
 -- the operation of a slot, issued by the machine
 pub after_slot : (lat : Latencies) (ops : List Op) (c i lasts : ℕ) (slot : Option ℕ) (other : Op) (old new : Machine)
@@ -182,20 +144,11 @@ pub after_row : (lat : Latencies) (ops : List Op) (c : ℕ) (row : Row) (old mid
     → After goes_on memory (c + 1) (issue_all lat memory ops c (option_to_list row.one) log) new)
     → (memory : List ℤ) (log : List Issued) → Follows memory c log old
     → After goes_on memory (c + 1) (issue_all lat memory ops c (slots row) log) new
-after_row lat ops c row old mid new goes_on first second memory log follows =
-    subst (λ l. After goes_on memory (c + 1) l new) (row_issued lat memory ops c row log)
-    (second memory (issue_all lat memory ops c (option_to_list row.zero) log) (first memory log follows))
+after_row lat ops c row old mid new goes_on first second memory log follows = grind (arith, row_issued)
 
 -- all rows have run, and the rest lands
 pub ends : (lat : Latencies) (memory : List ℤ) (ops : List Op) (rows : List Row) (c from : ℕ) (before after : Machine)
     → c ≡ length rows → from ≡ length rows → Follows memory c (issued_before lat memory ops rows c) before
     → ((words : List ℤ) (log : List Issued) → Follows words from log before → Follows words (from + 16) log after)
     → Finished after.state.outputs.items after.state.memory.words ≡ timed_outcome lat ops rows memory
-ends lat memory ops rows c from before after last count follows lands =
-    let log : List Issued = issued_before lat memory ops rows (length rows) in
-    let begun : Follows memory (length rows) log before =
-    subst (λ n. Follows memory n (issued_before lat memory ops rows n) before) last follows in
-    let ended : Follows memory (from + 16) log after =
-    lands memory log (subst (λ n. Follows memory n log before) (sym count) begun) in
-    let all : AllLand (from + 16) log = subst (λ n. AllLand (n + 16) log) (sym count) begun.all_land in
-    finishes memory (from + 16) log after all ended
+ends lat memory ops rows c from before after last count follows lands = grind (arith, finishes)
