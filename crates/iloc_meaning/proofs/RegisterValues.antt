@@ -48,14 +48,16 @@ value_of-alone table others r none = grind (arith, cases_lt, value_of-table, val
 -- a write to a place of the table
 pub set_in_table : (table : List ℤ) (others : List (ℕ × ℤ)) (r : Reg) (value : ℤ) → r.0 < length table
     → ChangesOnly (values table others) (values (set table r.0 value) others) r value
-set_in_table table others r value below = grind (arith, length-set, value_of-table, get_or-set_same, cases_lt, get_or-set_other, value_of-others)
+set_in_table table others r value below =
+    grind (arith, length-set, value_of-table, get_or-set_same, cases_lt, get_or-set_other, value_of-others)
 
 -- where the entry of one number past the table is set, the others stay
 pub set_in_others : (table : List ℤ) (old new : List (ℕ × ℤ)) (r : Reg) (value : ℤ) → length table ≤ r.0
     → lookup (eq_by_cmp nat_cmp r.0) new ≡ Some value
     → ((n : ℕ) → eq_by_cmp nat_cmp r.0 n ≡ false → lookup (eq_by_cmp nat_cmp n) new ≡ lookup (eq_by_cmp nat_cmp n) old)
     → ChangesOnly (values table old) (values table new) r value
-set_in_others table old new r value beyond set stay = grind (arith, value_of-others, cases_lt, value_of-table, unsigned_tied, ne_eqb)
+set_in_others table old new r value beyond set stay =
+    grind (arith, value_of-others, cases_lt, value_of-table, unsigned_tied, ne_eqb)
 
 -- zeros behind a table change no value
 pub get_or-padded : (table : List ℤ) (count n : ℕ)
@@ -70,4 +72,5 @@ get_or-padded (v ∷ table) count (suc n) = get_or-padded table count n
 pub set_in_longer : (table longer : List ℤ) (others : List (ℕ × ℤ)) (size count : ℕ) (r : Reg) (value : ℤ) → others ≡ []
     → longer ≡ take size table ++ replicate count (pos 0) → length table ≤ size → r.0 < length longer
     → ChangesOnly (values table others) (values (set longer r.0 value) others) r value
-set_in_longer table longer others size count r value none padded fits below = grind (arith, value_of-alone, get_or-set_same, get_or-set_other, take_all, get_or-padded)
+set_in_longer table longer others size count r value none padded fits below =
+    grind (arith, value_of-alone, get_or-set_same, get_or-set_other, take_all, get_or-padded)
