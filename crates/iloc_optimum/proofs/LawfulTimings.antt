@@ -22,7 +22,7 @@ use Rattle.iloc_sched.specs.Lawful.{IsLawful}
 use Rattle.iloc_sched.specs.LowerBound.Least.{tails, tail}
 use Rattle.iloc_sched.specs.Renaming.{renamed}
 use Rattle.iloc_sched.specs.LowerBound.Shares.{shares, width}
-use Rattle.iloc_sched.proofs.Bounds.PriorityBound.{ends_within}
+use Rattle.iloc_timed.proofs.Arrivals.{arrival_le_cycles}
 use Rattle.iloc_sched.proofs.Bounds.RowsHold.{Holds, holds_memory, holds_products, holds_outputs, holds_all, holds_loads}
 use Rattle.iloc_sched.proofs.Bounds.TailBound.{Fits, crowd_of, tail_within}
 use Rattle.iloc_sched.proofs.PriorityValues.Tails.{length-tails}
@@ -79,7 +79,7 @@ within_root : (lat : Latencies) (block ops : List Op) (rows : List Row) (limit :
 within_root lat block ops rows limit w firsts_are lasts_are lawful short =
     let t : ℕ → ℕ = issue_cycle rows in
     let fits : Fits lat ops limit t = record {
-      ends = λ i below. (let end = ends_within lat ops rows i below in omega arith);
+      ends = λ i below. (let end = arrival_le_cycles lat ops rows i below in omega arith);
       waits = lawful.waits;
       crowd = crowd_of is_load 1 ops rows lawful.table (holds_loads ops);
     } in

@@ -21,11 +21,7 @@ count_range p a (suc m) n b end =
     ≡ count_by p (range_with_len (suc a) m) + count_by p (range_with_len b n) =
     count_range p (suc a) m n b (omega arith) in
     let size : suc m + n ≡ suc (m + n) = omega arith in
-    let more : count_by p (range_with_len a (suc m + n)) ≡ count_by p (range_with_len a (suc (m + n))) =
-    ap (λ k. count_by p (range_with_len a k)) size in
-    let left = count_first p a (m + n) in
-    let right = count_first p a m in
-    omega arith
+    grind (arith, count_first)
 
 pub none_in_range : (p : ℕ → Bool) (a n : ℕ) → ((k : ℕ) → a ≤ k → k < a + n → p k ≡ false) → count_by p (range_with_len a n) ≡ 0
 none_in_range p a zero none = refl

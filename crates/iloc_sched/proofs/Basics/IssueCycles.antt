@@ -16,25 +16,12 @@ issue_cycle_within (row ∷ rows) i = grind (arith, issue_cycle_within rows i)
 pub issue_cycle_front : (rows more : List Row) (i : ℕ) → issue_cycle rows i < length rows
     → issue_cycle (rows ++ more) i ≡ issue_cycle rows i
 issue_cycle_front [] more i within = absurd (omega arith)
-issue_cycle_front (row ∷ rows) more i within =
-    by_bool (holds row i)
-    (λ t. rw t refl)
-    (λ t.
-    let below : issue_cycle rows i + 1 < suc (length rows) = rw t at within in
-    let rest : issue_cycle (rows ++ more) i ≡ issue_cycle rows i = issue_cycle_front rows more i (omega arith) in
-    rw (t, rest) refl)
+issue_cycle_front (row ∷ rows) more i within = grind (arith, issue_cycle_front rows more i)
 
 pub issue_cycle_back : (rows more : List Row) (i : ℕ) → length rows ≤ issue_cycle rows i
     → issue_cycle (rows ++ more) i ≡ length rows + issue_cycle more i
 issue_cycle_back [] more i beyond = omega arith
-issue_cycle_back (row ∷ rows) more i beyond =
-    by_bool (holds row i)
-    (λ t. let none : suc (length rows) ≤ 0 = rw t at beyond in absurd (omega arith))
-    (λ t.
-    let past : suc (length rows) ≤ issue_cycle rows i + 1 = rw t at beyond in
-    let rest : issue_cycle (rows ++ more) i ≡ length rows + issue_cycle more i =
-    issue_cycle_back rows more i (omega arith) in
-    rw t (omega arith))
+issue_cycle_back (row ∷ rows) more i beyond = grind (arith, issue_cycle_back rows more i)
 
 pub issue_cycle_more : (rows : List Row) (row : Row) (i : ℕ) → issue_cycle rows i < length rows
     → issue_cycle (rows ++ row ∷ []) i ≡ issue_cycle rows i

@@ -7,8 +7,7 @@ use Rattle.iloc_sched.specs.Steps.Members.{In}
 
 pub fold_max_each : (a : ℕ) (xs : List ℕ) (x : ℕ) → In xs x → x ≤ fold max a xs
 fold_max_each a [] x there = absurd there
-fold_max_each a (y ∷ ys) x (inl here) = let rest : max a y ≤ fold max (max a y) ys = le_fold_max (max a y) ys in
-    omega arith
+fold_max_each a (y ∷ ys) x (inl here) = grind (arith, le_fold_max)
 fold_max_each a (y ∷ ys) x (inr there) = fold_max_each (max a y) ys x there
 
 pub max_is : (a b : ℕ) → (max a b ≡ a) ⊎ (max a b ≡ b)

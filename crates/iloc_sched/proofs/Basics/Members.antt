@@ -2,8 +2,7 @@
 use Rattle.std.proofs.Common.{◌≡◌, ℕ, ◌<◌, zero, suc, List, [], ◌∷◌, length, ◌⊎◌, inl, inr, arith, ◌+◌, ◌≤◌, Bool, true, false, ◌++◌, map, refl, ap, sym, ◌∙◌, get_or}
 use Rattle.std.specs.Prelude.{slice_index_or, Contains, filter}
 use Rattle.std.specs.List.{list_any, list_all, range_with_len}
-use Rattle.std.proofs.lemmas.Bool.{or_cases, and_cases, true≢false, cases_eq}
-use Rattle.iloc_meaning.proofs.Cases.{by_bool}
+use Rattle.std.proofs.lemmas.Bool.{or_cases, and_cases, true≢false}
 use Rattle.iloc_sched.specs.Steps.Members.{In}
 
 pub contains_from : {X : Type 0} → (xs : List X) (x : X) → In xs x → Contains xs x
@@ -48,8 +47,7 @@ in_map f (y ∷ xs) x (inr there) = inr (in_map f xs x there)
 pub from_map : {X Y : Type 0} → (f : X → Y) (xs : List X) (y : Y) → In (map f xs) y → (x : X) × In xs x × (f x ≡ y)
 from_map f [] y there = absurd there
 from_map f (x ∷ xs) y (inl here) = (x, inl refl, here)
-from_map f (x ∷ xs) y (inr there) =
-    let rest : (z : _) × In xs z × (f z ≡ y) = from_map f xs y there in (rest.0, inr rest.1, rest.2)
+from_map f (x ∷ xs) y (inr there) = grind (arith, from_map f xs y there)
 
 pub in_filter : {X : Type 0} → (p : X → Bool) (xs : List X) (x : X) → In xs x → p x ≡ true → In (filter p xs) x
 in_filter p [] x there passes = absurd there
@@ -58,15 +56,7 @@ in_filter p (y ∷ xs) x (inr there) passes = grind (arith, in_filter p xs x the
 
 pub from_filter : {X : Type 0} → (p : X → Bool) (xs : List X) (x : X) → In (filter p xs) x → In xs x × (p x ≡ true)
 from_filter p [] x there = absurd there
-from_filter p (y ∷ xs) x there =
-    by_bool (p y)
-    (λ t. elim (rw t at there) [
-      | inl here ↦ (inl here, sym (ap p here) ∙ t)
-      | inr rest ↦
-          (inr (from_filter p xs x rest).0, (from_filter p xs x rest).1)
-    ])
-    (λ t. let rest : In (filter p xs) x = rw t at there in
-    (inr (from_filter p xs x rest).0, (from_filter p xs x rest).1))
+from_filter p (y ∷ xs) x there = grind (arith, at, from_filter p xs x)
 
 pub any_at : {X : Type 0} → (p : X → Bool) (xs : List X) (x : X) → In xs x → p x ≡ true → list_any p xs ≡ true
 any_at p [] x there passes = absurd there
@@ -75,11 +65,7 @@ any_at p (y ∷ xs) x (inr there) passes = grind (arith, any_at p xs x there pas
 
 pub from_any : {X : Type 0} → (p : X → Bool) (xs : List X) → list_any p xs ≡ true → (x : X) × In xs x × (p x ≡ true)
 from_any p [] passes = absurd (true≢false (sym passes))
-from_any p (y ∷ xs) passes =
-    elim (or_cases (p y) (list_any p xs) passes) [
-      | inl here ↦ (y, inl refl, here)
-      | inr rest ↦ ((from_any p xs rest).0, inr (from_any p xs rest).1, (from_any p xs rest).2)
-    ]
+from_any p (y ∷ xs) passes = grind (arith, or_cases, from_any p xs)
 
 -- a test finds as much in one list as in another that has its members
 pub any_same : {X : Type 0} → (p : X → Bool) (xs ys : List X) → ((x : X) → In xs x → In ys x)
@@ -92,17 +78,11 @@ all_from p (y ∷ xs) passes = rw (passes y (inl refl)) (all_from p xs (λ x the
 
 pub from_all : {X : Type 0} → (p : X → Bool) (xs : List X) (x : X) → list_all p xs ≡ true → In xs x → p x ≡ true
 from_all p [] x passes there = absurd there
-from_all p (y ∷ xs) x passes there =
-    by_bool (p y)
-    (λ t. elim there [ inl here ↦ sym (ap p here) ∙ t | inr rest ↦ from_all p xs x (rw t at passes) rest ])
-    (λ t. absurd (true≢false (sym (rw t at passes))))
+from_all p (y ∷ xs) x passes there = grind (arith, at, true≢false, from_all p xs x)
 
 pub not_all : {X : Type 0} → (p : X → Bool) (xs : List X) → list_all p xs ≡ false → (x : X) × In xs x × (p x ≡ false)
 not_all p [] fails = absurd (true≢false fails)
-not_all p (x ∷ xs) fails = elim (and_cases (p x) (list_all p xs) fails) [
-  | inl here ↦ (x, inl refl, here)
-  | inr rest ↦ ((not_all p xs rest).0, inr (not_all p xs rest).1, (not_all p xs rest).2)
-]
+not_all p (x ∷ xs) fails = grind (arith, and_cases, not_all p xs)
 
 pub empty_from : {X : Type 0} → (xs : List X) → ((x : X) → In xs x → ⊥) → xs ≡ []
 empty_from [] none = refl
@@ -110,14 +90,9 @@ empty_from (x ∷ xs) none = absurd (none x (inl refl))
 
 pub in_range_from : (a n k : ℕ) → a ≤ k → k < a + n → In (range_with_len a n) k
 in_range_from a zero k above below = absurd (omega arith)
-in_range_from a (suc n) k above below =
-    elim (cases_eq a k) [
-      | inl here ↦ inl here
-      | inr apart ↦ inr (in_range_from (a + 1) n k (omega arith) (omega arith))
-    ]
+in_range_from a (suc n) k above below = grind (arith, in_range_from (a + 1) n k)
 
 pub from_range : (a n k : ℕ) → In (range_with_len a n) k → (a ≤ k) × (k < a + n)
 from_range a zero k there = absurd there
 from_range a (suc n) k (inl here) = omega arith
-from_range a (suc n) k (inr there) = let rest : (a + 1 ≤ k) × (k < a + 1 + n) = from_range (a + 1) n k there in
-    omega arith
+from_range a (suc n) k (inr there) = grind (arith, from_range (a + 1) n k there)

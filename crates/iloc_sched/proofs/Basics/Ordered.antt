@@ -15,8 +15,7 @@ all_pairs R [] ordered i j d before below = absurd (omega arith)
 all_pairs R (x ∷ xs) ordered zero zero d before below = absurd (omega arith)
 all_pairs R (x ∷ xs) ordered zero (suc j) d before below = ordered.0 (get_or xs j d) (in_at xs j d (omega arith))
 all_pairs R (x ∷ xs) ordered (suc i) zero d before below = absurd (omega arith)
-all_pairs R (x ∷ xs) ordered (suc i) (suc j) d before below =
-    all_pairs R xs ordered.1 i j d (omega arith) (omega arith)
+all_pairs R (x ∷ xs) ordered (suc i) (suc j) d before below = grind (arith, all_pairs R xs ordered.1 i j d)
 
 pub ordered_append : {X : Type 0} (R : X → X → Type 0) (xs ys : List X) → Ordered R xs → Ordered R ys
     → ((x y : X) → In xs x → In ys y → R x y) → Ordered R (xs ++ ys)

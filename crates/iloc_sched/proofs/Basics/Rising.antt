@@ -66,11 +66,7 @@ countdown (suc n) = n ∷ countdown n
 
 pub in_countdown : (n k : ℕ) → k < n → In (countdown n) k
 in_countdown zero k below = absurd (omega arith)
-in_countdown (suc n) k below = elim (cases_eq n k) [
-  | inl here ↦ inl here
-  | inr apart ↦
-      inr (in_countdown n k (omega arith))
-]
+in_countdown (suc n) k below = grind (arith, in_countdown n k)
 
 pub from_countdown : (n k : ℕ) → In (countdown n) k → k < n
 from_countdown zero k there = absurd there

@@ -2,7 +2,7 @@
 use Rattle.std.proofs.Common.{◌≡◌, ℕ, ◌+◌, ◌<◌, ◌≤◌, zero, suc, Bool, true, false, List, [], ◌∷◌, map, length, ◌⊎◌, inl, inr, refl, ap, sym, ◌∙◌, subst, arith}
 use Rattle.std.specs.Prelude.{nat_le, sum_by}
 use Rattle.std.specs.List.{list_all, range_with_len}
-use Rattle.std.proofs.lemmas.Bool.{and_from, le-leb, leb-true, leb-false, true≢false, cases_lt, cases_eq}
+use Rattle.std.proofs.lemmas.Bool.{and_from, le-leb, leb-true, leb-false, true≢false, cases_eq}
 use Rattle.iloc_ops.specs.declared.op.Op.{Op}
 use Rattle.iloc_ops.specs.declared.op.Op.TheVariants.{Nop}
 use Rattle.iloc_meaning.specs.Trace.{op_at}
@@ -27,7 +27,6 @@ use Rattle.iloc_sched.proofs.Choice.ChosenRows.{chosen_some}
 use Rattle.iloc_sched.proofs.Choice.RowAfterRow.{was_ready}
 use Rattle.iloc_sched.proofs.Bounds.CoveredCycles.{Covered, covered_sum, sum_by_numbers}
 use Rattle.iloc_timed.proofs.WholeRuns.{some_latency}
-use Rattle.iloc_timed.specs.Kinds.{kind}
 
 -- the lowest number below n that passes
 record IsLowest (p : ℕ → Bool) (n : ℕ) : Type 0 where
@@ -39,13 +38,7 @@ record IsLowest (p : ℕ → Bool) (n : ℕ) : Type 0 where
 lowest : (p : ℕ → Bool) (n : ℕ) → IsLowest p n ⊎ ((k : ℕ) → k < n → p k ≡ false)
 lowest p zero = inr (λ k below. absurd (omega arith))
 lowest p (suc n) = elim (lowest p n) [
-  | inl found ↦ inl (record {
-    at = found.at;
-    below = let under : found.at < n = found.below in
-        omega arith;
-    passes = found.passes;
-    others = found.others;
-  })
+  | inl found ↦ grind arith
   | inr none ↦
       by_bool (p n)
       (λ t. inl (record { at = n; below = omega arith; passes = t; others = none }))
@@ -75,9 +68,7 @@ module _ (prios : List ℕ) (lat : Latencies) (ops : List Op) (rows : List Row)
       (sym (ap slots row_is) ∙ empty)) in
       let early : issue_cycle rows member.0 ≤ c = issued_by rows c member.0 member.1 in
       let was = was_ready prios lat ops rows so_far c member.0 member.1 in
-      let late : c ≤ issue_cycle rows member.0 = was.waiting in
-      let some : 1 ≤ latency lat (op_at ops member.0) = some_latency lat (kind (op_at ops member.0)) in
-      record { by = member.0; within = was.within; begun = early; goes_on = omega arith }
+      grind (arith, some_latency)
 
   covered_by_delay : (c i : ℕ) → i < length ops → ((h : ℕ) → h < i → issue_cycle rows h < c)
       → list_all (all_over lat ops rows c i) (range_with_len 0 i) ≡ false
@@ -127,10 +118,7 @@ module _ (prios : List ℕ) (lat : Latencies) (ops : List Op) (rows : List Row)
 
   covered_to_end : (m h : ℕ) → h < length ops → issue_cycle rows h < length rows → m ≤ issue_cycle rows h + size h
       → (c : ℕ) → c < m → Covered (issue_cycle rows) size (length ops) c
-  covered_to_end m h within issued end c below = elim (cases_lt c (issue_cycle rows h)) [
-    | inl before ↦ covered c h (omega arith) within (omega arith)
-    | inr working ↦ record { by = h; within = within; begun = working; goes_on = omega arith }
-  ]
+  covered_to_end m h within issued end c below = grind (arith, covered c h)
 
   pub cycles_bound : ((i : ℕ) → i < length ops → issue_cycle rows i < length rows)
       → cycles lat ops rows ≤ sum_by (latency lat) ops

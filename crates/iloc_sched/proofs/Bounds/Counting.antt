@@ -116,10 +116,7 @@ among-short [] a n = none a n
     none a zero = omega arith
     none a (suc n) = let rest = none (a + 1) n in
         let here = count_by-cons (λ (i : ℕ). false) a (range_with_len (a + 1) n) in omega arith
-among-short (x ∷ xs) a n =
-    let rest = among-short xs a n in
-    let one = one_at_most x a n in
-    let both = count-or (λ i. i == x) (among xs) (range_with_len a n) in omega arith
+among-short (x ∷ xs) a n = grind (arith, count-or, one_at_most x a n, among-short xs a n)
 
 -- Quotients
 

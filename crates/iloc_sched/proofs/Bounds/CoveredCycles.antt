@@ -63,7 +63,4 @@ module _ (start size : ℕ → ℕ) (n : ℕ) where
 
   pub covered_sum : (m : ℕ) → ((c : ℕ) → c < m → Covered start size n c) → m ≤ sum_by size (range_with_len 0 n)
   covered_sum m each =
-      let all : m ≤ sum_by (part m) (range_with_len 0 n) = covered_parts m each in
-      let sizes : sum_by (part m) (range_with_len 0 n) ≤ sum_by size (range_with_len 0 n) =
-      sum_by-le-sum_by (part m) size (range_with_len 0 n) (part_size m) in
-      omega arith
+      grind (arith, covered_parts m each, part m, part_size m, sum_by-le-sum_by (part m) size (range_with_len 0 n) (part_size m))

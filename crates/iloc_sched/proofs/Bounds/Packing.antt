@@ -1,7 +1,6 @@
 -- Packed numbers reach just as far as `needed` says; for `least`, by `Packing`.
-use Rattle.std.proofs.Common.{◌≡◌, ◌≢◌, ◌∙◌, ℕ, ◌+◌, ◌-◌, ◌<◌, ◌≤◌, ◌/◌, max, zero, suc, Bool, true, false, cond, not, List, [], ◌∷◌, length, map, set, refl, sym, ap, inl, inr, arith}
+use Rattle.std.proofs.Common.{◌≡◌, ◌≢◌, ◌∙◌, ℕ, ◌+◌, ◌-◌, ◌<◌, ◌≤◌, max, zero, suc, Bool, true, false, cond, not, List, [], ◌∷◌, length, map, set, refl, sym, ap, inl, inr, arith}
 use Rattle.std.specs.Prelude.{nat_le, ◌==◌}
-use Rattle.std.specs.List.{range_with_len}
 use Rattle.std.proofs.Math.Nat.{div-one}
 use Rattle.std.proofs.lemmas.Bool.Decides.{nat_tests}
 use Rattle.std.proofs.lemmas.List.{get_or-set_same, get_or-set_other}
@@ -25,8 +24,7 @@ count_yes s x xs le = count_by-cons (λ p. nat_le s p) x xs
     ∙ ap (λ b. cond {A = ℕ} b 1 0 + count_from xs s) (is_at_least s x le)
 
 pub count_no : (s x : ℕ) (xs : List ℕ) → x < s → count_from (x ∷ xs) s ≡ 0 + count_from xs s
-count_no s x xs lt = count_by-cons (λ p. nat_le s p) x xs
-    ∙ ap (λ b. cond {A = ℕ} b 1 0 + count_from xs s) (low_no s x lt)
+count_no s x xs lt = grind (arith, count_by-cons, low_no)
 
 pub count_falls : (xs : List ℕ) (a b : ℕ) → a ≤ b → count_from xs b ≤ count_from xs a
 count_falls xs a b le = grind (arith, at_least, count-mono, is_at_least)
@@ -72,14 +70,7 @@ lowest (x ∷ xs) s some = by_lt 0 (count_from xs s) (λ more. later (lowest xs 
 -- so many numbers from s on need as much from there
 pub needed_from : (xs : List ℕ) (s : ℕ) → 0 < count_from xs s → s + count_from xs s ≤ needed 1 xs + 1
 needed_from xs s some =
-    let l = lowest xs s some in
-    let b : ℕ = l.number in
-    let from : s ≤ b = l.from in
-    let many : count_from xs s ≤ count_from xs b = l.many in
-    let value : cycles_from 1 xs b ≤ needed 1 xs =
-    fold_max_each 0 (map (cycles_from 1 xs) xs) (cycles_from 1 xs b) (in_map (cycles_from 1 xs) xs b l.there) in
-    let whole : (count_from xs b - 1) / 1 ≡ count_from xs b - 1 = div-one (count_from xs b - 1) in
-    omega arith
+    grind (arith, div-one, fold_max_each 0 (map (cycles_from 1 xs) xs), in_map (cycles_from 1 xs) xs, lowest xs s some)
 
 -- where each number is matched by one as high, as much is needed
 pub needed_mono : (width : ℕ) (xs ys : List ℕ) → 0 < width → ((b : ℕ) → count_from xs b ≤ count_from ys b)
@@ -97,10 +88,7 @@ needed_mono width xs ys some more = elim (fold_max_reached 0 (map (cycles_from w
       let value : cycles_from width ys l.number ≤ needed width ys =
       fold_max_each 0 (map (cycles_from width ys) ys) (cycles_from width ys l.number)
       (in_map (cycles_from width ys) ys l.number l.there) in
-      let quotient : (count_from xs b - 1) / width ≤ (count_from ys l.number - 1) / width =
-      div-mono width (count_from xs b - 1) (count_from ys l.number - 1) some (omega arith) in
-      let is = found.2 in
-      omega arith)
+      grind (arith, div-mono))
 ]
 
 count_more : (x : ℕ) (xs : List ℕ) (b : ℕ) → count_from xs b ≤ count_from (x ∷ xs) b
@@ -111,20 +99,15 @@ pub needed_more : (x : ℕ) (xs : List ℕ) → needed 1 xs ≤ needed 1 (x ∷ 
 needed_more x xs = needed_mono 1 xs (x ∷ xs) (omega arith) (count_more x xs)
 
 pub needed_own : (x : ℕ) (xs : List ℕ) → x ≤ needed 1 (x ∷ xs)
-needed_own x xs =
-    let one = count_yes x x xs (omega arith) in
-    let enough : x + count_from (x ∷ xs) x ≤ needed 1 (x ∷ xs) + 1 = needed_from (x ∷ xs) x (omega arith) in
-    omega arith
+needed_own x xs = grind (arith, count_yes x x xs, needed_from (x ∷ xs) x)
 
 -- Places
 
 taken_yes : (taken : ℕ → Bool) (s n : ℕ) → taken s ≡ true → taken_in taken s (suc n) ≡ 1 + taken_in taken (s + 1) n
-taken_yes taken s n holds = count_by-cons taken s (range_with_len (s + 1) n)
-    ∙ ap (λ b. cond {A = ℕ} b 1 0 + taken_in taken (s + 1) n) holds
+taken_yes taken s n holds = grind (arith, count_by-cons)
 
 taken_no : (taken : ℕ → Bool) (s n : ℕ) → taken s ≡ false → taken_in taken s (suc n) ≡ 0 + taken_in taken (s + 1) n
-taken_no taken s n fails = count_by-cons taken s (range_with_len (s + 1) n)
-    ∙ ap (λ b. cond {A = ℕ} b 1 0 + taken_in taken (s + 1) n) fails
+taken_no taken s n fails = grind (arith, count_by-cons)
 
 -- no more than up to the top
 taken_few : (taken : ℕ → Bool) (top : ℕ) → ((q : ℕ) → taken q ≡ true → q ≤ top) → (s n : ℕ)
@@ -136,17 +119,11 @@ taken_few taken top up_to s (suc n) = grind (arith, taken_no, taken_yes, taken_f
 taken_run : (taken : ℕ → Bool) (top s n : ℕ) → s ≤ top → top < s + n
     → ((q : ℕ) → s ≤ q → q ≤ top → taken q ≡ true) → top + 1 ≤ s + taken_in taken s n
 taken_run taken top s zero below within all = absurd (omega arith)
-taken_run taken top s (suc n) below within all =
-    let here = taken_yes taken s n (all s (omega arith) below) in
-    by_lt s top
-    (λ less. let rest = taken_run taken top (s + 1) n (omega arith) (omega arith)
-    (λ q low high. all q (omega arith) high) in omega arith)
-    (λ last. omega arith)
+taken_run taken top s (suc n) below within all = grind (arith, taken_yes, taken_run taken top (s + 1) n)
 
 taken_none : (taken : ℕ → Bool) (s n : ℕ) → ((q : ℕ) → taken q ≡ false) → taken_in taken s n ≡ 0
 taken_none taken s zero none = refl
-taken_none taken s (suc n) none =
-    let here = taken_no taken s n (none s) in let rest = taken_none taken (s + 1) n none in omega arith
+taken_none taken s (suc n) none = grind (arith, taken_no, taken_none taken (s + 1) n none)
 
 module _ (taken taken' : ℕ → Bool) (p : ℕ) (other : (q : ℕ) → q ≢ p → taken' q ≡ taken q) where
   put_out : (s n : ℕ) → p < s → taken_in taken' s n ≡ taken_in taken s n
@@ -156,18 +133,7 @@ module _ (taken taken' : ℕ → Bool) (p : ℕ) (other : (q : ℕ) → q ≢ p 
   put_in : taken p ≡ false → taken' p ≡ true → (s n : ℕ) → s ≤ p → p < s + n
       → taken_in taken' s n ≡ 1 + taken_in taken s n
   put_in free now s zero low within = absurd (omega arith)
-  put_in free now s (suc n) low within = by_eq s p
-      (λ here.
-      let old = taken_no taken s n (ap taken here ∙ free) in
-      let new = taken_yes taken' s n (ap taken' here ∙ now) in
-      let rest = put_out (s + 1) n (omega arith) in
-      omega arith)
-      (λ apart.
-      let same : taken' s ≡ taken s = other s apart in
-      let rest = put_in free now (s + 1) n (omega arith) (omega arith) in
-      by_bool (taken s)
-      (λ holds. let old = taken_yes taken s n holds in let new = taken_yes taken' s n (same ∙ holds) in omega arith)
-      (λ fails. let old = taken_no taken s n fails in let new = taken_no taken' s n (same ∙ fails) in omega arith))
+  put_in free now s (suc n) low within = grind (arith, put_out, taken_no, taken_yes, put_in free now (s + 1) n)
 
 -- Packed numbers
 
@@ -180,9 +146,7 @@ packed_none taken none = grind (arith, not_both, taken_none)
 packed_low : (xs : List ℕ) (taken : ℕ → Bool) (top : ℕ) → IsPacked xs taken top → top ≤ needed 1 xs
 packed_low xs taken top is = elim is.reached [
   | inl none ↦ omega arith
-  | inr last ↦ run top (omega arith) (λ q low high.
-      let same : q ≡ top = omega arith in
-      ap taken same ∙ last)
+  | inr last ↦ run top (omega arith) (grind arith)
 ]
   where
     run : (s : ℕ) → s ≤ top → ((q : ℕ) → s ≤ q → q ≤ top → taken q ≡ true) → top ≤ needed 1 xs
@@ -211,17 +175,12 @@ packed_high xs taken top is = elim (fold_max_reached 0 (map (cycles_from 1 xs) x
       let any : 1 ≤ count_from xs b = count_some (λ p. nat_le b p) xs b found.1 (is_at_least b b (omega arith)) in
       let most : count_from xs b ≤ taken_in taken b (top + 1) = is.most b (top + 1) (omega arith) in
       let few : taken_in taken b (top + 1) ≤ (top + 1) - b = taken_few taken top is.up_to b (top + 1) in
-      let whole : (count_from xs b - 1) / 1 ≡ count_from xs b - 1 = div-one (count_from xs b - 1) in
-      let value = found.2 in
-      omega arith)
+      grind (arith, div-one))
 ]
 
 -- the last place is what the numbers need
 pub packed_needed : (xs : List ℕ) (taken : ℕ → Bool) (top : ℕ) → IsPacked xs taken top → top ≡ needed 1 xs
-packed_needed xs taken top is =
-    let low = packed_low xs taken top is in
-    let high = packed_high xs taken top is in
-    omega arith
+packed_needed xs taken top is = grind (arith, packed_high xs taken top is, packed_low xs taken top is)
 
 -- one number more takes the first free place p from it on
 pub packed_more : (xs : List ℕ) (taken taken' : ℕ → Bool) (top x p : ℕ) → IsPacked xs taken top → x ≤ p
@@ -261,17 +220,8 @@ packed_more xs taken taken' top x p is from passed free now other = record {
       let count = count_no (s + 1) x xs (omega arith) in
       let places = put_out taken taken' p other (s + 1) n (omega arith) in
       omega arith)));
-  up_to = λ q holds. by_eq q p
-      (λ here. omega arith)
-      (λ apart. let old : q ≤ top = is.up_to q (sym (other q apart) ∙ holds) in omega arith);
-  reached = by_lt top p
-      (λ less. let is_p : max top p ≡ p = omega arith in inr (ap taken' is_p ∙ now))
-      (λ up. let is_top : max top p ≡ top = omega arith in elim is.reached [
-        | inl none ↦ inl (is_top ∙ none)
-        | inr last ↦ by_eq top p
-            (λ here. inr (ap taken' (is_top ∙ here) ∙ now))
-            (λ apart. inr (ap taken' is_top ∙ other top apart ∙ last))
-      ]);
+  up_to = grind arith;
+  reached = grind arith;
 }
 
 -- Links
@@ -302,24 +252,10 @@ module _ (links : List ℕ) (p next after : ℕ) (is : IsLinked links) (within :
     at_other q other = ap (λ n. q + n) (get_or-set_other links p q (after - p) 0 other)
 
     pub shorter_alike : (q : ℕ) → is_taken (set links p (after - p)) q ≡ is_taken links q
-    shorter_alike q = by_eq q p
-        (λ same.
-        let new : is_taken (set links p (after - p)) p ≡ true = from_taken (set links p (after - p)) p
-        (let one = at_p in let two = ahead in let three = further in omega arith) in
-        let old : is_taken links p ≡ true = from_taken links p (omega arith) in
-        ap (is_taken (set links p (after - p))) same ∙ new ∙ sym old ∙ sym (ap (is_taken links) same))
-        (λ other. ap (λ l. not (l == q)) (at_other q other))
+    shorter_alike q = grind (arith, ahead, at_other, at_p, from_taken, further)
 
     pub shorter_linked : IsLinked (set links p (after - p))
-    shorter_linked k q low high = shorter_alike q ∙ by_eq k p
-        (λ same.
-        let here : link (set links p (after - p)) k ≡ link (set links p (after - p)) p =
-        ap (link (set links p (after - p))) same in
-        let one = at_p in
-        by_lt q next
-        (λ first. is p q (omega arith) (omega arith))
-        (λ second. is next q second (omega arith)))
-        (λ other. let here = at_other k other in is k q low (omega arith))
+    shorter_linked k q low high = grind (arith, at_other, at_p, shorter_alike)
 
 -- a free place that is taken
 module _ (links : List ℕ) (p : ℕ) (is : IsLinked links) (within : p < length links) (free : is_taken links p ≡ false) where
@@ -333,20 +269,10 @@ module _ (links : List ℕ) (p : ℕ) (is : IsLinked links) (within : p < length
   put_other q other = ap (λ n. not (q + n == q)) (get_or-set_other links p q 1 0 other)
 
   still : (q : ℕ) → is_taken links q ≡ true → is_taken (set links p 1) q ≡ true
-  still q holds = by_eq q p
-      (λ same. ap (is_taken (set links p 1)) same ∙ put_now)
-      (λ other. put_other q other ∙ holds)
+  still q holds = grind (arith, put_now, put_other)
 
   pub put_linked : IsLinked (set links p 1)
-  put_linked k q low high = by_eq k p
-      (λ same.
-      let here : link (set links p 1) k ≡ link (set links p 1) p = ap (link (set links p 1)) same in
-      let one = at_place in
-      let is_p : q ≡ p = omega arith in
-      ap (is_taken (set links p 1)) is_p ∙ put_now)
-      (λ other.
-      let here : link (set links p 1) k ≡ link links k = ap (λ n. k + n) (get_or-set_other links p k 1 0 other) in
-      still q (is k q low (omega arith)))
+  put_linked k q low high = grind (arith, at_place, get_or-set_other, put_now, still)
 
 -- a link goes no further than behind the last taken place
 pub link_near : (links : List ℕ) (top p : ℕ) → IsLinked links → ((q : ℕ) → is_taken links q ≡ true → q ≤ top)

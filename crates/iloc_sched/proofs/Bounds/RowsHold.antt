@@ -1,5 +1,5 @@
 -- How many of some operations a row holds; for `laws::least_bounds_the_cycles`.
-use Rattle.std.proofs.Common.{◌≡◌, ◌∙◌, ℕ, ◌+◌, ◌≤◌, Bool, true, false, not, ◌&&◌, List, [], ◌∷◌, ◌++◌, Option, Some, None, refl, sym, ap, inl, inr, arith}
+use Rattle.std.proofs.Common.{◌≡◌, ℕ, ◌+◌, ◌≤◌, Bool, true, false, not, ◌&&◌, List, ◌++◌, Option, Some, arith}
 use Rattle.std.specs.Prelude.{count_by, option_to_list, IsTrue}
 use Rattle.iloc_ops.specs.declared.op.Op.{Op}
 use Rattle.iloc_meaning.specs.Trace.{op_at}
@@ -25,16 +25,14 @@ both_slots : (p : ℕ → Bool) (first second : Option ℕ) → count_by p (opti
 both_slots p first second = count-append p (option_to_list first) (option_to_list second)
 
 one_slot : (p : ℕ → Bool) (slot : Option ℕ) → count_by p (option_to_list slot) ≤ 1
-one_slot p None = omega arith
-one_slot p (Some i) = count_by-le-length p (i ∷ [])
+one_slot p slot = grind (arith, count_by-le-length)
 
 no_slot : (p : ℕ → Bool) (slot : Option ℕ) → ((i : ℕ) → slot ≡ Some i → p i ≡ false)
     → count_by p (option_to_list slot) ≤ 0
 no_slot p slot h = grind (arith, count_by-cons)
 
 units_parts : (a b c : Bool) → (not a && not b && not c) ≡ true → (a ≡ false) × (b ≡ false) × (c ≡ false)
-units_parts false false false h = (refl, refl, refl)
-units_parts _ _ _ h = cc
+units_parts a b c h = grind arith
 
 -- the parts of the rules of the units
 units_of : (ops : List Op) (row : Row) → IsTrue (keeps_units ops row)
@@ -44,8 +42,7 @@ units_of ops row h = grind (arith, units_parts)
 
 not_there : (test : Kind → Bool) (ops : List Op) (slot : Option ℕ) → is_some_kind test (kind_in ops slot) ≡ false
     → count_by (is_kind test ops) (option_to_list slot) ≤ 0
-not_there test ops slot h = no_slot (is_kind test ops) slot
-    (λ i e. sym (ap (λ s. is_some_kind test (kind_in ops s)) e) ∙ h)
+not_there test ops slot h = grind (arith, no_slot)
 
 pub holds_memory : (ops : List Op) → Holds is_memory 1 ops
 holds_memory ops = grind (arith, both_slots, not_there, one_slot, units_of)
@@ -54,16 +51,7 @@ pub holds_products : (ops : List Op) → Holds is_mult 1 ops
 holds_products ops = grind (arith, both_slots, not_there, one_slot, units_of)
 
 pub holds_outputs : (ops : List Op) → Holds is_output 1 ops
-holds_outputs ops row h =
-    let p : ℕ → Bool = is_kind is_output ops in
-    let zero_one = one_slot p row.zero in
-    let one_one = one_slot p row.one in
-    let sum = both_slots p row.one row.zero in
-    elim (and_cases (is_some_kind is_output (kind_in ops row.zero)) (is_some_kind is_output (kind_in ops row.one))
-    (units_of ops row h).2) [
-      | inl first ↦ (let none = not_there is_output ops row.zero first in omega arith)
-      | inr second ↦ (let none = not_there is_output ops row.one second in omega arith)
-    ]
+holds_outputs ops row h = grind (arith, and_cases, both_slots, not_there, one_slot, units_of)
 
 pub holds_all : (ops : List Op) → Holds (λ k. true) 2 ops
 holds_all ops = grind (arith, both_slots, one_slot)

@@ -1,5 +1,5 @@
 -- How early operations are issued at least, by their tails; for `laws::least_bounds_the_cycles`.
-use Rattle.std.proofs.Common.{◌≡◌, ◌∙◌, ℕ, ◌+◌, ◌-◌, ◌*◌, ◌<◌, ◌≤◌, ◌/◌, max, zero, suc, Bool, true, cond, ◌&&◌, List, [], ◌∷◌, length, map, filter, refl, sym, ap, add-one, inl, inr, arith, false, take, get_or, subst}
+use Rattle.std.proofs.Common.{◌≡◌, ◌∙◌, ℕ, ◌+◌, ◌-◌, ◌*◌, ◌<◌, ◌≤◌, ◌/◌, max, zero, suc, Bool, true, cond, ◌&&◌, List, [], ◌∷◌, length, map, filter, refl, sym, ap, add-one, inl, inr, arith, take, get_or, subst}
 use Rattle.std.specs.Prelude.{count_by, nat_le, nat_lt, slice_index, fold, sum_by, All}
 use Rattle.std.specs.List.{range_with_len}
 use Rattle.std.proofs.Math.Nat.{mul-suc, mul-div-le, mul-le-mul_left}
@@ -11,15 +11,14 @@ use Rattle.std.proofs.lemmas.List.Elements.{All-map}
 use Rattle.iloc_ops.specs.declared.op.Op.TheVariants.{Nop}
 use Rattle.iloc_ops.specs.declared.op.Op.{Op}
 use Rattle.iloc_meaning.specs.Trace.{op_at}
-use Rattle.iloc_meaning.proofs.Cases.{by_bool}
 use Rattle.iloc_timed.specs.declared.kind.Kind.{Kind}
 use Rattle.iloc_timed.specs.declared.latencies.Latencies.{Latencies}
 use Rattle.iloc_timed.specs.declared.row.Row.{Row}
 use Rattle.iloc_timed.specs.Kinds.{kind, is_load, is_store}
 use Rattle.iloc_timed.specs.Latency.{latency}
-use Rattle.iloc_timed.specs.Rows.{row_at, slots, issue_cycle, IsTable}
+use Rattle.iloc_timed.specs.Rows.{issue_cycle, IsTable}
 use Rattle.iloc_timed.proofs.WholeRuns.{short_latency, some_latency}
-use Rattle.iloc_sched.specs.Delays.{when, delays, IsDelayPair, uses_result, reads_stored, keeps_order, memory_delays}
+use Rattle.iloc_sched.specs.Delays.{when, delays, IsDelayPair}
 use Rattle.iloc_sched.specs.Priority.{reaches}
 use Rattle.iloc_sched.specs.LowerBound.Least.{count_from, cycles_from, needed, load_tails, behind, tails, tail}
 use Rattle.iloc_sched.specs.Steps.Members.{In}
@@ -48,10 +47,7 @@ is_between : (a c x : ℕ) → between a c x ≡ true → (a ≤ x) × (x < c)
 is_between a c x h = grind (arith, and_parts, at_least, nat_tests)
 
 in_between : (a c x : ℕ) → a ≤ x → x < c → between a c x ≡ true
-in_between a c x low high =
-    let first : nat_le a x ≡ true = grind (arith, nat_tests) in
-    let second : nat_lt x c ≡ true = grind (arith, nat_tests) in
-    and_from (nat_le a x) (nat_lt x c) first second
+in_between a c x low high = grind (arith, and_from, nat_tests)
 
 -- of the operations that pass a test a cycle holds so many
 abbrev pub Crowd : ℕ → (ℕ → Bool) → ℕ → (ℕ → ℕ) → Type 0
@@ -112,30 +108,18 @@ numbers_few : (test : Kind → Bool) (width : ℕ) (ops : List Op) (rows : List 
     → count_by (λ i. is_kind test ops i && nat_le a (issue_cycle rows i)) (numbers_before rows c) ≤ width * (c - a)
 numbers_few test width ops rows table holds a zero = omega arith
 numbers_few test width ops rows table holds a (suc c) =
-    let p : ℕ → Bool = λ i. is_kind test ops i && nat_le a (issue_cycle rows i) in
-    elim (cases_lt c a) [
-      | inl early ↦
-          (let none : count_by p (numbers_before rows (suc c)) ≤ 0 =
-          count-never p (numbers_before rows (suc c)) (λ i there passes.
-          let parts = and_parts (is_kind test ops i) (nat_le a (issue_cycle rows i)) passes in
-          let late : a ≤ issue_cycle rows i = at_least a (issue_cycle rows i) parts.1 in
-          let soon : issue_cycle rows i < suc c = (issued_early ops rows table (suc c) i there).1 in
-          absurd (omega arith)) in
-          omega arith)
-      | inr late ↦
-          (let rest : count_by p (numbers_before rows c) ≤ width * (c - a) =
-          numbers_few test width ops rows table holds a c in
-          let fewer : count_by p (slots (row_at rows c)) ≤ count_by (is_kind test ops) (slots (row_at rows c)) =
-          count-mono p (is_kind test ops) (slots (row_at rows c)) (λ i there passes.
-          (and_parts (is_kind test ops i) (nat_le a (issue_cycle rows i)) passes).0) in
-          let here : count_by (is_kind test ops) (slots (row_at rows c)) ≤ width =
-          holds (row_at rows c) (table.units c) in
-          let sum = count-append p (slots (row_at rows c)) (numbers_before rows c) in
-          let more : suc c - a ≡ suc (c - a) = omega arith in
-          let product : width * (suc c - a) ≡ width * (c - a) + width =
-          ap (λ m. width * m) more ∙ mul-suc width (c - a) in
-          omega arith)
-    ]
+    grind (
+      arith,
+      and_parts,
+      at_least a,
+      count-append,
+      count-mono,
+      count-never,
+      issued_early ops rows table (suc c),
+      mul-suc width (c - a),
+      table.units c,
+      numbers_few test width ops rows table holds a c,
+    )
 
 pub crowd_of : (test : Kind → Bool) (width : ℕ) (ops : List Op) (rows : List Row) → IsTable ops rows
     → Holds test width ops → Crowd width (is_kind test ops) (length ops) (issue_cycle rows)
@@ -145,14 +129,7 @@ crowd_of test width ops rows table holds a c =
     let range : List ℕ = range_with_len 0 (length ops) in
     let early : List ℕ = filter p (numbers_before rows c) in
     let inside : count_by q range ≤ count_by (among early) range =
-    count-mono q (among early) range (λ i there passes.
-    let parts = and_parts (is_kind test ops i) (between a c (issue_cycle rows i)) passes in
-    let when_issued = and_parts (nat_le a (issue_cycle rows i)) (nat_lt (issue_cycle rows i) c) parts.1 in
-    let time = is_between a c (issue_cycle rows i) parts.1 in
-    let below = (from_range 0 (length ops) i there).1 in
-    in_among early i (in_filter p (numbers_before rows c) i
-    (early_issued ops rows table c i (omega arith) time.1)
-    (and_from (is_kind test ops i) (nat_le a (issue_cycle rows i)) parts.0 when_issued.0))) in
+    grind (arith, and_from, and_parts, count-mono, early_issued, from_range, in_among, in_filter, is_between) in
     let few : count_by (among early) range ≤ length early = among-short early 0 (length ops) in
     let size : length early ≡ count_by p (numbers_before rows c) = length-filter p (numbers_before rows c) in
     let most : count_by p (numbers_before rows c) ≤ width * (c - a) =
@@ -172,11 +149,7 @@ count_later : (p : ℕ → Bool) (a n : ℕ)
 count_later p a zero = refl
 count_later p a (suc n) =
     let here = count_by-cons (λ i. p (suc i)) a (range_with_len (a + 1) n) in
-    let other = count_by-cons p (a + 1) (range_with_len (a + 1 + 1) n) in
-    let same : cond {A = ℕ} (p (suc a)) 1 0 ≡ cond (p (a + 1)) 1 0 = ap (λ k. cond {A = ℕ} (p k) 1 0) (sym (add-one a)) in
-    let rest : count_by (λ i. p (suc i)) (range_with_len (a + 1) n) ≡ count_by p (range_with_len (a + 1 + 1) n) =
-    count_later p (a + 1) n in
-    omega arith
+    grind (arith, add-one, count_by-cons, count_later p (a + 1) n)
 
 fits_later : (lat : Latencies) (op : Op) (later : List Op) (limit : ℕ) (t : ℕ → ℕ) → Fits lat (op ∷ later) limit t
     → Fits lat later limit (λ i. t (suc i))
@@ -200,9 +173,7 @@ loads_picked : (ops : List Op) (ts : List ℕ) (b : ℕ) → count_from (load_ta
     ≤ count_from (map (slice_index ts) (filter (loads_at ops) (range_with_len 0 (length ops)))) b
 loads_picked ops ts b =
     let mapped = count-map (λ x. nat_le b x) (slice_index ts) (filter (loads_at ops) (range_with_len 0 (length ops))) in
-    let kept = count-filter (λ i. nat_le b (slice_index ts i)) (loads_at ops) (range_with_len 0 (length ops)) in
-    let by_number = counted ops ts in
-    omega arith
+    grind (arith, count-filter, counted)
   where
     counted : (ops : List Op) (ts : List ℕ) → count_from (load_tails ops ts) b
         ≤ count_by (λ i. loads_at ops i && nat_le b (slice_index ts i)) (range_with_len 0 (length ops))
@@ -233,17 +204,8 @@ tail_first : (lat : Latencies) (op : Op) (later : List Op) (limit : ℕ) (t : �
     → ((k : ℕ) → k < length later → t (suc k) + tail lat later k ≤ limit) → t 0 + tail lat (op ∷ later) 0 ≤ limit
 tail_first lat op later limit t f left =
     let own : t 0 + fold max (latency lat op) (reaches lat op later (tails lat later)) ≤ limit =
-    elim (fold_max_reached (latency lat op) (reaches lat op later (tails lat later))) [
-      | inl same ↦ (let end : t 0 + latency lat op ≤ limit = f.ends 0 (omega arith) in omega arith)
-      | inr there ↦ by_pair (from_reaches lat op later (tails lat later)
-          (fold max (latency lat op) (reaches lat op later (tails lat later))) there)
-    ] in
-    let store : t 0 + behind lat op later (tails lat later) ≤ limit =
-    by_bool (is_store (kind op)) by_loads (λ no.
-    let none : behind lat op later (tails lat later) ≡ 0 = rw no refl in
-    let end : t 0 + latency lat op ≤ limit = f.ends 0 (omega arith) in
-    omega arith) in
-    omega arith
+    grind (arith, by_pair, fold_max_reached, from_reaches) in
+    grind (arith, by_loads)
   where
     by_pair : Reached lat op later (tails lat later) (fold max (latency lat op) (reaches lat op later (tails lat later)))
         → t 0 + fold max (latency lat op) (reaches lat op later (tails lat later)) ≤ limit
@@ -306,17 +268,8 @@ serial_next lat ops i below = sum_by_more (latency lat) ops i Nop below
 -- later ones are issued when this one is done, at the earliest
 serial_after : (lat : Latencies) (ops : List Op) (i n : ℕ) → i + 1 + n ≤ length ops
     → serial lat ops i + latency lat (op_at ops i) ≤ serial lat ops (i + 1 + n)
-serial_after lat ops i zero within =
-    let next = serial_next lat ops i (omega arith) in
-    let here : i + 1 + 0 ≡ i + 1 = omega arith in
-    let same = ap (serial lat ops) here in
-    omega arith
-serial_after lat ops i (suc n) within =
-    let rest = serial_after lat ops i n (omega arith) in
-    let next = serial_next lat ops (i + 1 + n) (omega arith) in
-    let further : i + 1 + suc n ≡ (i + 1 + n) + 1 = omega arith in
-    let same = ap (serial lat ops) further in
-    omega arith
+serial_after lat ops i zero within = grind (arith, serial_next lat ops i)
+serial_after lat ops i (suc n) within = grind (arith, serial_next lat ops (i + 1 + n), serial_after lat ops i n)
 
 serial_few : (lat : Latencies) (ops : List Op) (p : ℕ → Bool) (a c k n : ℕ) → k + n ≤ length ops
     → count_by (λ i. p i && between a c (serial lat ops i)) (range_with_len k n) ≤ c - max a (serial lat ops k)
@@ -328,32 +281,19 @@ serial_few lat ops p a c k (suc n) within =
     let next = serial_next lat ops k (omega arith) in
     let some : 1 ≤ latency lat (op_at ops k) = some_latency lat (kind (op_at ops k)) in
     let here = count_by-cons q k (range_with_len (k + 1) n) in
-    by_bool (q k)
-    (λ is.
-    let one : cond {A = ℕ} (q k) 1 0 ≡ 1 = ap (λ b. cond {A = ℕ} b 1 0) is in
-    let time = is_between a c (serial lat ops k) (and_parts (p k) (between a c (serial lat ops k)) is).1 in
-    let low : a ≤ serial lat ops k = time.0 in
-    let high : serial lat ops k < c = time.1 in
-    omega arith)
-    (λ not.
-    let none : cond {A = ℕ} (q k) 1 0 ≡ 0 = ap (λ b. cond {A = ℕ} b 1 0) not in
-    omega arith)
+    grind (arith, and_parts, is_between)
 
 serial_fits : (lat : Latencies) (ops : List Op) → Fits lat ops (serial_end lat ops) (serial lat ops)
 serial_fits lat ops = record {
   ends = λ i below.
       let after = serial_after lat ops i (length ops - (i + 1)) (omega arith) in
-      let end : i + 1 + (length ops - (i + 1)) ≡ length ops = omega arith in
-      let all = serial_all end in
-      omega arith;
+      grind (arith, serial_all);
   waits = λ i j d pair.
       let order : i < j = pair.order in
       let within : j < length ops = pair.within in
       let most : d ≤ latency lat (op_at ops i) = delay_at_most lat (op_at ops i) (op_at ops j) d pair.delay in
       let after = serial_after lat ops i (j - (i + 1)) (omega arith) in
-      let at : i + 1 + (j - (i + 1)) ≡ j = omega arith in
-      let same = ap (serial lat ops) at in
-      omega arith;
+      grind arith;
   crowd = λ a c. let few = serial_few lat ops (loads_at ops) a c 0 (length ops) (omega arith) in omega arith;
 }
   where
@@ -363,9 +303,7 @@ serial_fits lat ops = record {
 -- a tail is at most all latencies together
 pub tail_most : (lat : Latencies) (ops : List Op) (i : ℕ) → i < length ops → tail lat ops i ≤ serial_end lat ops
 tail_most lat ops i below =
-    let within : serial lat ops i + tail lat ops i ≤ serial_end lat ops =
-    tail_within lat ops (serial_end lat ops) (serial lat ops) (serial_fits lat ops) i below in
-    omega arith
+    grind (arith, serial_fits lat ops, tail_within lat ops (serial_end lat ops) (serial lat ops) (serial_fits lat ops) i below)
 
 -- which are at most 16 cycles for each operation
 pub short_own : (lat : Latencies) (ops : List Op) (own : List ℕ) → own ≡ map (latency lat) ops → All (λ n. n ≤ 16) own
@@ -378,8 +316,4 @@ serial_of lat ops own are = ap (sum_by (λ n. n)) are ∙ sum-map (latency lat) 
 
 pub serial_short : (lat : Latencies) (ops : List Op) → serial_end lat ops ≤ 16 * length ops
 serial_short lat [] = omega arith
-serial_short lat (op ∷ ops) =
-    let rest = serial_short lat ops in
-    let all = sum_by-cons (latency lat) op ops in
-    let short : latency lat op ≤ 16 = short_latency lat (kind op) in
-    omega arith
+serial_short lat (op ∷ ops) = grind (arith, short_latency lat (kind op), sum_by-cons (latency lat) op ops, serial_short lat ops)

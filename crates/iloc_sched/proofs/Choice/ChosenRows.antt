@@ -1,5 +1,5 @@
 -- What the choice puts into a row: ready operations, by the rules of the units; for `laws::one_greedy_schedule`.
-use Rattle.std.proofs.Common.{arith, ◌≡◌, ◌≢◌, ℕ, Bool, true, false, ◌||◌, ◌&&◌, not, List, [], ◌∷◌, ◌++◌, Option, Some, None, ◌⊎◌, inl, inr, ap}
+use Rattle.std.proofs.Common.{arith, ◌≡◌, ◌≢◌, ℕ, Bool, true, false, ◌||◌, ◌&&◌, not, List, [], ◌∷◌, ◌++◌, Option, Some, None, ◌⊎◌}
 use Rattle.std.specs.Prelude.{filter, ◌==◌, count_by, option_to_list}
 use Rattle.std.proofs.lemmas.Bool.{and_parts, eq-eqb, ne_eqb, eqb-false, not-true, true≢false, false≢true}
 use Rattle.iloc_ops.specs.declared.op.Op.{Op}
@@ -83,8 +83,7 @@ module _ (ops : List Op) (prios candidates : List ℕ) where
 
   second : (a k : ℕ) → first_of_all prios (beside a) ≡ Some k → In candidates k
       × ((not (a == k) && may_stand_beside (kind (op_at ops a)) (kind (op_at ops k))) ≡ true)
-  second a k is = from_filter (λ b. not (a == b) && may_stand_beside (kind (op_at ops a)) (kind (op_at ops b)))
-      candidates k (first_in prios (beside a) k is)
+  second a k is = grind (arith, first_in prios (beside a) k is, from_filter)
 
   second_fits : (a : ℕ) → FitsBeside ops a (first_of_all prios (beside a))
   second_fits a k is = (and_parts (not (a == k)) (may_stand_beside (kind (op_at ops a)) (kind (op_at ops k)))
@@ -101,10 +100,7 @@ module _ (ops : List Op) (prios candidates : List ℕ) where
   with_in : (a : Option ℕ) (i : ℕ) → ((k : ℕ) → a ≡ Some k → In candidates k)
       → In (slots (chosen_with ops prios candidates a)) i → In candidates i
   with_in None i first there = absurd there
-  with_in (Some a) i first there = elim (from_slots ops a (first_of_all prios (beside a)) i there) [
-    | inl here ↦ first i (ap Some here)
-    | inr other ↦ (second a i other).0
-  ]
+  with_in (Some a) i first there = grind (arith, from_slots ops a (first_of_all prios (beside a)) i there, second a i)
 
   with_once : (a : Option ℕ) (i : ℕ) → In (slots (chosen_with ops prios candidates a)) i
       → count_in (chosen_with ops prios candidates a) i ≡ 1
@@ -128,5 +124,4 @@ module _ (ops : List Op) (prios candidates : List ℕ) where
 
   -- where there is a candidate, one is chosen
   pub chosen_some : (i : ℕ) → In candidates i → slots (chosen ops prios candidates) ≢ []
-  chosen_some i there = let found = first_some prios candidates i there in
-      with_some (first_of_all prios candidates) found.0 found.1
+  chosen_some i there = grind (arith, first_some prios candidates i there, with_some (first_of_all prios candidates))

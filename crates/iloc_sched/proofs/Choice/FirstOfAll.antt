@@ -39,12 +39,7 @@ first_from prios i is None low found rest j (inl here) = subst (GoesBefore prios
 first_from prios i [] None low found rest j (inr there) = absurd there
 first_from prios i (x ∷ is) None low found rest j (inr there) = absurd (none-some _ (sym found))
 first_from prios i is (Some m) low found rest j there =
-    let above : i < m = low m (first_in prios is m found) in
-    let both = better_before prios i m (omega arith) in
-    elim there [
-      | inl here ↦ subst (GoesBefore prios (better prios i (Some m))) here both.0
-      | inr later ↦ goes_before_trans prios (better prios i (Some m)) m j both.1 (rest m j refl later)
-    ]
+    grind (arith, better_before prios i m, first_in prios is m found, goes_before_trans prios (better prios i (Some m)) m j)
 
 pub first_goes_before : (prios xs : List ℕ) (k j : ℕ) → Rises xs → first_of_all prios xs ≡ Some k → In xs j
     → GoesBefore prios k j

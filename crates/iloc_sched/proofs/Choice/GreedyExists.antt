@@ -1,5 +1,5 @@
 -- Each block has a greedy schedule, since choosing rows ends: `laws::one_greedy_schedule` (`exists`).
-use Rattle.std.proofs.Common.{◌≡◌, ◌≢◌, ℕ, ◌+◌, ◌<◌, ◌≤◌, zero, suc, List, [], ◌∷◌, ◌++◌, length, ◌⊎◌, inl, inr, refl, sym, subst, arith}
+use Rattle.std.proofs.Common.{◌≡◌, ◌≢◌, ℕ, ◌+◌, ◌<◌, ◌≤◌, zero, suc, List, [], ◌∷◌, ◌++◌, length, ◌⊎◌, inl, inr, refl, arith}
 use Rattle.std.specs.Prelude.{nat_lt, sum_by}
 use Rattle.std.specs.List.{list_all, range_with_len}
 use Rattle.std.proofs.lemmas.Bool.{ltb-true, ltb-false}
@@ -14,7 +14,6 @@ use Rattle.iloc_sched.specs.Renaming.{renamed}
 use Rattle.iloc_sched.specs.Priority.{priorities}
 use Rattle.iloc_sched.specs.Greedy.{ready, chosen, IsGreedy, IsGreedyBy}
 use Rattle.iloc_sched.specs.Steps.Cycle.Choosing.{IsChosenSoFar}
-use Rattle.iloc_sched.specs.Steps.Members.{In}
 use Rattle.iloc_sched.proofs.Basics.Members.{from_all, not_all, in_range_from, from_range}
 use Rattle.iloc_sched.proofs.Basics.Slots.{stands_there}
 use Rattle.iloc_sched.proofs.Choice.RowAfterRow.{chosen_more, chosen_is_greedy}
@@ -42,10 +41,7 @@ issued_or_waits ops rows =
     (λ t. inl (λ i below. ltb-true (issue_cycle rows i) (length rows)
     (from_all (λ k. nat_lt (issue_cycle rows k) (length rows)) (range_with_len 0 (length ops)) i t
     (in_range_from 0 (length ops) i (omega arith) (omega arith)))))
-    (λ t.
-    let one = not_all (λ i. nat_lt (issue_cycle rows i) (length rows)) (range_with_len 0 (length ops)) t in
-    let place : (0 ≤ one.0) × (one.0 < 0 + length ops) = from_range 0 (length ops) one.0 one.1 in
-    inr (record { by = one.0; within = omega arith; waiting = ltb-false (issue_cycle rows one.0) (length rows) one.2 }))
+    (grind (arith, from_range, ltb-false, not_all))
 
 module _ (prios : List ℕ) (lat : Latencies) (ops : List Op) where
   next_row : List Row → Row
@@ -58,30 +54,16 @@ module _ (prios : List ℕ) (lat : Latencies) (ops : List Op) where
 
   to_the_end : (fuel : ℕ) (rows : List Row) → IsBegun prios lat ops rows → sum_by (latency lat) ops < length rows + fuel
       → (all : List Row) × IsBegun prios lat ops all × AllIssued ops all
-  to_the_end zero rows begun enough = elim (issued_or_waits ops rows) [
-    | inl done ↦ (rows, begun, done)
-    | inr waits ↦
-        let bound : length rows ≤ sum_by (latency lat) ops =
-        rows_bound prios lat ops rows waits.by begun.so_far waits.within waits.waiting in
-        absurd (omega arith)
-  ]
+  to_the_end zero rows begun enough = grind (arith, issued_or_waits ops rows, rows_bound prios lat ops rows)
   to_the_end (suc fuel) rows begun enough = elim (issued_or_waits ops rows) [
     | inl done ↦ (rows, begun, done)
     | inr waits ↦
-        let longer : length (rows ++ next_row rows ∷ []) ≡ length rows + 1 = length_push rows (next_row rows) in
-        to_the_end fuel (rows ++ next_row rows ∷ []) (one_more rows begun waits)
-        (subst (λ n. sum_by (latency lat) ops < n + fuel) (sym longer) (omega arith))
+        grind (arith, length_push, next_row, one_more, to_the_end fuel (rows ++ next_row rows ∷ []) (one_more rows begun waits))
   ]
 
   last_row_some : (rows : List Row) → IsBegun prios lat ops rows → AllIssued ops rows → (c : ℕ) → length rows ≡ c + 1
       → slots (row_at rows c) ≢ []
-  last_row_some rows begun done c is empty =
-      let waits = begun.last c is in
-      let issued : issue_cycle rows waits.by < length rows = done waits.by waits.within in
-      let late : c ≤ issue_cycle rows waits.by = waits.waiting in
-      let at : issue_cycle rows waits.by ≡ c = omega arith in
-      subst (λ is. In is waits.by) empty (subst (λ k. In (slots (row_at rows k)) waits.by) at
-      (stands_there rows waits.by issued))
+  last_row_some rows begun done c is empty = grind (arith, stands_there rows, begun.last c)
 
 pub greedy_exists_by : (prios : List ℕ) (lat : Latencies) (block : List Op)
     → (rows : List Row) × IsGreedyBy prios lat block (renamed block) rows

@@ -45,14 +45,7 @@ pub same_under_way : (p : Plan) (w : Waiting) (k : Calendar) (f : ℕ) → HasSa
     → IsUnderWay p (record { states = w.states; calendar = k }) f
 same_under_way p w k f same under = record {
   sized = under.sized;
-  calendar = record {
-    room = room_kept w.calendar k (length p.tables.now.ops.items) (same_room w.calendar k same) under.calendar.room;
-    ranked = λ s r low held. under.calendar.ranked s r low (sym (same_has w.calendar k same s r) ∙ held);
-    kept = record {
-      each = λ class j low. same_has w.calendar k same (33 + place_of class) (rank_of p j) ∙ under.calendar.kept.each class j low;
-      only = λ class r held. under.calendar.kept.only class r (sym (same_has w.calendar k same (33 + place_of class) r) ∙ held);
-    };
-  };
+  calendar = grind (arith, room_kept, same_has, same_room);
   waits = same_buckets (graph_of p.tables.now.edges) (progress_of p.ranks.now w) f 0 None (bucket_of p.ranks.now k) under.waits
       (λ b j small. same_has w.calendar k same b (rank_of p j));
   queued = record {

@@ -1,5 +1,5 @@
 -- One more row of a schedule that is being made, and its end; for `Waiting::step`, `Scheduler::fill_rows`.
-use Rattle.std.proofs.Common.{◌≡◌, ◌≢◌, ℕ, suc, ◌+◌, ◌*◌, ◌<◌, ◌≤◌, cond, List, [], ◌∷◌, ◌++◌, length, length-append, set, get_or, Option, Some, None, ◌⊎◌, refl, sym, ◌∙◌, ap, subst, arith, rules}
+use Rattle.std.proofs.Common.{◌≡◌, ◌≢◌, ℕ, suc, ◌+◌, ◌*◌, ◌<◌, ◌≤◌, cond, List, [], ◌∷◌, ◌++◌, length, length-append, set, get_or, Option, Some, None, ◌⊎◌, refl, sym, ◌∙◌, ap, subst, arith, rules, true, false}
 use Rattle.std.specs.Prelude.{count_by, sum_by, is_none, option_to_list}
 use Rattle.std.proofs.lemmas.List.Sums.{sum_by-set, sum_by-le}
 use Rattle.iloc_ops.specs.declared.op.Op.{Op}
@@ -7,9 +7,9 @@ use Rattle.iloc_timed.specs.declared.latencies.Latencies.{Latencies}
 use Rattle.iloc_timed.specs.Kinds.{kind}
 use Rattle.iloc_timed.specs.Latency.{latency}
 use Rattle.iloc_timed.specs.declared.row.Row.{Row}
-use Rattle.iloc_timed.specs.Rows.{empty_row, row_at, slots, issue_cycle}
+use Rattle.iloc_timed.specs.Rows.{empty_row, row_at, slots, holds}
 use Rattle.iloc_sched.specs.Renaming.{renamed}
-use Rattle.iloc_sched.specs.Greedy.{ready, chosen_with, IsGreedyBy}
+use Rattle.iloc_sched.specs.Greedy.{IsGreedyBy}
 use Rattle.iloc_sched.specs.declared.cycle.plan.Plan.{Plan}
 use Rattle.iloc_sched.specs.declared.cycle.Choice.{Choice}
 use Rattle.iloc_sched.specs.declared.cycle.class.Class.TheVariants as C
@@ -23,14 +23,16 @@ use Rattle.iloc_sched.proofs.Basics.IssueCycles.{issue_cycle_more, issue_cycle_l
 use Rattle.iloc_sched.proofs.Basics.Slots.{holds_from, from_holds}
 use Rattle.iloc_sched.proofs.Choice.RowAfterRow.{chosen_more, chosen_is_greedy}
 use Rattle.iloc_sched.proofs.Bounds.BusyCycles.{rows_bound}
-use Rattle.iloc_sched.proofs.Basics.Cases.{by_option}
 use Rattle.iloc_sched.proofs.Choice.IssuedChoice.{issued_at, issued_other}
 use Rattle.iloc_sched.proofs.Walking.TableReads.{issued_size}
 use Rattle.iloc_sched.proofs.Choice.ChosenByRanks.{chosen_none, chosen_row}
 use Rattle.iloc_timed.proofs.WholeRuns.{short_latency}
+use Rattle.iloc_meaning.proofs.Cases.{by_bool}
 
 by_slots : {P : Type 0} → (row : Row) (j : ℕ) → (In (slots row) j → P) → ((In (slots row) j → ⊥) → P) → P
-by_slots row j stands misses = grind (arith, from_holds, holds_from)
+by_slots row j stands misses = by_bool (holds row j) (λ t. stands (from_holds row j t))
+    (λ f. misses (λ there. let t : holds row j ≡ true = holds_from row j there in let e : true ≡ false = sym t ∙ f in
+    cc))
 
 matches_more : (n : ℕ) (rows : List Row) (row : Row) (issued issued' : ℕ → Option ℕ) → MatchesRows n rows issued
     → ((j : ℕ) → In (slots row) j → (issued j ≡ None) × (issued' j ≡ Some (length rows)))
@@ -68,16 +70,7 @@ so_far_none p w w1 w2 rows rows' row plan so_far same under best issues is_row i
     let matches : MatchesRows (length p.tables.now.ops.items) rows (progress_of p.ranks.now w1).issued =
     subst (λ xs. MatchesRows (length p.tables.now.ops.items) rows (λ j. get_or xs j None))
     (sym same) so_far.matches in
-    let is : rows ++ empty_row ∷ [] ≡ rows' = ap (λ r. rows ++ r ∷ []) (sym is_row) ∙ sym is_rows in
-    subst (λ rs. IsSoFar p w2 rs) is (record {
-      under_way = subst (λ n. IsUnderWay p w2 n) (sym size) issues.0;
-      matches = matches_more (length p.tables.now.ops.items) rows empty_row (progress_of p.ranks.now w1).issued (progress_of p.ranks.now w2).issued matches
-          (λ j stands. absurd stands) (λ j misses. ap (λ xs. get_or xs j None) issues.1);
-      each = chosen_more p.priorities.now p.tables.now.latencies p.tables.now.ops.items rows empty_row so_far.each
-          (sym (ap (chosen_with p.tables.now.ops.items p.priorities.now
-          (ready p.tables.now.latencies p.tables.now.ops.items rows (length rows)))
-          (chosen_none p w1 rows plan under matches so_far.each best)));
-    })
+    grind (arith, chosen_more, chosen_none, matches_more)
 
 -- the choices of a cycle in the tables
 module _ (p : Plan) (w1 w2 w3 : Waiting) (c : ℕ) (a : Choice) (first : Issues p w1 w2 c a)
@@ -114,10 +107,7 @@ count_after p w w1 w2 w3 c a None same first second = grind (arith, count_issued
 count_after p w w1 w2 w3 c a (Some b) same first second =
     let one : waiting_count w2 + 1 ≡ waiting_count w1 =
     count_issued (issued_list w1) (issued_list w2) a.number c first.issued first.there first.waiting in
-    let start : waiting_count w1 ≡ waiting_count w = ap (count_by is_none) same in
-    let two : waiting_count w3 + 1 ≡ waiting_count w2 =
-    count_issued (issued_list w2) (issued_list w3) b.number c second.issued second.there second.waiting in
-    omega arith
+    grind (arith, count_issued)
 
 -- a first choice, and perhaps a second
 pub so_far_row : (p : Plan) (w w1 w2 w3 : Waiting) (rows rows' : List Row) (row : Row)
@@ -155,11 +145,7 @@ pub step_none : (p : Plan) (w w1 w2 : Waiting) (rows rows' : List Row) (row : Ro
     → first ≡ None → IsBest p w1 C.Rest first → IssuesAny p w1 w2 c first → row ≡ empty_row → rows' ≡ rows ++ row ∷ []
     → IsSoFar p w2 rows'
 step_none p w w1 w2 rows rows' row c first now plan so_far same under none best issues is_row is_rows =
-    so_far_none p w w1 w2 rows rows' row plan so_far same
-    (subst (λ n. IsUnderWay p w1 (n + 1)) now under)
-    (subst (λ o. IsBest p w1 C.Rest o) none best)
-    (subst (λ n. IssuesAny p w1 w2 n None) now (subst (λ o. IssuesAny p w1 w2 c o) none issues))
-    is_row is_rows
+    grind (arith, so_far_none p w w1 w2 rows rows' row plan so_far same)
 
 -- a cycle with a choice, as the code has it
 pub step_some : (p : Plan) (w w1 w2 w3 : Waiting) (rows rows' : List Row) (row : Row) (c : ℕ)
@@ -211,17 +197,11 @@ few_rows p w rows plan so_far some =
     omega arith
 
 waits_count : (xs : List (Option ℕ)) (j : ℕ) → j < length xs → get_or xs j None ≡ None → 1 ≤ count_by is_none xs
-waits_count xs j below none =
-    let sum : sum_by waits_one (set xs j (Some 0)) + waits_one (get_or xs j None) ≡ sum_by waits_one xs + 0 =
-    sum_by-set waits_one xs j (Some 0) None below in
-    let one : waits_one (get_or xs j None) ≡ 1 = ap waits_one none in
-    omega arith
+waits_count xs j below none = grind (arith, sum_by-set waits_one xs j (Some 0) None below)
 
 none_waits : (xs : List (Option ℕ)) → count_by is_none xs ≡ 0 → (j : ℕ) → j < length xs
     → (t : ℕ) × (get_or xs j None ≡ Some t)
-none_waits xs none j below = by_option (get_or xs j None)
-    (λ waits. let some : 1 ≤ count_by is_none xs = waits_count xs j below waits in absurd (omega arith))
-    (λ t is. (t, is))
+none_waits xs none j below = grind (arith, waits_count xs j below)
 
 -- none waits, so the rows are the greedy schedule
 pub greedy_at_end : (p : Plan) (w : Waiting) (rows : List Row) (block : List Op) → IsPlan p
@@ -234,8 +214,5 @@ greedy_at_end p w rows block plan so_far none last is =
     chosen_is_greedy p.priorities.now p.tables.now.latencies block p.tables.now.ops.items rows is so_far.each
     (λ i below.
     let found : (t : ℕ) × (get_or (issued_list w) i None ≡ Some t) = none_waits (issued_list w) none i (omega arith) in
-    let at : (issue_cycle rows i ≡ found.0) × (found.0 < length rows) = so_far.matches.done i found.0 below found.1 in
-    let same : issue_cycle rows i ≡ found.0 = at.0 in
-    let early : found.0 < length rows = at.1 in
-    omega arith)
+    grind arith)
     last

@@ -1,6 +1,6 @@
 -- Two greedy schedules of a block are equal: `laws::one_greedy_schedule` (`same`), `schedule` (`only`).
-use Rattle.std.proofs.Common.{◌≡◌, ℕ, ◌+◌, ◌-◌, ◌<◌, ◌≤◌, zero, suc, true, false, List, [], ◌∷◌, length, ◌⊎◌, inl, inr, refl, ap, sym, ◌∙◌, subst, arith}
-use Rattle.std.proofs.lemmas.Bool.{cases_order, cases_eq}
+use Rattle.std.proofs.Common.{◌≡◌, ℕ, ◌+◌, ◌-◌, ◌<◌, ◌≤◌, zero, suc, false, List, [], ◌∷◌, length, ◌⊎◌, inl, inr, ap, sym, ◌∙◌, arith}
+use Rattle.std.proofs.lemmas.Bool.{cases_order}
 use Rattle.std.proofs.lemmas.List.{ext_get_or}
 use Rattle.iloc_ops.specs.declared.op.Op.{Op}
 use Rattle.iloc_timed.specs.declared.latencies.Latencies.{Latencies}
@@ -8,7 +8,7 @@ use Rattle.iloc_timed.specs.declared.row.Row.{Row}
 use Rattle.iloc_timed.specs.Rows.{empty_row, row_at, slots, holds, issue_cycle}
 use Rattle.iloc_meaning.proofs.Cases.{by_bool}
 use Rattle.iloc_sched.specs.Priority.{priorities}
-use Rattle.iloc_sched.specs.Greedy.{chosen, IsGreedy, IsGreedyBy}
+use Rattle.iloc_sched.specs.Greedy.{IsGreedy, IsGreedyBy}
 use Rattle.iloc_sched.proofs.Basics.Members.{empty_from}
 use Rattle.iloc_sched.proofs.Basics.Slots.{issued_within}
 use Rattle.iloc_sched.proofs.Choice.Ready.{SameBelow, ready_same}
@@ -23,9 +23,7 @@ cycles_agree (row ∷ rows) [] (suc c) i within within' same = absurd (omega ari
 cycles_agree (row ∷ rows) (row' ∷ rows') (suc c) i within within' same =
     let first : row ≡ row' = same 0 (omega arith) in
     by_bool (holds row i)
-    (λ t.
-    let also : holds row' i ≡ true = ap (λ r. holds r i) (sym first) ∙ t in
-    rw (t, also) (inl refl))
+    (grind arith)
     (λ t.
     let also : holds row' i ≡ false = ap (λ r. holds r i) (sym first) ∙ t in
     rw (t, also) (next (cycles_agree rows rows' c i (omega arith) (omega arith)
@@ -45,16 +43,7 @@ module _ (prios : List ℕ) (lat : Latencies) (block ops : List Op) (rows rows' 
   rows_agree : (c : ℕ) → c ≤ length rows → c ≤ length rows' → (k : ℕ) → k < c → row_at rows k ≡ row_at rows' k
   rows_agree zero within within' k below = absurd (omega arith)
   rows_agree (suc c) within within' k below =
-      elim (cases_eq k c) [
-        | inl here ↦
-            subst (λ n. row_at rows n ≡ row_at rows' n) (sym here)
-            (greedy.each c (omega arith)
-            ∙ ap (chosen ops prios)
-            (ready_same lat ops rows rows' c (λ i. cycles_agree rows rows' c i (omega arith) (omega arith)
-            (rows_agree c (omega arith) (omega arith))))
-            ∙ sym (greedy'.each c (omega arith)))
-        | inr apart ↦ rows_agree c (omega arith) (omega arith) k (omega arith)
-      ]
+      grind (arith, cycles_agree rows rows' c, ready_same lat ops rows rows' c, greedy.each c, greedy'.each c, rows_agree c)
 
   -- the second is not the longer: its last row would be empty
   not_longer : length rows < length rows' → ⊥
@@ -64,11 +53,7 @@ module _ (prios : List ℕ) (lat : Latencies) (block ops : List Op) (rows rows' 
       let was = was_ready prios lat ops rows' greedy'.each (length rows' - 1) i there in
       let waiting : length rows' - 1 ≤ issue_cycle rows' i = was.waiting in
       let issued : issue_cycle rows i < length rows = issued_within ops rows greedy.lawful.table i was.within in
-      elim (cycles_agree rows rows' (length rows) i (omega arith) (omega arith)
-      (rows_agree (length rows) (omega arith) (omega arith))) [
-        | inl one ↦ omega arith
-        | inr none ↦ let far : length rows ≤ issue_cycle rows i = none.0 in omega arith
-      ]))
+      grind (arith, cycles_agree, rows_agree)))
 
 greedy_rows : (prios : List ℕ) (lat : Latencies) (block ops : List Op) (rows rows' : List Row) → IsGreedyBy prios lat block ops rows
     → IsGreedyBy prios lat block ops rows' → rows ≡ rows'
@@ -86,18 +71,14 @@ greedy_rows prios lat block ops rows rows' greedy greedy' = ext_get_or empty_row
 
 pub greedy_same_by : (prios : List ℕ) (lat : Latencies) (block ops ops' : List Op) (rows rows' : List Row) → IsGreedyBy prios lat block ops rows
     → IsGreedyBy prios lat block ops' rows' → (ops ≡ ops') × (rows ≡ rows')
-greedy_same_by prios lat block ops ops' rows rows' greedy greedy' =
-    let same : ops ≡ ops' = greedy.lawful.names ∙ sym greedy'.lawful.names in
-    (same, greedy_rows prios lat block ops rows rows' greedy (subst (λ os. IsGreedyBy prios lat block os rows') (sym same) greedy'))
+greedy_same_by prios lat block ops ops' rows rows' greedy greedy' = grind (arith, greedy_rows prios lat block ops rows rows' greedy)
 
 -- and by priorities that the operations determine
 pub greedy_same_as : (prios : List Op → List ℕ) (lat : Latencies) (block ops ops' : List Op) (rows rows' : List Row)
     → IsGreedyBy (prios ops) lat block ops rows → IsGreedyBy (prios ops') lat block ops' rows'
     → (ops ≡ ops') × (rows ≡ rows')
 greedy_same_as prios lat block ops ops' rows rows' greedy greedy' =
-    let same : ops ≡ ops' = greedy.lawful.names ∙ sym greedy'.lawful.names in
-    greedy_same_by (prios ops) lat block ops ops' rows rows' greedy
-    (subst (λ os. IsGreedyBy (prios os) lat block ops' rows') (sym same) greedy')
+    grind (arith, greedy_same_by (prios ops) lat block ops ops' rows rows' greedy)
 
 pub greedy_same : (lat : Latencies) (block ops ops' : List Op) (rows rows' : List Row) → IsGreedy lat block ops rows
     → IsGreedy lat block ops' rows' → (ops ≡ ops') × (rows ≡ rows')

@@ -61,11 +61,7 @@ ready_from lat ops rows c i is =
     (all_from (all_over lat ops rows c i) (range_with_len 0 i) (λ h there.
     let place : (0 ≤ h) × (h < 0 + i) = from_range 0 i h there in
     all_from (is_over rows c h) (delays lat (op_at ops h) (op_at ops i)) (λ d inside.
-    le-leb (issue_cycle rows h + d) c (is.over h d record {
-      order = omega arith;
-      within = below;
-      delay = contains_from _ d inside;
-    })))))
+    le-leb (issue_cycle rows h + d) c (grind (arith, contains_from))))))
 
 pub ready_rises : (lat : Latencies) (ops : List Op) (rows : List Row) (c : ℕ) → Rises (ready lat ops rows c)
 ready_rises lat ops rows c = grind (arith, ordered_filter, rises_range)

@@ -1,5 +1,5 @@
 -- Rows that are chosen one after another are lawful and greedy at their end; for `schedule` (`greedy`).
-use Rattle.std.proofs.Common.{◌≡◌, ◌≢◌, ℕ, ◌+◌, ◌<◌, ◌≤◌, List, [], ◌∷◌, ◌++◌, length, inl, inr, ap, sym, ◌∙◌, arith}
+use Rattle.std.proofs.Common.{◌≡◌, ◌≢◌, ℕ, ◌+◌, ◌<◌, ◌≤◌, List, [], ◌∷◌, ◌++◌, length, inl, inr, ap, ◌∙◌, arith}
 use Rattle.std.specs.Prelude.{IsTrue}
 use Rattle.std.proofs.lemmas.Bool.{cases_lt}
 use Rattle.std.proofs.lemmas.List.{length_push}
@@ -25,16 +25,9 @@ chosen_more prios lat ops rows row so_far is c below =
     let longer : length (rows ++ row ∷ []) ≡ length rows + 1 = length_push rows row in
     elim (cases_lt c (length rows)) [
       | inl before ↦
-          row_at_more rows row c before
-          ∙ so_far c before
-          ∙ ap (chosen ops prios) (sym (ready_kept lat ops rows row c (omega arith)))
+          grind (arith, ready_kept, row_at_more)
       | inr last ↦
-          let here : c ≡ length rows = omega arith in
-          ap (row_at (rows ++ row ∷ [])) here
-          ∙ row_at_last rows row
-          ∙ is
-          ∙ ap (chosen ops prios) (sym (ready_kept lat ops rows row (length rows) (omega arith)))
-          ∙ ap (λ k. chosen ops prios (ready lat ops (rows ++ row ∷ []) k)) (sym here)
+          grind (arith, ready_kept, row_at_last)
     ]
 
 module _ (prios : List ℕ) (lat : Latencies) (ops : List Op) (rows : List Row)
@@ -73,12 +66,5 @@ module _ (prios : List ℕ) (lat : Latencies) (ops : List Op) (rows : List Row)
 pub chosen_is_greedy : (prios : List ℕ) (lat : Latencies) (block ops : List Op) (rows : List Row) → ops ≡ renamed block
     → IsChosenSoFar prios lat ops rows → ((i : ℕ) → i < length ops → issue_cycle rows i < length rows)
     → ((c : ℕ) → length rows ≡ c + 1 → slots (row_at rows c) ≢ []) → IsGreedyBy prios lat block ops rows
-chosen_is_greedy prios lat block ops rows names so_far all_issued last = record {
-  lawful = record {
-    names = names;
-    table = is_table prios lat ops rows so_far all_issued;
-    waits = waited prios lat ops rows so_far all_issued;
-  };
-  last = last;
-  each = so_far;
-}
+chosen_is_greedy prios lat block ops rows names so_far all_issued last =
+    grind (arith, is_table prios lat ops rows so_far all_issued, waited prios lat ops rows so_far all_issued)

@@ -1,5 +1,5 @@
 -- A delay is the latency of the earlier operation or 1; for priorities, bounds and the kept edges.
-use Rattle.std.proofs.Common.{◌≡◌, ℕ, ◌≤◌, Bool, true, List, ◌⊎◌, inl, inr, refl, arith, ◌++◌}
+use Rattle.std.proofs.Common.{◌≡◌, ℕ, ◌≤◌, Bool, true, List, ◌⊎◌, inl, refl, arith, ◌++◌}
 use Rattle.std.specs.Prelude.{Contains}
 use Rattle.iloc_ops.specs.declared.op.Op.{Op}
 use Rattle.iloc_timed.specs.declared.kind.Kind.{Kind}
@@ -26,10 +26,7 @@ pub delay_is : (lat : Latencies) (i j : Op) (d : ℕ) → Contains (delays lat i
 delay_is lat i j d there = grind (arith, from_append, from_when, in_from)
 
 pub delay_at_least : (lat : Latencies) (i j : Op) (d : ℕ) → Contains (delays lat i j) d → 1 ≤ d
-delay_at_least lat i j d there = elim (delay_is lat i j d there) [
-  | inl is ↦ let some : 1 ≤ latency lat i = some_latency lat (kind i) in omega arith
-  | inr is ↦ omega arith
-]
+delay_at_least lat i j d there = grind (arith, delay_is lat i j d there, some_latency lat (kind i))
 
 pub delay_at_most : (lat : Latencies) (i j : Op) (d : ℕ) → Contains (delays lat i j) d → d ≤ latency lat i
 delay_at_most lat i j d there = grind (arith, delay_is, some_latency)

@@ -1,5 +1,5 @@
 -- The list of delay pairs has exactly the delay pairs, in order: `pairs` (`list`, `exact`, `ordered`).
-use Rattle.std.proofs.Common.{◌≡◌, ℕ, zero, suc, ◌+◌, ◌<◌, List, ◌++◌, length, get_or, refl, sym, ap, ◌∙◌, arith, inl, inr, ◌↔◌, append_assoc, add-one}
+use Rattle.std.proofs.Common.{◌≡◌, ℕ, zero, suc, ◌+◌, ◌<◌, List, ◌++◌, length, get_or, refl, ap, ◌∙◌, arith, inl, inr, ◌↔◌, append_assoc, add-one}
 use Rattle.std.specs.Prelude.{Contains}
 use Rattle.std.specs.List.{AllPairs}
 use Rattle.std.proofs.lemmas.Bool.{cases_eq}
@@ -28,11 +28,7 @@ between lat ops j i p there = grind (arith, from_map, from_rising)
 from_pairs_from : (lat : Latencies) (ops : List Op) (j i : ℕ) (p : Pair) → In (pairs_from lat ops j i) p
     → IsTo lat ops j p × (p.first < i)
 from_pairs_from lat ops j zero p there = absurd there
-from_pairs_from lat ops j (suc i) p there = elim (from_append (pairs_from lat ops j i) _ p there) [
-  | inl before ↦ let earlier = from_pairs_from lat ops j i p before in let below : p.first < i = earlier.1 in
-      (earlier.0, omega arith)
-  | inr here ↦ let at_i = between lat ops j i p here in let same : p.first ≡ i = at_i.1 in (at_i.0, omega arith)
-]
+from_pairs_from lat ops j (suc i) p there = grind (arith, between, from_append, from_pairs_from lat ops j i p)
 
 in_pairs_from : (lat : Latencies) (ops : List Op) (j n i d : ℕ) → i < n → In (delays lat (op_at ops i) (op_at ops j)) d
     → In (pairs_from lat ops j n) (record { first = i; second = j; delay = d })
@@ -55,17 +51,7 @@ record IsWithin (lat : Latencies) (ops : List Op) (n : ℕ) (p : Pair) : Type 0 
 from_pairs_before : (lat : Latencies) (ops : List Op) (n : ℕ) (p : Pair) → In (pairs_before lat ops n) p
     → IsWithin lat ops n p
 from_pairs_before lat ops zero p there = absurd there
-from_pairs_before lat ops (suc n) p there = elim (from_append (pairs_before lat ops n) _ p there) [
-  | inl before ↦
-      let earlier = from_pairs_before lat ops n p before in
-      let below : p.second < n = earlier.within in
-      record { within = omega arith; order = earlier.order; delay = earlier.delay }
-  | inr here ↦
-      let to_n = from_pairs_from lat ops n n p here in
-      let same : p.second ≡ n = to_n.0.second in
-      let below : p.first < n = to_n.1 in
-      record { within = omega arith; order = omega arith; delay = rw same to_n.0.delay }
-]
+from_pairs_before lat ops (suc n) p there = grind (arith, from_append, from_pairs_from, from_pairs_before lat ops n p)
 
 in_pairs_before : (lat : Latencies) (ops : List Op) (n i j d : ℕ) → i < j → j < n
     → In (delays lat (op_at ops i) (op_at ops j)) d
@@ -96,12 +82,7 @@ ordered_from lat ops j (suc n) =
     (rising (delays lat (op_at ops n) (op_at ops j)))
     (λ a b below. inr (refl, inr (refl, below)))
     (rising_ordered (delays lat (op_at ops n) (op_at ops j))))
-    (λ p q before here.
-    let left = from_pairs_from lat ops j n p before in
-    let right = between lat ops j n q here in
-    let below : p.first < n = left.1 in
-    let same : q.first ≡ n = right.1 in
-    inr (left.0.second ∙ sym right.0.second, inl (omega arith)))
+    (grind (arith, between, from_pairs_from))
 
 ordered_before : (lat : Latencies) (ops : List Op) (n : ℕ) → Ordered ComesBefore (pairs_before lat ops n)
 ordered_before lat ops zero = tt

@@ -1,7 +1,6 @@
 -- The delays of two operations in order, each once; for `pairs` (`exact`, `ordered`).
-use Rattle.std.proofs.Common.{◌≡◌, ℕ, ◌<◌, ◌⊎◌, ◌==◌, nat_lt, List, [], ◌∷◌, refl, arith, inl, inr}
+use Rattle.std.proofs.Common.{◌≡◌, ℕ, ◌<◌, ◌⊎◌, List, [], ◌∷◌, refl, arith, inl, inr}
 use Rattle.std.proofs.lemmas.Bool.Decides.{nat_tests}
-use Rattle.iloc_meaning.proofs.Cases.{by_bool}
 use Rattle.iloc_sched.specs.Graph.Pairs.{with_delay, rising}
 use Rattle.iloc_sched.specs.Steps.Members.{In}
 use Rattle.iloc_sched.proofs.Basics.Ordered.{Ordered}
@@ -17,14 +16,7 @@ with_new d (e ∷ rest) = grind (arith, nat_tests, with_new d rest)
 
 with_old : (d : ℕ) (es : List ℕ) (x : ℕ) → In es x → In (with_delay d es) x
 with_old d [] x there = absurd there
-with_old d (e ∷ rest) x there = by_bool (nat_lt d e)
-    (λ t. rw t (inr there))
-    (λ f. by_bool (d == e)
-    (λ t. rw (f, t) there)
-    (λ g. rw (f, g) (elim there [
-      | inl here ↦ inl here
-      | inr behind ↦ inr (with_old d rest x behind)
-    ])))
+with_old d (e ∷ rest) x there = grind (arith, with_old d rest x)
 
 abbrev pub Below : ℕ → ℕ → Type 0
 Below a b = a < b
@@ -39,10 +31,7 @@ rising_ordered (d ∷ ds) = ordered_with d (rising ds) (rising_ordered ds)
 
 pub from_rising : (ds : List ℕ) (x : ℕ) → In (rising ds) x → In ds x
 from_rising [] x there = absurd there
-from_rising (d ∷ ds) x there = elim (from_with d (rising ds) x there) [
-  | inl here ↦ inl here
-  | inr behind ↦ inr (from_rising ds x behind)
-]
+from_rising (d ∷ ds) x there = grind (arith, from_with, from_rising ds x)
 
 pub in_rising : (ds : List ℕ) (x : ℕ) → In ds x → In (rising ds) x
 in_rising [] x there = absurd there

@@ -1,5 +1,5 @@
 -- What arrives in time where each delay is waited for; for `laws::lawful_schedules_keep_the_outcome`.
-use Rattle.std.proofs.Common.{◌≡◌, ℕ, ◌+◌, ◌<◌, ◌≤◌, true, List, length, Some, refl, arith}
+use Rattle.std.proofs.Common.{◌≡◌, ℕ, ◌+◌, ◌<◌, ◌≤◌, true, List, length, Some, arith}
 use Rattle.std.proofs.lemmas.Bool.{and_from, or_right, false≢true}
 use Rattle.iloc_ops.specs.declared.op.Reg.{Reg}
 use Rattle.iloc_ops.specs.declared.op.Op.{Op}
@@ -41,22 +41,14 @@ module _ (lat : Latencies) (ops : List Op) (rows : List Row) (waits : Waits lat 
 
   by_memory : (k i d : ℕ) → i < length ops → k < i → In (memory_delays lat (op_at ops k) (op_at ops i)) d
       → issue_cycle rows k + d ≤ issue_cycle rows i
-  by_memory k i d within before there = waits k i d record {
-    order = before;
-    within = within;
-    delay = contains_from (delays lat (op_at ops k) (op_at ops i)) d
-        (in_right (when (uses_result (op_at ops k) (op_at ops i)) (latency lat (op_at ops k)))
-        (memory_delays lat (op_at ops k) (op_at ops i)) d there);
-  }
+  by_memory k i d within before there = waits k i d grind (arith, contains_from, in_right)
 
   -- what is read was stored so early that it has arrived
   pub stored_in_time : (i k : ℕ) → i < length ops → k < i → is_store (kind (op_at ops k)) ≡ true
       → reads_memory (kind (op_at ops i)) ≡ true → issue_cycle rows k + latency lat (op_at ops k) ≤ issue_cycle rows i
   stored_in_time i k within before store reads =
       by_memory k i (latency lat (op_at ops k)) within before
-      (in_left (when (reads_stored (kind (op_at ops k)) (kind (op_at ops i))) (latency lat (op_at ops k)))
-      (when (keeps_order (kind (op_at ops k)) (kind (op_at ops i))) 1) (latency lat (op_at ops k))
-      (in_when _ _ (and_from _ _ store reads)))
+      (grind (arith, and_from, in_left, in_when))
 
   -- what has to come after is issued later
   pub kept_in_order : (k i : ℕ) → i < length ops → k < i → keeps_order (kind (op_at ops k)) (kind (op_at ops i)) ≡ true
@@ -72,9 +64,7 @@ pub read_then_store : (a b : Kind) → reads_memory a ≡ true → is_store b �
 read_then_store a b reads store = grind (arith, false≢true)
 
 pub store_then_store : (a b : Kind) → is_store a ≡ true → is_store b ≡ true → keeps_order a b ≡ true
-store_then_store K.Store b first second = rw second refl
-store_then_store _ b first second = absurd (false≢true first)
+store_then_store a b first second = grind (arith, false≢true)
 
 pub output_then_output : (a b : Kind) → is_output a ≡ true → is_output b ≡ true → keeps_order a b ≡ true
-output_then_output K.Output b first second = rw second (or_right _ true refl)
-output_then_output _ b first second = absurd (false≢true first)
+output_then_output a b first second = grind (arith, false≢true, or_right)

@@ -18,7 +18,7 @@ use Rattle.iloc_sched.specs.Graph.Near.{IsNearPair}
 use Rattle.iloc_sched.specs.Steps.Graph.{Graph}
 use Rattle.iloc_sched.specs.Steps.Edges.Lasts.{IsLasts}
 use Rattle.iloc_sched.specs.Steps.Renaming.ByRegister.{number_at}
-use Rattle.iloc_sched.specs.Steps.Edges.PartialGraph.{IsPartialGraph, HasEdge, HasOneMore, Grows, AddsFrom, CoversUse, CoversUses, CoversMemory}
+use Rattle.iloc_sched.specs.Steps.Edges.PartialGraph.{IsPartialGraph, HasOneMore, Grows, AddsFrom, CoversUse, CoversUses, CoversMemory}
 use Rattle.iloc_sched.specs.Steps.Views.{no_edge}
 use Rattle.iloc_sched.proofs.Basics.Members.{in_from, in_left, in_right, from_append}
 use Rattle.iloc_sched.proofs.Basics.Cases.{same_some}
@@ -67,10 +67,7 @@ adds_one edges edges' starts heads i j d place previous there place_is previous_
     let pair : IsNearPair lat ops i j d = pairs i refl in (
       grows_by_one lat ops (tables_graph edges starts heads)
           (tables_graph (edges ++ edge ∷ []) starts (set heads i (Some (length edges)))) i j d is pair more,
-      λ k same. subst (λ m. HasEdge (tables_graph (edges ++ edge ∷ []) starts (set heads i (Some (length edges)))) j m
-          d) (sym same)
-          (has_new lat ops (tables_graph edges starts heads)
-          (tables_graph (edges ++ edge ∷ []) starts (set heads i (Some (length edges)))) i j d is pair more),
+      grind (arith, has_new),
     )))
 
 pub adds_some : (o : Option ℕ) (i : ℕ) (a b : Graph) (j d : ℕ) → o ≡ Some i → AddsFrom (λ k. k ≡ i) a b j d
@@ -102,9 +99,7 @@ module _ (lat : Latencies) (ops : List Op) (lasts : Lasts) (j : ℕ) (is : IsLas
         let h = adds lat ops partial (λ k same. subst (λ m. IsNearPair lat ops m j d) (sym same) pair) in (
           h.0,
           covers_use lat ops j lasts is b renamed r
-              (λ k at_k.
-              let same : k ≡ i = same_some (number_at lasts.definers r.0) k i at_k at in
-              subst (λ e. HasEdge b j k e) (long ∙ ap (λ m. latency lat (op_at ops m)) (sym same)) (h.1 k same)),
+              (grind arith),
         )
 
     pub memory_load : (a b : Graph) → IsPartialGraph lat ops a j → kind (op_at ops j) ≡ K.Load

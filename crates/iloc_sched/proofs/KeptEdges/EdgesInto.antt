@@ -28,10 +28,7 @@ module _ (lat : Latencies) (ops : List Op) (e : Edges) (kept : IsGraphOf lat ops
   bounds : (graph.start j ≤ graph.start (j + 1)) × (graph.start (j + 1) ≤ length e.edges.items)
   bounds =
       let size : graph.ops ≡ length ops = kept.size in
-      let last : graph.start graph.ops ≡ graph.count = kept.is_graph.last in
-      let most : graph.start (j + 1) ≤ graph.start graph.ops =
-      kept.is_graph.rises (j + 1) graph.ops (omega arith) (omega arith) in
-      (kept.is_graph.rises j (j + 1) (omega arith) (omega arith), omega arith)
+      grind arith
 
   size : length into ≡ count
   size = grind (arith, length-drop, length-take)
@@ -52,14 +49,7 @@ module _ (lat : Latencies) (ops : List Op) (e : Edges) (kept : IsGraphOf lat ops
       let inside : j < graph.ops = subst (λ n. j < n) (sym kept.size) there in
       let to_is : graph.to x ≡ j = kept.is_graph.into j x inside (omega arith) (omega arith) in
       let pair : IsDelayPair lat ops (graph.from x) (graph.to x) (graph.delay x) = kept.sound x counted in
-      let near : IsNearPair lat ops (graph.from x) (graph.to x) (graph.delay x) = record {
-        order = pair.order;
-        within = pair.within;
-        delay = pair.delay;
-        near = kept.near x counted;
-      } in
-      subst IsInto (sym (read k d below))
-      (to_is, subst (λ t. IsNearPair lat ops (graph.from x) t (graph.delay x)) to_is near)
+      grind (arith, read)
 
   pub all_into : (i d : ℕ) → IsNearPair lat ops i j d → Any (λ (edge : Edge). (edge.from ≡ i) × (d ≤ edge.delay)) into
   all_into i d near =

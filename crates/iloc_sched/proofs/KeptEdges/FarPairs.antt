@@ -77,18 +77,8 @@ goes_by lat ops i j k d after before within takes held =
       way = k;
       first_delay = 1;
       second_delay = rest.0;
-      first = record {
-        order = after;
-        within = omega arith;
-        delay = contains_from _ _ (in_right
-            (when (uses_result (op_at ops i) (op_at ops k)) (latency lat (op_at ops i))) _ 1 way.0);
-      };
-      second = record {
-        order = before;
-        within = within;
-        delay = contains_from _ _ (in_right
-            (when (uses_result (op_at ops k) (op_at ops j)) (latency lat (op_at ops k))) _ rest.0 rest.1);
-      };
+      first = grind (arith, contains_from, in_right);
+      second = grind (arith, contains_from, in_right);
       enough = rest.2;
     }
 

@@ -17,11 +17,10 @@ use Rattle.iloc_sched.specs.declared.edges.Edge.{Edge}
 use Rattle.iloc_sched.specs.declared.edges.Edges.{Edges}
 use Rattle.iloc_sched.specs.declared.edges.lasts.Lasts.{Lasts}
 use Rattle.iloc_sched.specs.Graph.Near.{IsNear, IsNearPair, takes_over}
-use Rattle.iloc_sched.specs.Steps.Graph.{Graph, IsLast}
+use Rattle.iloc_sched.specs.Steps.Graph.{Graph}
 use Rattle.iloc_sched.specs.Steps.Edges.Lasts.{IsLasts, IsNext}
 use Rattle.iloc_sched.specs.Steps.Edges.PartialGraph.{IsPartialGraph}
 use Rattle.iloc_sched.specs.Steps.Views.{graph_of}
-use Rattle.iloc_sched.proofs.Basics.Cases.{by_eq}
 use Rattle.iloc_sched.proofs.Basics.LastOnes.{last_same}
 use Rattle.iloc_sched.proofs.KeptEdges.AddedEdges.{tables_graph}
 use Rattle.iloc_sched.proofs.Renamed.OneMoreOperation.{op_at_kept}
@@ -105,16 +104,7 @@ module _ (ops : List Op) (op : Op) where
     into_last = is.into_last;
     to_there = is.to_there;
     sound = λ x there. pair_on lat (graph.from x) (graph.to x) (graph.delay x) (is.sound x there);
-    heads = λ i below. by_eq i graph.ops
-        (λ same. subst (λ o. IsLast (λ x. graph.from x ≡ i) graph.count o) (sym (ap head' same ∙ none))
-        (λ x there from.
-        let order : graph.from x < graph.to x = (is.sound x there).order in
-        let within : graph.to x < length ops = (is.sound x there).within in
-        let all : graph.ops ≡ length ops = is.size in
-        absurd (omega arith)))
-        (λ apart.
-        let before : i < graph.ops = omega arith in
-        subst (λ o. IsLast (λ x. graph.from x ≡ i) graph.count o) (sym (kept i before)) (is.heads i before));
+    heads = grind arith;
     previous_edges = is.previous_edges;
     all = λ i b d below pair near. is.all i b d below (pair_back lat i b d below pair)
         (near_back lat i b d pair.order below near);
@@ -150,14 +140,7 @@ module _ (ops : List Op) (op : Op) where
   -- it is the next
   pub is_next : (lasts : Lasts) (j : ℕ) (ops' : List Op) → ops' ≡ ops ++ op ∷ [] → j ≡ length ops
       → IsRenamed (ops ++ op ∷ []) → length ops < 10000 → IsLasts ops lasts (length ops) → IsNext ops' lasts j
-  is_next lasts j ops' ops_is at renamed few known =
-      subst (λ xs. IsNext xs lasts j) (sym ops_is)
-      (subst (λ n. IsNext (ops ++ op ∷ []) lasts n) (sym at) (record {
-        renamed = renamed;
-        few = omega (arith, size_more);
-        there = omega (arith, size_more);
-        known = lasts_next lasts known;
-      }))
+  is_next lasts j ops' ops_is at renamed few known = grind (arith, lasts_next lasts known, size_more)
 
   -- the same of the tables
   pub partial_grown : (lat : Latencies) (e e' : Edges) (j : ℕ) (ops' : List Op) → ops' ≡ ops ++ op ∷ [] → j ≡ length ops

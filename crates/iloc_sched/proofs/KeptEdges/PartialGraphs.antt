@@ -3,7 +3,6 @@ use Rattle.std.proofs.Common.{◌≡◌, ℕ, ◌+◌, ◌<◌, ◌≤◌, List,
 use Rattle.iloc_ops.specs.declared.op.Op.{Op}
 use Rattle.iloc_meaning.specs.Trace.{op_at}
 use Rattle.iloc_timed.specs.declared.latencies.Latencies.{Latencies}
-use Rattle.iloc_timed.specs.Kinds.{kind}
 use Rattle.iloc_timed.specs.Latency.{latency}
 use Rattle.iloc_sched.specs.Delays.{IsDelayPair}
 use Rattle.iloc_sched.specs.Graph.Near.{IsNear, IsNearPair}
@@ -36,62 +35,22 @@ module _ (lat : Latencies) (ops : List Op) (graph graph' : Graph) (i j d : ℕ) 
   pub partial_more : IsPartialGraph lat ops graph' j
   partial_more = record {
     size = more.ops ∙ is.size;
-    rises = λ a b order most.
-        let before : graph.start a ≤ graph.start b = is.rises a b order most in
-        let first : graph'.start a ≡ graph.start a = more.start a in
-        let second : graph'.start b ≡ graph.start b = more.start b in
-        omega arith;
+    rises = grind arith;
     top =
-        let before : graph.start j ≤ graph.count = is.top in
-        let first : graph'.start j ≡ graph.start j = more.start j in
-        let size : graph'.count ≡ graph.count + 1 = more.count in
-        omega arith;
-    into = λ b x below from_start to_end.
-        let first : graph'.start b ≡ graph.start b = more.start b in
-        let end : graph'.start (b + 1) ≡ graph.start (b + 1) = more.start (b + 1) in
-        let most : graph.start (b + 1) ≤ graph.start j = is.rises (b + 1) j (omega arith) (omega arith) in
-        more.to x (earlier_there x (omega arith)) ∙ is.into b x below (omega arith) (omega arith);
-    into_last = λ x from_start there.
-        let first : graph'.start j ≡ graph.start j = more.start j in
-        by_lt x graph.count
-        (λ before. more.to x before ∙ is.into_last x (omega arith) before)
-        (λ after. ap graph'.to (last_place x there after) ∙ more.last_to);
-    to_there = λ x before.
-        let first : graph'.start j ≡ graph.start j = more.start j in
-        let early : x < graph.start j = omega arith in
-        let same : graph'.to x ≡ graph.to x = more.to x (earlier_there x early) in
-        let old : (graph.to x < j) × (graph.start (graph.to x) ≤ x) × (x < graph.start (graph.to x + 1)) =
-        is.to_there x early in
-        let begin : graph'.start (graph'.to x) ≡ graph.start (graph.to x) = more.start (graph'.to x)
-        ∙ ap graph.start same in
-        let end : graph'.start (graph'.to x + 1) ≡ graph.start (graph.to x + 1) = more.start (graph'.to x + 1)
-        ∙ ap (λ t. graph.start (t + 1)) same in
-        let below : graph.to x < j = old.0 in
-        let after : graph.start (graph.to x) ≤ x = old.1 in
-        let until : x < graph.start (graph.to x + 1) = old.2 in
-        (omega arith, omega arith, omega arith);
+        grind arith;
+    into = grind (arith, earlier_there);
+    into_last = grind (arith, last_place);
+    to_there = grind (arith, earlier_there);
     sound = λ x there.
         by_lt x graph.count
         (λ before. pair_along lat ops _ _ _ _ _ _ (more.from x before) (more.to x before) (more.delay x before)
         (is.sound x before))
-        (λ after.
-        subst (λ z. IsNearPair lat ops (graph'.from z) (graph'.to z) (graph'.delay z)) (sym (last_place x there after))
-        (pair_along lat ops _ _ _ _ _ _ more.last_from more.last_to more.last_delay pair));
-    heads = λ k below.
-        subst (λ n. IsLast (λ x. graph'.from x ≡ k) n (graph'.head k)) (sym more.count)
-        (head_more k (subst (λ n. k < n) more.ops below));
+        (grind (arith, last_place, pair_along));
+    heads = grind (arith, head_more);
     previous_edges = previous_more;
     all = λ a b e below delays near.
         let found = is.all a b e below delays near in
-        let first : graph'.start j ≡ graph.start j = more.start j in
-        let early : found.0 < graph.start j = found.1 in
-        let there : found.0 < graph.count = earlier_there found.0 early in (
-          found.0,
-          omega arith,
-          more.to found.0 there ∙ found.2,
-          more.from found.0 there ∙ found.3,
-          subst (λ n. e ≤ n) (sym (more.delay found.0 there)) found.4,
-        );
+        grind (arith, earlier_there);
   }
 
   edges_stay : (a e : ℕ) → HasEdge graph j a e → HasEdge graph' j a e
@@ -118,18 +77,8 @@ module _ (lat : Latencies) (ops : List Op) (graph : Graph) (j : ℕ) (is : IsPar
   rises_more a b order most =
       by_eq b (j + 1)
       (λ at_end.
-      let b_end : start' b ≡ graph.count = ap start' at_end ∙ end in
-      by_eq a (j + 1)
-      (λ same. let a_end : start' a ≡ graph.count = ap start' same ∙ end in omega arith)
-      (λ apart.
-      let before : start' a ≡ graph.start a = starts a (omega arith) in
-      let least : graph.start a ≤ graph.count = below_end a (omega arith) in
-      omega arith))
-      (λ apart.
-      let first : start' a ≡ graph.start a = starts a (omega arith) in
-      let second : start' b ≡ graph.start b = starts b (omega arith) in
-      let up : graph.start a ≤ graph.start b = is.rises a b order (omega arith) in
-      omega arith)
+      grind (arith, at_end, below_end))
+      (grind arith)
 
   into_more : (b x : ℕ) → b < j + 1 → start' b ≤ x → x < start' (b + 1) → graph.to x ≡ b
   into_more b x below from_start to_end = grind arith
@@ -149,25 +98,17 @@ module _ (lat : Latencies) (ops : List Op) (graph : Graph) (j : ℕ) (is : IsPar
       (edge.place, omega arith, is.into_last edge.place edge.after there ∙ sym same, edge.source, edge.long))
       (λ apart.
       let old = is.all i b d (omega arith) pair is_near in
-      let early : old.0 < graph.start j = old.1 in
-      let top : graph.start j ≤ graph.count = is.top in
-      (old.0, omega arith, old.2, old.3, old.4))
+      grind arith)
 
   pub closed : IsPartialGraph lat ops (record graph { start = start' }) (j + 1)
   closed = grind (arith, all_more, into_more, rises_more, to_there_more)
 
 module _ (lat : Latencies) (ops : List Op) (graph : Graph) (is : IsPartialGraph lat ops graph (length ops)) where
   none_behind : (x : ℕ) → graph.start (length ops) ≤ x → x < graph.count → ⊥
-  none_behind x after there =
-      let within : graph.to x < length ops = (is.sound x there).within in
-      let same : graph.to x ≡ length ops = is.into_last x after there in
-      omega arith
+  none_behind x after there = grind (arith, graph.to x < length ops, graph.to x, is.sound x there, is.into_last x after there)
 
   at_end : graph.start (length ops) ≡ graph.count
-  at_end =
-      by_lt (graph.start (length ops)) graph.count
-      (λ before. absurd (none_behind (graph.start (length ops)) (omega arith) before))
-      (λ after. let top : graph.start (length ops) ≤ graph.count = is.top in omega arith)
+  at_end = grind (arith, none_behind (graph.start (length ops)), graph.start (length ops), graph.start (length ops) ≤ graph.count)
 
   -- all operations have their edges
   pub kept_at_end : IsGraphOf lat ops graph
@@ -176,28 +117,18 @@ module _ (lat : Latencies) (ops : List Op) (graph : Graph) (is : IsPartialGraph 
       rises = λ i j order most. is.rises i j order (subst (λ n. j ≤ n) is.size most);
       last = ap graph.start is.size ∙ at_end;
       into = λ j x below. is.into j x (subst (λ n. j < n) is.size below);
-      to_there = λ x there.
-          let h : (graph.to x < length ops) × (graph.start (graph.to x) ≤ x) × (x < graph.start (graph.to x + 1)) =
-          is.to_there x (subst (λ n. x < n) (sym at_end) there) in
-          (subst (λ n. graph.to x < n) (sym is.size) h.0, h.1, h.2);
+      to_there = grind (arith, at_end);
       earlier = λ x there. (is.sound x there).order;
       delays = λ x there.
           let pair : IsNearPair lat ops (graph.from x) (graph.to x) (graph.delay x) = is.sound x there in
           let most : graph.delay x ≤ latency lat (op_at ops (graph.from x)) =
           delay_at_most lat (op_at ops (graph.from x)) (op_at ops (graph.to x)) (graph.delay x) pair.delay in
-          let short : latency lat (op_at ops (graph.from x)) ≤ 16 = short_latency lat (kind (op_at ops (graph.from x))) in (
-            delay_at_least lat (op_at ops (graph.from x)) (op_at ops (graph.to x)) (graph.delay x) pair.delay,
-            omega arith,
-          );
+          grind (arith, delay_at_least, short_latency);
       heads = is.heads;
       previous_edges = is.previous_edges;
     };
     size = is.size;
-    sound = λ x there. let pair = is.sound x there in record {
-      order = pair.order;
-      within = pair.within;
-      delay = pair.delay;
-    };
+    sound = λ x there. let pair = is.sound x there in grind arith;
     near = λ x there. (is.sound x there).near;
     all = λ i j d pair near.
         let h = is.all i j d pair.within pair near in

@@ -1,7 +1,7 @@
 -- The last in order of due cycles and in program order are one, where the orders agree; for `TimedOutcomes`.
-use Rattle.std.proofs.Common.{◌≡◌, ℕ, ◌<◌, ◌≤◌, Bool, true, false, List, [], ◌∷◌, map, Option, Some, None, ◌⊎◌, inl, inr, refl, ap, sym, ◌∙◌, arith}
-use Rattle.std.specs.Prelude.{filter, find, option_map, nat_lt}
-use Rattle.std.proofs.lemmas.Bool.{true≢false, lt-ltb, le-ltb, cases_order}
+use Rattle.std.proofs.Common.{◌≡◌, ℕ, ◌<◌, ◌≤◌, Bool, true, List, [], ◌∷◌, map, Option, Some, ◌⊎◌, inl, inr, refl, ap, sym, ◌∙◌, arith}
+use Rattle.std.specs.Prelude.{filter, find, option_map}
+use Rattle.std.proofs.lemmas.Bool.{true≢false, lt-ltb, le-ltb}
 use Rattle.std.proofs.lemmas.Option.{none-some, same_Some}
 use Rattle.iloc_meaning.specs.Trace.{Executed}
 use Rattle.iloc_timed.specs.Timed.{Issued, later, last_due, last_that}
@@ -11,22 +11,14 @@ use Rattle.iloc_sched.proofs.Basics.Members.{in_filter, from_filter, empty_from}
 use Rattle.iloc_sched.proofs.Basics.Rising.{countdown, finds}
 
 later_of : (e : Issued) (o : Option Issued) → (later e o ≡ e) ⊎ (o ≡ Some (later e o))
-later_of e None = inl refl
-later_of e (Some f) = by_bool (nat_lt e.due f.due) (λ t. rw t (inr refl)) (λ t. rw t (inl refl))
+later_of e o = grind arith
 
 last_due_in : (es : List Issued) (f : Issued) → last_due es ≡ Some f → In es f
 last_due_in [] f is = absurd (none-some f is)
-last_due_in (e ∷ es) f is =
-    let same : later e (last_due es) ≡ f = same_Some _ f is in
-    elim (later_of e (last_due es)) [
-      | inl first ↦ inl (sym first ∙ same)
-      | inr rest ↦
-          inr (last_due_in es f (rest ∙ ap Some same))
-    ]
+last_due_in (e ∷ es) f is = grind (arith, later_of, same_Some, last_due_in es f)
 
 later_stays : (e : Issued) (o : Option Issued) → ((f : Issued) → o ≡ Some f → f.due ≤ e.due) → later e o ≡ e
-later_stays e None low = refl
-later_stays e (Some f) low = let not : nat_lt e.due f.due ≡ false = le-ltb e.due f.due (low f refl) in rw not refl
+later_stays e o low = grind (arith, le-ltb)
 
 -- one that is due after all others is the last
 last_due_is : (es : List Issued) (e : Issued) → In es e → ((f : Issued) → In es f → (f ≡ e) ⊎ (f.due < e.due))
@@ -39,13 +31,7 @@ last_due_is (x ∷ es) e there best = elim (best x (inl refl)) [
         | inl equal ↦ let due : f.due ≡ e.due = ap (λ (i : Issued). i.due) equal in omega arith
         | inr below ↦ omega arith
       ]) ∙ same)
-  | inr low ↦ elim there [
-    | inl here ↦ let level : x.due ≡ e.due = ap (λ (i : Issued). i.due) here in absurd (omega arith)
-    | inr rest ↦
-        let found : last_due es ≡ Some e = last_due_is es e rest (λ f in_rest. best f (inr in_rest)) in
-        let above : nat_lt x.due e.due ≡ true = lt-ltb x.due e.due low in
-        rw (found, above) refl
-  ]
+  | inr low ↦ grind (arith, lt-ltb, last_due_is es e)
 ]
 
 find-map : {X Y : Type 0} → (q : Y → Bool) (f : X → Y) (xs : List X)
@@ -65,11 +51,7 @@ pub look_up_same : (q : Executed → Bool) (done : ℕ → Executed) (due : ℕ 
     → last_that q log ≡ find q (map done (countdown n))
 look_up_same q done due n log below within ordered = elim (finds (λ k. q (done k)) n) [
   | inl none ↦
-      let empty : passing ≡ [] = empty_from passing (λ e there.
-      let both = from_filter (λ (f : Issued). q f.executed) log e there in
-      let at = below e both.0 both.1 in
-      let passes : q (done at.0) ≡ true = sym (ap (λ (f : Issued). q f.executed) at.2) ∙ both.1 in
-      true≢false (sym passes ∙ none.fails at.0 at.1)) in
+      let empty : passing ≡ [] = empty_from passing (grind (arith, from_filter, true≢false)) in
       ap (λ es. option_map (λ (f : Issued). f.executed) (last_due es)) empty
       ∙ sym (find-map q done (countdown n) ∙ ap (option_map done) none.is)
   | inr some ↦
@@ -77,19 +59,7 @@ look_up_same q done due n log below within ordered = elim (finds (λ k. q (done 
       let there : In passing (entry done due m) =
       in_filter (λ (f : Issued). q f.executed) log (entry done due m) (within m some.1.below some.1.passes)
       some.1.passes in
-      let best : (f : Issued) → In passing f → (f ≡ entry done due m) ⊎ (f.due < due m) = λ f inside.
-      let both = from_filter (λ (g : Issued). q g.executed) log f inside in
-      let at = below f both.0 both.1 in
-      let passes : q (done at.0) ≡ true = sym (ap (λ (g : Issued). q g.executed) at.2) ∙ both.1 in
-      let level : f.due ≡ due at.0 = ap (λ (g : Issued). g.due) at.2 in
-      elim (cases_order at.0 m) [
-        | inl same ↦ inl (at.2 ∙ ap (entry done due) same)
-        | inr differs ↦ elim differs [
-          | inl less ↦ inr (let earlier : due at.0 < due m = ordered at.0 m less some.1.below passes some.1.passes in
-              omega arith)
-          | inr more ↦ absurd (true≢false (sym passes ∙ some.1.fails at.0 more at.1))
-        ]
-      ] in
+      let best : (f : Issued) → In passing f → (f ≡ entry done due m) ⊎ (f.due < due m) = grind (arith, from_filter, true≢false) in
       ap (option_map (λ (f : Issued). f.executed)) (last_due_is passing (entry done due m) there best)
       ∙ sym (find-map q done (countdown n) ∙ ap (option_map done) some.1.is)
 ]

@@ -38,8 +38,7 @@ pub record Keeps (lat : Latencies) (ops : List Op) (rows : List Row) : Type 0 wh
 
 map_same : {X Y : Type 0} → (f g : X → Y) (xs : List X) → ((x : X) → In xs x → f x ≡ g x) → map f xs ≡ map g xs
 map_same f g [] same = refl
-map_same f g (x ∷ xs) same = ap (λ y. y ∷ map f xs) (same x (inl refl))
-    ∙ ap (λ ys. g x ∷ ys) (map_same f g xs (λ y there. same y (inr there)))
+map_same f g (x ∷ xs) same = grind (arith, map_same f g xs)
 
 executed_in-entries : (done : ℕ → Executed) (due : ℕ → ℕ) (ks : List ℕ) → executed_in (map (entry done due) ks)
     ≡ map done ks
@@ -114,9 +113,7 @@ module _ (lat : Latencies) (ops : List Op) (rows : List Row) (memory : List ℤ)
   stores_in_order j k less below first second =
       let order : issue_cycle rows j < issue_cycle rows k =
       kept_in_order lat ops rows keeps.waits j k below less (store_then_store _ _ first second) in
-      let one : latency lat (op_at ops j) ≡ lat.store = latency_of_store lat (op_at ops j) first in
-      let other : latency lat (op_at ops k) ≡ lat.store = latency_of_store lat (op_at ops k) second in
-      omega arith
+      grind (arith, latency_of_store)
 
   registers_same : (i : ℕ) → i < length ops → (r : Reg) → In (used (op_at ops i)) r
       → register_in (arrived (issue_cycle rows i) (log (issue_cycle rows i))) r ≡ register_after (before memory ops i) r
@@ -146,10 +143,7 @@ module _ (lat : Latencies) (ops : List Op) (rows : List Row) (memory : List ℤ)
   words_same i here reads a =
       ap (written_or (word_at memory a)) (
       look_up_same (writes_to a) plain due i (arrived (issue_cycle rows i) (log (issue_cycle rows i)))
-      (λ e there is.
-      let at = from_arrived (issue_cycle rows i) e there in
-      let passes : writes_to a (plain at.0) ≡ true = sym (ap (λ (f : Issued). writes_to a f.executed) at.3) ∙ is in
-      (at.0, is_before at.0 at.1 at.2 (writer_stores a at.0 passes), at.3))
+      (grind (arith, from_arrived, is_before, plain, writer_stores))
       (λ k less is. in_arrived (issue_cycle rows i) k (omega arith) (in_time k less (writer_stores a k is)))
       (λ j k less below first second. stores_in_order j k less (omega arith) (writer_stores a j first)
       (writer_stores a k second))
@@ -195,8 +189,7 @@ module _ (lat : Latencies) (ops : List Op) (rows : List Row) (memory : List ℤ)
 
   in_issued : (k : ℕ) → k < length ops → In issued k
   unfolding issued
-  in_issued k below = early_issued ops rows keeps.table (length rows) k below
-      (issued_within ops rows keeps.table k below)
+  in_issued k below = grind (arith, early_issued, issued_within)
 
   from_issued : (k : ℕ) → In issued k → k < length ops
   unfolding issued
@@ -276,5 +269,4 @@ module _ (lat : Latencies) (ops : List Op) (rows : List Row) (memory : List ℤ)
 
 pub timed_is_plain : (lat : Latencies) (ops : List Op) (rows : List Row) (memory : List ℤ) → IsRenamed ops
     → IsTable ops rows → Waits lat ops rows → timed_outcome lat ops rows memory ≡ outcome ops memory
-timed_is_plain lat ops rows memory renamed table waits =
-    kept_is_plain lat ops rows memory record { renamed = renamed; table = table; waits = waits }
+timed_is_plain lat ops rows memory renamed table waits = grind (arith, kept_is_plain)

@@ -1,9 +1,8 @@
 -- An effect depends on the used registers, and on words only where memory is read; for `TimedOutcomes`.
-use Rattle.std.proofs.Common.{◌≡◌, ℕ, ℤ, Bool, true, false, ◌||◌, [], refl, ◌∙◌, arith}
+use Rattle.std.proofs.Common.{◌≡◌, ℕ, ℤ, Bool, true, false, ◌||◌, [], refl, arith}
 use Rattle.std.proofs.lemmas.Bool.{true≢false, false≢true}
 use Rattle.iloc_ops.specs.declared.op.Reg.{Reg}
 use Rattle.iloc_ops.specs.declared.op.Op.{Op}
-use Rattle.iloc_ops.specs.declared.op.Op.TheVariants.{Store}
 use Rattle.iloc_ops.specs.Registers.{used}
 use Rattle.iloc_meaning.specs.declared.effect.Effect.TheVariants.{Gives, Writes, Emits}
 use Rattle.iloc_meaning.specs.Address.{good_address}
@@ -31,8 +30,7 @@ words_unread op reg word word' words = grind (arith, at_address_same)
 pub effect_used : (op : Op) (reg reg' : Reg → ℤ) (word word' : ℕ → ℤ) → ((r : Reg) → In (used op) r → reg r ≡ reg' r)
     → (reads_memory (kind op) ≡ true → (a : ℕ) → word a ≡ word' a) → effect op reg word ≡ effect op reg' word'
 effect_used op reg reg' word word' regs words =
-    effect_same op reg reg' word word (λ r there. regs r (in_from (used op) r there)) (λ a good. refl)
-    ∙ words_unread op reg' word word' words
+    grind (arith, effect_same op reg reg' word word, in_from (used op), words_unread op reg' word word' words)
 
 load_writes_not : (z : ℤ) (word : ℕ → ℤ) (a : ℕ) → is_write_to a (at_address (good_address z) (λ b. Gives (word b)))
     ≡ false
@@ -40,8 +38,7 @@ load_writes_not z word a = at_address_cases (λ e. is_write_to a e ≡ false) z 
 
 output_writes_not : (z : ℤ) (word : ℕ → ℤ) (a : ℕ) → is_write_to a (at_address (good_address z) (λ b. Emits (word b)))
     ≡ false
-output_writes_not z word a = at_address_cases (λ e. is_write_to a e ≡ false) z (λ b. Emits (word b)) refl
-    (λ b good. refl)
+output_writes_not z word a = grind (arith, at_address_cases)
 
 -- what writes is a store
 pub only_stores_write : (op : Op) (reg : Reg → ℤ) (word : ℕ → ℤ) (a : ℕ) → is_write_to a (effect op reg word) ≡ true
@@ -60,8 +57,7 @@ pub only_outputs_emit : (op : Op) (reg : Reg → ℤ) (word : ℕ → ℤ) → i
 only_outputs_emit op reg word is = grind (arith, load_emits_not, store_emits_not, true≢false)
 
 store_kind_latency : (lat : Latencies) (k : Kind) → is_store k ≡ true → latency_of lat k ≡ lat.store
-store_kind_latency lat K.Store is = refl
-store_kind_latency lat _ is = absurd (false≢true is)
+store_kind_latency lat k is = grind (arith, false≢true)
 
 -- all stores have one latency
 pub latency_of_store : (lat : Latencies) (op : Op) → is_store (kind op) ≡ true → latency lat op ≡ lat.store

@@ -1,6 +1,6 @@
 -- Longest chains are the least numbers that keep all pairs, and numbers that edges raise become them; for priorities,
 -- starts, tails and the bounds.
-use Rattle.std.proofs.Common.{◌≡◌, ◌≢◌, ℕ, zero, suc, ◌+◌, ◌<◌, ◌≤◌, max, List, length, set, get_or, inl, inr, ap, arith}
+use Rattle.std.proofs.Common.{◌≡◌, ◌≢◌, ℕ, zero, suc, ◌+◌, ◌<◌, ◌≤◌, max, List, length, set, get_or, inl, inr, arith}
 use Rattle.std.proofs.lemmas.List.{get_or-set_same, get_or-set_other, length-set}
 use Rattle.iloc_ops.specs.declared.op.Op.{Op}
 use Rattle.iloc_timed.specs.declared.latencies.Latencies.{Latencies}
@@ -99,22 +99,9 @@ module _ (lat : Latencies) (ops : List Op) (graph : Graph) (is : IsGraphOf lat o
     over_within (suc n) i j d few high pair = elim (near_or_by_way lat ops i j d pair) [
       | inl near ↦
           let edge = is.all i j d pair near in
-          let long : d ≤ graph.delay edge.0 = edge.4 in
-          let from : graph.from edge.0 ≡ i = edge.3 in
-          let to : graph.to edge.0 ≡ j = edge.2 in
-          let sum = over edge.0 edge.1 (omega arith) in
-          let a_from : a (graph.from edge.0) ≡ a i = ap a from in
-          let b_from : b (graph.from edge.0) ≡ b i = ap b from in
-          let a_to : a (graph.to edge.0) ≡ a j = ap a to in
-          let b_to : b (graph.to edge.0) ≡ b j = ap b to in
-          omega arith
+          grind arith
       | inr by ↦
-          let order : i < by.way = by.first.order in
-          let later : by.way < j = by.second.order in
-          let first = over_within n i by.way by.first_delay (omega arith) high by.first in
-          let second = over_within n by.way j by.second_delay (omega arith) (omega arith) by.second in
-          let enough : d ≤ by.first_delay + by.second_delay = by.enough in
-          omega arith
+          grind (arith, over_within n i by.way by.first_delay, over_within n by.way j by.second_delay)
     ]
 
     pub over_pairs : (i j d : ℕ) → low ≤ i → IsDelayPair lat ops i j d → d + a i + b j ≤ a j + b i

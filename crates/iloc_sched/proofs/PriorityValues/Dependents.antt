@@ -4,9 +4,8 @@ use Rattle.std.specs.Prelude.{nat_lt}
 use Rattle.std.specs.List.{range_with_len}
 use Rattle.std.proofs.lemmas.Bool.{ltb-true, lt-ltb, and_parts, eq-eqb, true≢false, eqb-true, and_from, or_cases}
 use Rattle.iloc_ops.specs.declared.op.Op.{Op}
-use Rattle.iloc_meaning.specs.Trace.{op_at}
 use Rattle.iloc_timed.specs.declared.latencies.Latencies.{Latencies}
-use Rattle.iloc_sched.specs.Delays.{delays, IsDelayPair}
+use Rattle.iloc_sched.specs.Delays.{IsDelayPair}
 use Rattle.iloc_sched.specs.Heuristics.{waits_for, depends, depends_on}
 use Rattle.iloc_sched.specs.Steps.Members.{In}
 use Rattle.iloc_sched.specs.Steps.Ranking.Dependents.{Reaches}
@@ -25,9 +24,7 @@ some_delay [] some = absurd (true≢false (sym some))
 some_delay (d ∷ ds) some = (d, inl refl)
 
 pub pair_waits : (lat : Latencies) (ops : List Op) (i k d : ℕ) → IsDelayPair lat ops i k d → waits_for lat ops i k ≡ true
-pair_waits lat ops i k d pair =
-    and_from (nat_lt i k) (nat_lt 0 (length (delays lat (op_at ops i) (op_at ops k)))) (lt-ltb i k pair.order)
-    (not_empty (delays lat (op_at ops i) (op_at ops k)) d (in_from (delays lat (op_at ops i) (op_at ops k)) d pair.delay))
+pair_waits lat ops i k d pair = grind (arith, and_from, in_from, lt-ltb, not_empty)
 
 pub waits_pair : (lat : Latencies) (ops : List Op) (i k : ℕ) → k < length ops → waits_for lat ops i k ≡ true
     → (d : ℕ) × IsDelayPair lat ops i k d
@@ -54,49 +51,21 @@ record Begins (lat : Latencies) (ops : List Op) (n i j : ℕ) : Type 0 where
   rest : ReachesBy lat ops n to j
 
 one_less : (lat : Latencies) (ops : List Op) (n i j : ℕ) → depends lat ops (suc n) i j ≡ true → Begins lat ops n i j
-one_less lat ops n i j is =
-    let found = from_any (λ m. waits_for lat ops i m && ((m == j) || depends lat ops n m j))
-    (range_with_len 0 (length ops)) is in
-    let k : ℕ = found.0 in
-    let place : (0 ≤ k) × (k < 0 + length ops) = from_range 0 (length ops) k found.1 in
-    let parts = and_parts (waits_for lat ops i k) ((k == j) || depends lat ops n k j) found.2 in
-    let pair = waits_pair lat ops i k (let below : k < 0 + length ops = place.1 in omega arith) parts.0 in
-    record {
-      to = k;
-      delay = pair.0;
-      pair = pair.1;
-      rest = elim (or_cases (k == j) (depends lat ops n k j) parts.1) [
-        | inl same ↦ inl (eqb-true k j same)
-        | inr further ↦ inr further
-      ];
-    }
+one_less lat ops n i j is = grind (arith, and_parts, eqb-true, from_any, from_range 0 (length ops), or_cases, waits_pair lat ops i)
 
 pub later : (lat : Latencies) (ops : List Op) (n i j : ℕ) → depends lat ops n i j ≡ true → (i < j) × (j < length ops)
 later lat ops zero i j is = absurd (true≢false (sym is))
-later lat ops (suc n) i j is =
-    let first = one_less lat ops n i j is in
-    let order : i < first.to = first.pair.order in
-    let within : first.to < length ops = first.pair.within in
-    elim first.rest [
-      | inl same ↦ (omega (arith, same), omega (arith, same))
-      | inr further ↦
-          let rest : (first.to < j) × (j < length ops) = later lat ops n first.to j further in
-          let after : first.to < j = rest.0 in (omega arith, rest.1)
-    ]
+later lat ops (suc n) i j is = grind (arith, one_less lat ops n i j is, later lat ops n)
 
 -- as many delays as there are operations between are enough
 enough : (lat : Latencies) (ops : List Op) (n m i j : ℕ) → depends lat ops n i j ≡ true → j ≤ i + m
     → depends lat ops m i j ≡ true
 enough lat ops zero m i j is few = absurd (true≢false (sym is))
-enough lat ops (suc n) zero i j is few =
-    let after : i < j = (later lat ops (suc n) i j is).0 in absurd (omega arith)
+enough lat ops (suc n) zero i j is few = grind (arith, later lat ops (suc n) i j is)
 enough lat ops (suc n) (suc m) i j is few =
     let first = one_less lat ops n i j is in
     let order : i < first.to = first.pair.order in
-    one_more lat ops m i first.to j first.delay first.pair (elim first.rest [
-      | inl same ↦ inl same
-      | inr further ↦ inr (enough lat ops n m first.to j further (omega arith))
-    ])
+    one_more lat ops m i first.to j first.delay first.pair (grind (arith, enough lat ops n m first.to j))
 
 -- what depends on what waits for operation i depends on i
 pub by_pair : (lat : Latencies) (ops : List Op) (i k j d : ℕ) → IsDelayPair lat ops i k d → Reaches lat ops k j
@@ -116,17 +85,7 @@ pub record FirstPair (lat : Latencies) (ops : List Op) (i j : ℕ) : Type 0 wher
 first_of : (lat : Latencies) (ops : List Op) (n i j : ℕ) → depends lat ops n i j ≡ true → FirstPair lat ops i j
 first_of lat ops zero i j is = absurd (true≢false (sym is))
 first_of lat ops (suc n) i j is =
-    let first = one_less lat ops n i j is in
-    let within : j < length ops = (later lat ops (suc n) i j is).1 in
-    record {
-      to = first.to;
-      delay = first.delay;
-      pair = first.pair;
-      rest = elim first.rest [
-        | inl same ↦ inl same
-        | inr further ↦ inr (enough lat ops n (length ops) first.to j further (omega arith))
-      ];
-    }
+    grind (arith, enough lat ops n (length ops), later lat ops (suc n) i j is, one_less lat ops n i j is)
 
 pub first_pair : (lat : Latencies) (ops : List Op) (i j : ℕ) → depends_on lat ops i j ≡ true → FirstPair lat ops i j
 first_pair lat ops i j is = first_of lat ops (length ops) i j is

@@ -56,10 +56,7 @@ counted_more lat ops base i masks marked within small =
     ap count_ones (mask_is (depends_on lat ops i) base (get_or masks i 0) small
     (λ b below. marked.only i b within below) (λ b below. marked.all i b within below))
     ∙ ones-mask_l (depends_on lat ops i) (range_with_len base 64) in
-    let all : count_by (depends_on lat ops i) (range_with_len 0 (base + 64))
-    ≡ count_by (depends_on lat ops i) (range_with_len 0 base) + count_by (depends_on lat ops i) (range_with_len base 64) =
-    count_range (depends_on lat ops i) 0 base 64 base (omega arith) in
-    omega arith
+    grind (arith, count_range)
 
 pub counted_all : (lat : Latencies) (ops : List Op) (i n : ℕ) → length ops ≤ n
     → count_by (depends_on lat ops i) (range_with_len 0 n) ≡ descendants lat ops i
@@ -69,11 +66,4 @@ counted_all lat ops i n enough =
     ≡ count_by (depends_on lat ops i) (range_with_len 0 (length ops))
     + count_by (depends_on lat ops i) (range_with_len (length ops) rest) =
     count_range (depends_on lat ops i) 0 (length ops) rest (length ops) (omega arith) in
-    let none : count_by (depends_on lat ops i) (range_with_len (length ops) rest) ≡ 0 =
-    none_in_range (depends_on lat ops i) (length ops) rest (λ k after below. by_bool (depends_on lat ops i k)
-    (λ t. let below : k < length ops = depends_within lat ops i k t in absurd (omega arith)) (λ f. f)) in
-    let size : n ≡ length ops + rest = omega arith in
-    let same : count_by (depends_on lat ops i) (range_with_len 0 n)
-    ≡ count_by (depends_on lat ops i) (range_with_len 0 (length ops + rest)) =
-    ap (λ k. count_by (depends_on lat ops i) (range_with_len 0 k)) size in
-    omega arith
+    grind (arith, depends_within, none_in_range)

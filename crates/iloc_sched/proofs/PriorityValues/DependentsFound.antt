@@ -1,6 +1,6 @@
 -- Sets that are joined along the kept edges, the last first, have just the operations that depend on each; for
 -- `Heuristic::Descendants`.
-use Rattle.std.proofs.Common.{◌≡◌, ◌≢◌, ℕ, zero, suc, ◌+◌, ◌<◌, ◌≤◌, true, List, length, set, get_or, ◌⊎◌, inl, inr, sym, ◌∙◌, ap, subst, arith, max, min}
+use Rattle.std.proofs.Common.{◌≡◌, ◌≢◌, ℕ, zero, suc, ◌+◌, ◌<◌, ◌≤◌, true, List, length, set, get_or, ◌⊎◌, inl, inr, sym, ◌∙◌, ap, subst, arith, min}
 use Rattle.std.specs.Prelude.{replicate}
 use Rattle.std.specs.Int.{bit_at}
 use Rattle.std.specs.Int.Bits.{bit_or}
@@ -14,7 +14,7 @@ use Rattle.iloc_sched.specs.Heuristics.{depends_on}
 use Rattle.iloc_sched.specs.Steps.Graph.{Graph, IsGraphOf}
 use Rattle.iloc_sched.specs.Steps.Ranking.Dependents.{Reaches, IsMarked, AreMarked}
 use Rattle.iloc_sched.proofs.PriorityValues.Dependents.{by_pair, first_pair, later}
-use Rattle.iloc_sched.proofs.Basics.Cases.{by_eq, by_lt}
+use Rattle.iloc_sched.proofs.Basics.Cases.{by_eq}
 use Rattle.iloc_sched.proofs.KeptEdges.FarPairs.{near_or_by_way}
 
 in_left_set : (a b i : ℕ) → bit_at a i ≡ 1 → bit_at (bit_or a b) i ≡ 1
@@ -30,69 +30,23 @@ module _ (lat : Latencies) (ops : List Op) (graph : Graph) (is : IsGraphOf lat o
   -- an edge leads to an operation before the last of the 64 where it lies before the edges into those after them
   pub early_target : (end x : ℕ) → end ≡ min graph.ops (base + 64) → x < graph.start end
       → (x < graph.count) × (graph.to x < base + 64)
-  early_target end x end_is early =
-      let up : graph.start end ≤ graph.start graph.ops = is.is_graph.rises end graph.ops (omega arith) (omega arith) in
-      let last : graph.start graph.ops ≡ graph.count = is.is_graph.last in
-      let below : x < graph.count = omega arith in
-      let place : (graph.to x < graph.ops) × (graph.start (graph.to x) ≤ x) × (x < graph.start (graph.to x + 1)) =
-      is.is_graph.to_there x below in
-      let there : graph.to x < graph.ops = place.0 in
-      let first : graph.start (graph.to x) ≤ x = place.1 in (
-        below,
-        by_lt (graph.to x) end (λ before. omega arith)
-            (λ behind.
-            let late : graph.start end ≤ graph.start (graph.to x) = is.is_graph.rises end (graph.to x) behind (omega arith) in
-            absurd (omega arith)),
-      )
+  early_target end x end_is early = grind arith
 
   -- and all others lead to none of the 64, nor from there to one of them
   pub marked_none : (masks : List ℕ) (end : ℕ) → masks ≡ replicate graph.ops 0 → end ≡ min graph.ops (base + 64)
       → IsMarked lat ops graph base masks (graph.start end)
-  marked_none masks end are end_is =
-      let size : graph.ops ≡ length ops = is.size in
-      record {
-        size = ap length are ∙ length-replicate graph.ops 0 ∙ is.size;
-        only = λ i b below small one.
-            let none : get_or masks i 0 ≡ 0 =
-            ap (λ xs. get_or xs i 0) are ∙ get_or-replicate graph.ops i 0 0 (omega arith) in
-            let no_bit : bit_at (get_or masks i 0) b ≡ 0 = ap (λ m. bit_at m b) none ∙ bit_at-zero b in
-            absurd (omega arith);
-        over = λ y b after below small reaches.
-            let place : (graph.to y < graph.ops) × (graph.start (graph.to y) ≤ y) × (y < graph.start (graph.to y + 1)) =
-            is.is_graph.to_there y below in
-            let there : graph.to y < graph.ops = place.0 in
-            let next : y < graph.start (graph.to y + 1) = place.2 in
-            absurd (by_lt (graph.to y) end
-            (λ before.
-            let up : graph.start (graph.to y + 1) ≤ graph.start end =
-            is.is_graph.rises (graph.to y + 1) end (omega arith) (omega arith) in omega arith)
-            (λ behind. elim reaches [
-              | inl itself ↦ omega arith
-              | inr depends ↦ let after : graph.to y < base + b = (later lat ops (length ops) (graph.to y) (base + b) depends).0 in
-                  omega arith
-            ]));
-      }
+  marked_none masks end are end_is = grind (arith, bit_at-zero, get_or-replicate, later, length-replicate)
 
   -- what a delay pair leads to is in the set of its source
   pair_marked : (masks : List ℕ) (x i b : ℕ) → IsMarked lat ops graph base masks x → x ≤ graph.start (i + 1) → b < 64
       → (n k d : ℕ) → k ≤ i + n → IsDelayPair lat ops i k d → Reaches lat ops k (base + b)
       → bit_at (get_or masks i 0) b ≡ 1
-  pair_marked masks x i b marked after small zero k d few pair reaches =
-      let order : i < k = pair.order in absurd (omega arith)
+  pair_marked masks x i b marked after small zero k d few pair reaches = grind arith
   pair_marked masks x i b marked after small (suc n) k d few pair reaches = elim (near_or_by_way lat ops i k d pair) [
     | inl near ↦
         let edge : (y : ℕ) × (y < graph.count) × (graph.to y ≡ k) × (graph.from y ≡ i) × (d ≤ graph.delay y) =
         is.all i k d pair near in
-        let place : (graph.to edge.0 < graph.ops) × (graph.start (graph.to edge.0) ≤ edge.0)
-        × (edge.0 < graph.start (graph.to edge.0 + 1)) = is.is_graph.to_there edge.0 edge.1 in
-        let order : i < k = pair.order in
-        let to_k : graph.to edge.0 ≡ k = edge.2 in
-        let there : graph.to edge.0 < graph.ops = place.0 in
-        let up : graph.start (i + 1) ≤ graph.start (graph.to edge.0) =
-        is.is_graph.rises (i + 1) (graph.to edge.0) (omega arith) (omega arith) in
-        let first : graph.start (graph.to edge.0) ≤ edge.0 = place.1 in
-        subst (λ f. bit_at (get_or masks f 0) b ≡ 1) edge.3
-        (marked.over edge.0 b (omega arith) edge.1 small (subst (λ t. Reaches lat ops t (base + b)) (sym to_k) reaches))
+        grind arith
     | inr by ↦
         let order : by.way < k = by.second.order in
         pair_marked masks x i b marked after small n by.way by.first_delay (omega arith) by.first
@@ -125,11 +79,7 @@ module _ (lat : Latencies) (ops : List Op) (graph : Graph) (is : IsGraphOf lat o
       let other : (k : ℕ) → k ≢ from → get_or masks' k 0 ≡ get_or masks k 0 =
       (λ k apart. ap (λ xs. get_or xs k 0) are ∙ get_or-set_other masks from k _ 0 apart) in
       let grown : (k b : ℕ) → bit_at (get_or masks k 0) b ≡ 1 → bit_at (get_or masks' k 0) b ≡ 1 =
-      (λ k b one. by_eq k from
-      (λ same. ap (λ n. bit_at (get_or masks' n 0) b) same ∙ ap (λ m. bit_at m b) value
-      ∙ in_left_set (get_or masks from 0) (bit_or (get_or masks to 0) own) b
-      (ap (λ n. bit_at (get_or masks n 0) b) (sym same) ∙ one))
-      (λ apart. ap (λ m. bit_at m b) (other k apart) ∙ one)) in
+      grind (arith, in_left_set) in
       let pair : IsDelayPair lat ops from to (graph.delay x) =
       subst (λ f. IsDelayPair lat ops f to (graph.delay x)) (sym from_is)
       (subst (λ t. IsDelayPair lat ops (graph.from x) t (graph.delay x)) (sym to_is) (is.sound x below)) in
@@ -150,18 +100,7 @@ module _ (lat : Latencies) (ops : List Op) (graph : Graph) (is : IsGraphOf lat o
             ])
             (λ apart. marked.only i b within small (ap (λ m. bit_at m b) (sym (other i apart)) ∙ one));
         over = λ y b after within small reaches. by_eq y x
-            (λ same.
-            let at_to : Reaches lat ops to (base + b) =
-            subst (λ t. Reaches lat ops t (base + b)) (ap graph.to same ∙ sym to_is) reaches in
-            let behind : bit_at (bit_or (get_or masks to 0) own) b ≡ 1 = elim at_to [
-              | inl itself ↦ in_right_set (get_or masks to 0) own b (own_all b small itself)
-              | inr depends ↦ in_left_set (get_or masks to 0) own b
-                  (marked_from masks (x + 1) to b marked
-                  (subst (λ t. x + 1 ≤ graph.start (t + 1)) (sym to_is) (omega arith)) small depends)
-            ] in
-            ap (λ n. bit_at (get_or masks' n 0) b) (ap graph.from same ∙ sym from_is)
-            ∙ ap (λ m. bit_at m b) value
-            ∙ in_right_set (get_or masks from 0) (bit_or (get_or masks to 0) own) b behind)
+            (grind (arith, in_left_set, in_right_set, marked_from))
             (λ apart. grown (graph.from y) b (marked.over y b (omega arith) within small reaches));
       }
 

@@ -78,8 +78,7 @@ chain_of lat ops values i = fold max (latency lat (op_at ops i))
 
 pub chain_own : (lat : Latencies) (ops : List Op) (values : List ℕ) (i : ℕ)
     → latency lat (op_at ops i) ≤ chain_of lat ops values i
-chain_own lat ops values i = le_fold_max (latency lat (op_at ops i))
-    (reaches lat (op_at ops i) (drop (suc i) ops) (drop (suc i) values))
+chain_own lat ops values i = grind (arith, le_fold_max)
 
 pub chain_pairs : (lat : Latencies) (ops : List Op) (values : List ℕ) → length values ≡ length ops → (i j d : ℕ)
     → IsDelayPair lat ops i j d → d + slice_index values j ≤ chain_of lat ops values i
@@ -112,11 +111,7 @@ chain_reached lat (op ∷ later) (v ∷ values) size zero within = elim
           inr (
             suc r.to,
             r.delay,
-            record {
-              order = omega arith;
-              within = omega arith;
-              delay = contains_from (delays lat op (op_at later r.to)) r.delay r.there;
-            },
+            grind (arith, contains_from),
             r.is,
           )
     ]
@@ -136,14 +131,10 @@ pub is_priority : (lat : Latencies) (ops : List Op) → IsChainOut lat ops (prio
 is_priority lat ops =
     let size : length (priorities lat ops) ≡ length ops = length-priorities lat ops in
     record {
-      own = λ i within.
-          let least = chain_own lat ops (priorities lat ops) i in
-          let same = priority_value lat ops i within in omega arith;
+      own = grind (arith, chain_own, least, priority_value);
       pairs = λ i j d pair.
           let least = chain_pairs lat ops (priorities lat ops) size i j d pair in
-          let order : i < j = pair.order in
-          let within : j < length ops = pair.within in
-          let same = priority_value lat ops i (omega arith) in omega arith;
+          grind (arith, priority_value);
       reached = λ i within. subst (IsOne lat ops (priorities lat ops) i) (sym (priority_value lat ops i within))
           (chain_reached lat ops (priorities lat ops) size i within);
       whole = λ i within. omega arith;

@@ -1,24 +1,18 @@
 -- Each heuristic in the list of all, and its priorities as a list, one for each operation; for `fill_ranks`.
-use Rattle.std.proofs.Common.{◌≡◌, List, length, refl, inl, inr, arith}
+use Rattle.std.proofs.Common.{◌≡◌, List, length, arith}
 use Rattle.std.proofs.lemmas.List.{length-map}
 use Rattle.std.proofs.lemmas.List.FromFn.{length-map-range_with_len}
 use Rattle.iloc_ops.specs.declared.op.Op.{Op}
 use Rattle.iloc_timed.specs.declared.latencies.Latencies.{Latencies}
 use Rattle.iloc_sched.specs.declared.ranking.heuristic.Heuristic.{Heuristic}
 use Rattle.iloc_sched.specs.Heuristics.{priorities_by}
-use Rattle.iloc_sched.specs.declared.ranking.heuristic.Heuristic.TheVariants.{Chain, Slack, Descendants, Successors, Latency, Order}
 use Rattle.iloc_sched.specs.Heuristics.Listed.{heuristics}
 use Rattle.iloc_sched.specs.Steps.Members.{In}
 use Rattle.iloc_sched.proofs.PriorityValues.Longest.{length-priorities}
 
 -- each is listed
 pub listed : (heuristic : Heuristic) → In heuristics heuristic
-listed Chain = inl refl
-listed Slack = inr (inl refl)
-listed Descendants = inr (inr (inl refl))
-listed Successors = inr (inr (inr (inl refl)))
-listed Latency = inr (inr (inr (inr (inl refl))))
-listed Order = inr (inr (inr (inr (inr (inl refl)))))
+listed heuristic = grind arith
 
 pub length-priorities_by : (heuristic : Heuristic) (lat : Latencies) (ops : List Op)
     → length (priorities_by heuristic lat ops) ≡ length ops

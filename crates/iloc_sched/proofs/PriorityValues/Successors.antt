@@ -31,16 +31,13 @@ waits_later : (lat : Latencies) (ops : List Op) (i j : ℕ) → i < j → waits_
 waits_later lat ops i j order = grind (arith, lt-ltb, some_delay)
 
 pub waits_order : (lat : Latencies) (ops : List Op) (i j : ℕ) → waits_for lat ops i j ≡ true → i < j
-waits_order lat ops i j waits =
-    ltb-true i j (and_parts (nat_lt i j) (nat_lt 0 (length (delays lat (op_at ops i) (op_at ops j)))) waits).0
+waits_order lat ops i j waits = grind (arith, and_parts, ltb-true)
 
 no_wait : (lat : Latencies) (ops : List Op) (i j : ℕ) → j ≤ i → waits_for lat ops i j ≡ false
-no_wait lat ops i j after = by_bool (waits_for lat ops i j)
-    (λ t. let order : i < j = waits_order lat ops i j t in absurd (omega arith)) (λ f. f)
+no_wait lat ops i j after = grind (arith, waits_order)
 
 pub no_use : (lat : Latencies) (ops : List Op) (i j : ℕ) → j ≤ i → waits_by_use lat ops i j ≡ false
-no_use lat ops i j after =
-    ap (λ w. w && not (waits_by_kind (kind (op_at ops i)) (kind (op_at ops j)))) (no_wait lat ops i j after)
+no_use lat ops i j after = grind (arith, no_wait)
 
 -- who waits by use has a near pair
 pub use_pair : (lat : Latencies) (ops : List Op) (i j : ℕ) → waits_for lat ops i j ≡ true
@@ -76,10 +73,7 @@ waits_after lat ops i within =
     let all = count_range (waits_for lat ops i) 0 (i + 1) (length ops - (i + 1)) (i + 1) (omega arith) in
     let none : count_by (waits_for lat ops i) (range_with_len 0 (i + 1)) ≡ 0 =
     none_in_range (waits_for lat ops i) 0 (i + 1) (λ k after below. no_wait lat ops i k (omega arith)) in
-    let same : successors lat ops i
-    ≡ count_by (waits_for lat ops i) (range_with_len 0 ((i + 1) + (length ops - (i + 1)))) =
-    ap (λ n. count_by (waits_for lat ops i) (range_with_len 0 n)) size in
-    omega arith
+    grind arith
 
 -- by use and by kind together
 pub successors_are : (lat : Latencies) (ops : List Op) (i : ℕ) → i < length ops → successors lat ops i
@@ -105,8 +99,7 @@ pub from_one_more : (p : ℕ → Bool) (ops : List Op) (j : ℕ) → j < length 
 from_one_more p ops j within = grind (arith, count_first)
 
 from_end : (p : ℕ → Bool) (ops : List Op) (j : ℕ) → length ops ≤ j → count_by p (from_on ops j) ≡ 0
-from_end p ops j after =
-    let size : length ops - j ≡ 0 = omega arith in ap (λ n. count_by p (range_with_len j n)) size
+from_end p ops j after = grind arith
 
 pub none_noted : (ops : List Op) (later : Later) (j : ℕ) → length ops ≤ j
     → ((k : Kind) → waiting_for k later ≡ 0) → AreNoted ops later j
@@ -123,8 +116,7 @@ noted_few ops later j k noted = grind (arith, count_most)
 
 pub waiting_few : (ops : List Op) (later : Later) (j waiting : ℕ) (k : Kind) → waiting ≡ waiting_for k later
     → AreNoted ops later j → waiting ≤ length ops - j
-waiting_few ops later j waiting k is noted =
-    let few : waiting_for k later ≤ length ops - j = noted_few ops later j k noted in omega arith
+waiting_few ops later j waiting k is noted = grind (arith, noted_few)
 
 pub none_counted : (lat : Latencies) (ops : List Op) (found : List ℕ) (n j : ℕ) → n ≡ length ops → j ≡ length ops
     → found ≡ replicate n 0 → AreCounted lat ops found j
@@ -161,18 +153,8 @@ one_counted lat ops found found' found'' j waiting later within counted noted is
           let all = successors_are lat ops j within in
           let value : get_or found'' j 0 ≡ successors lat ops j = omega arith in
           ap (λ k. get_or found'' k 0) same ∙ value ∙ ap (successors lat ops) (sym same))
-          (λ apart.
-          let here = more i in
-          let none = unused i after in
-          let before = other i apart in
-          let was = counted.done i (omega arith) within_i in
-          omega arith);
-      rest = λ i before within_i.
-          let here = more i in
-          let same = other i (λ e. omega (arith, e)) in
-          let was = counted.rest i (omega arith) within_i in
-          let all = from_one_more (waits_by_use lat ops i) ops j within in
-          omega arith;
+          (grind arith);
+      rest = grind (arith, from_one_more);
     }
 
 pub all_counted : (lat : Latencies) (ops : List Op) (found : List ℕ) → AreCounted lat ops found 0

@@ -1,5 +1,5 @@
 -- A tail is the greatest of latency, d + tail(j) over the delay pairs, and what the loads behind a store need; for `least`.
-use Rattle.std.proofs.Common.{◌≡◌, ◌∙◌, ℕ, ◌+◌, ◌-◌, ◌*◌, ◌<◌, ◌≤◌, max, zero, suc, Bool, true, false, List, [], ◌∷◌, ◌++◌, length, drop, inl, inr, refl, ap, add-one, arith, ap₂, sym}
+use Rattle.std.proofs.Common.{◌≡◌, ◌∙◌, ℕ, ◌+◌, ◌-◌, ◌<◌, ◌≤◌, max, zero, suc, true, false, List, [], ◌∷◌, ◌++◌, length, drop, refl, ap, add-one, arith}
 use Rattle.std.proofs.lemmas.List.{drop_more, length-drop, get_or_default}
 use Rattle.iloc_ops.specs.declared.op.Op.{Op}
 use Rattle.iloc_meaning.specs.Trace.{op_at}
@@ -51,31 +51,13 @@ tail_parts lat ops i within =
     let next : loads_from lat ops (i + 1) ≡ loads_from lat ops (suc i) = ap (loads_from lat ops) (add-one i) in
     let needs : needed 1 (loads_from lat ops (i + 1)) ≡ needed 1 (loads_from lat ops (suc i)) = ap (needed 1) next in
     by_bool (is_store (kind (op_at ops i)))
-    (λ stores.
-    let rule : store_tail lat ops i ≡ latency lat (op_at ops i) + needed 1 (loads_from lat ops (suc i)) =
-    rw stores refl in
-    let other : tail_by (kind (op_at ops i)) (chain_tail lat ops i) (latency lat (op_at ops i))
-    (loads_from lat ops (i + 1))
-    ≡ max (chain_tail lat ops i) (latency lat (op_at ops i) + needed 1 (loads_from lat ops (i + 1))) =
-    rw stores refl in
-    omega arith)
-    (λ not.
-    let rule : store_tail lat ops i ≡ 0 = rw not refl in
-    let other : tail_by (kind (op_at ops i)) (chain_tail lat ops i) (latency lat (op_at ops i))
-    (loads_from lat ops (i + 1)) ≡ chain_tail lat ops i = rw not refl in
-    omega arith)
+    (grind arith)
+    (grind arith)
 
 in_loads : (ops : List Op) (ts : List ℕ) (y : ℕ) → In (load_tails ops ts) y → In ts y
 in_loads [] ts y there = absurd there
 in_loads (op ∷ ops) [] y there = absurd there
-in_loads (op ∷ ops) (t ∷ ts) y there = elim (from_append (when (is_load (kind op)) t) (load_tails ops ts) y there) [
-  | inl here ↦ inl (own (is_load (kind op)) here)
-  | inr rest ↦ inr (in_loads ops ts y rest)
-]
-  where
-    own : (l : Bool) → In (when l t) y → t ≡ y
-    own true there = elim there [ inl same ↦ same | inr none ↦ absurd none ]
-    own false there = absurd there
+in_loads (op ∷ ops) (t ∷ ts) y there = grind (arith, from_append, in_loads ops ts y)
 
 loads_short : (ops : List Op) (ts : List ℕ) → length (load_tails ops ts) ≤ length ops
 loads_short [] ts = omega arith
@@ -90,10 +72,7 @@ loads_reach lat ops i x small =
     loads_short (drop i ops) (drop i (tails lat ops)) in
     let size : length (drop i ops) ≡ length ops - i = length-drop i ops in
     let most : needed 1 (x ∷ loads_from lat ops i) ≤ serial_end lat ops + (length (x ∷ loads_from lat ops i) - 1) =
-    needed_most (x ∷ loads_from lat ops i) (serial_end lat ops) (λ y there. elim there [
-      | inl same ↦ (let is : x ≡ y = same in omega arith)
-      | inr inside ↦ each y (in_drop (tails lat ops) i y (in_loads (drop i ops) (drop i (tails lat ops)) y inside))
-    ]) in
+    needed_most (x ∷ loads_from lat ops i) (serial_end lat ops) (grind (arith, each, in_drop, in_loads)) in
     omega arith
   where
     each : (y : ℕ) → In (tails lat ops) y → y ≤ serial_end lat ops
@@ -107,12 +86,10 @@ loads_reach lat ops i x small =
 
 -- a store has its latency
 stored : (lat : Latencies) (k : Kind) → is_store k ≡ true → latency_of lat k ≡ lat.store
-stored lat K.Store is = refl
-stored lat _ is = cc
+stored lat k is = grind arith
 
 not_stored : (k : Kind) → is_load k ≡ true → is_store k ≡ false
-not_stored K.Load is = refl
-not_stored _ is = cc
+not_stored k is = grind arith
 
 -- the tail by the latency of stores
 pub tail_by_store : (lat : Latencies) (ops : List Op) (i : ℕ) → i < length ops → tail_by (kind (op_at ops i))

@@ -42,8 +42,7 @@ module _ (lat : Latencies) (ops : List Op) (graph : Graph) (is : IsGraphOf lat o
   -- the test of edge x, by what it is made of
   tested : (x : ℕ) → graph.start j ≤ x → x < graph.start (j + 1)
       → adds_one ops graph x ≡ (not (by_kind (graph.from x)) && not (leads_into graph j (graph.previous x)))
-  tested x low high = ap (λ t. not (waits_by_kind (kind (op_at ops (graph.from x))) (kind (op_at ops t)))
-      && not (leads_into graph t (graph.previous x))) (into_j x low high).1
+  tested x low high = grind (arith, into_j)
 
   -- edge x doesn't count
   pub skipped : (old found : List ℕ) (x : ℕ) → IsCounting ops graph old found j x → graph.start j ≤ x
@@ -58,12 +57,7 @@ module _ (lat : Latencies) (ops : List Op) (graph : Graph) (is : IsGraphOf lat o
         (λ t.
         let earlier = is_again x low high t in
         counting.some i earlier.0 apart earlier.1 earlier.2 (earlier.3 ∙ from_x))
-        (λ f.
-        let both : (not (by_kind (graph.from x)) && not (leads_into graph j (graph.previous x))) ≡ true =
-        ap (λ k. not (by_kind k) && not (leads_into graph j (graph.previous x))) from_x
-        ∙ ap (λ k. not k && not (leads_into graph j (graph.previous x))) apart
-        ∙ ap (λ k. not k) f in
-        absurd (true≢false (sym both ∙ sym (tested x low high) ∙ not_one))))
+        (grind (arith, tested, true≢false)))
         (λ other. counting.some i y apart low_y (omega arith) source);
     none = λ i not_there. counting.none i (λ y low_y high_y source. not_there y low_y (omega arith) source);
   }
@@ -96,10 +90,7 @@ module _ (lat : Latencies) (ops : List Op) (graph : Graph) (is : IsGraphOf lat o
             (λ differs.
             let earlier : y ≢ x = (λ e. differs (sym source ∙ ap graph.from e ∙ sym from_is)) in
             other i differs ∙ counting.some i y apart low_y (by_lt y x (λ l. l) (λ l. absurd (earlier (omega arith)))) source);
-        none = λ i not_there. by_eq i from
-            (λ e. absurd (not_there x low (omega arith) (sym (e ∙ from_is))))
-            (λ apart. other i apart
-            ∙ counting.none i (λ y low_y high_y source. not_there y low_y (omega arith) source));
+        none = grind arith;
       }
 
   -- what a source had before it is counted
@@ -129,12 +120,7 @@ module _ (lat : Latencies) (ops : List Op) (graph : Graph) (is : IsGraphOf lat o
       is.all i j (latency lat (op_at ops i)) pair (use_pair lat ops i j w f size_there).1 in
       let place : (graph.to edge.0 < graph.ops) × (graph.start (graph.to edge.0) ≤ edge.0)
       × (edge.0 < graph.start (graph.to edge.0 + 1)) = is.is_graph.to_there edge.0 edge.1 in
-      let low : graph.start j ≤ edge.0 = subst (λ t. graph.start t ≤ edge.0) edge.2 place.1 in
-      let high : edge.0 < graph.start (j + 1) = subst (λ t. edge.0 < graph.start (t + 1)) edge.2 place.2 in
-      let counted = counting.some i edge.0 f low (omega arith) edge.3 in
-      let value : cond {A = ℕ} (waits_by_use lat ops i j) 1 0 ≡ 1 =
-      ap (λ v. cond {A = ℕ} (v && not (by_kind i)) 1 0) w ∙ ap (λ v. cond {A = ℕ} (not v) 1 0) f in
-      omega arith)
+      grind arith)
       (λ w.
       let counted = counting.none i (λ y low high source.
       let known = into_j y low (omega arith) in
@@ -142,9 +128,7 @@ module _ (lat : Latencies) (ops : List Op) (graph : Graph) (is : IsGraphOf lat o
       subst (λ s. IsDelayPair lat ops s j (graph.delay y)) source
       (subst (λ t. IsDelayPair lat ops (graph.from y) t (graph.delay y)) known.1 (is.sound y known.0)) in
       true≢false (sym (pair_waits lat ops i j (graph.delay y) pair) ∙ w)) in
-      let value : cond {A = ℕ} (waits_by_use lat ops i j) 1 0 ≡ 0 =
-      ap (λ v. cond {A = ℕ} (v && not (by_kind i)) 1 0) w in
-      omega arith))
+      grind arith))
     where
       size_there : j < length ops
       size_there = let size : graph.ops ≡ length ops = is.size in omega arith

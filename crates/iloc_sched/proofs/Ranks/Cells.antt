@@ -1,11 +1,14 @@
 -- One word of one set is written.
-use Rattle.std.proofs.lemmas.Grind.{get_or-set_at}
 use Rattle.std.proofs.Common.{◌≡◌, ◌≢◌, ℕ, zero, suc, ◌+◌, ◌*◌, ◌/◌, ◌%◌, ◌<◌, List, length, get_or, set, replicate, ap, refl, arith, get_or-set_other}
 use Rattle.std.specs.Int.{bit_at}
+use Rattle.std.proofs.lemmas.Grind.{get_or-set_at}
 use Rattle.iloc_sched.specs.Steps.Cycle.RankSets.{word_at, rank_bit}
+use Rattle.iloc_sched.proofs.Basics.Cases.{by_eq}
 
 pub by_both : {P : Type 0} → (t s u w : ℕ) → (t ≡ s → u ≡ w → P) → ((t ≡ s → u ≡ w → ⊥) → P) → P
-by_both t s u w same apart = grind arith
+by_both t s u w same apart = by_eq t s
+    (λ first. by_eq u w (same first) (λ other. apart (λ _ second. other second)))
+    (λ other. apart (λ first _. other first))
 
 module _ (words : List ℕ) (s w v : ℕ) where
   pub cell_same : w * 37 + s < length words → word_at (set words (w * 37 + s) v) s w ≡ v

@@ -22,11 +22,7 @@ module _ (ready kept_out : ℕ) (fits : ready < 2 ^ 64) (kept_fits : kept_out < 
   pub the_first_bit : shown ≢ 0 → IsFirstBit ready kept_out (Some (trailing_zeros w64 shown))
   the_first_bit some =
       let lowest = bit_at-trailing_zeros w64 shown (omega arith) (omega (arith, and_le_l ready (bit_not w64 kept_out))) in
-      let low : trailing_zeros w64 shown < 64 = lowest.0 in (
-        low,
-        sym (open_at (trailing_zeros w64 shown) low) ∙ lowest.1,
-        λ i before. sym (open_at i (omega arith)) ∙ lowest.2 i before,
-      )
+      grind (arith, open_at)
 
 -- nothing is open where nothing is ready
 pub none_open : (words : List ℕ) (k r : ℕ) → word_at words 32 (r / 64) ≡ 0 → open_bit words k r ≡ 0

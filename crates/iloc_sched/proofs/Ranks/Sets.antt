@@ -36,18 +36,13 @@ leads_there summary words s block low right whole = λ i small set. by_lt ((bloc
     (λ there. whole (block * 64 + i) (omega arith))
     (λ past.
     let row : (block * 64 + i) / 64 ≡ block = omega arith in
-    let column : (block * 64 + i) % 64 ≡ i = omega arith in
-    let none : min 1 (word_at words s (block * 64 + i)) ≡ 0 = ap (min 1) (past_end words s (block * 64 + i) past) in
-    absurd (set (ap (λ v. bit_at (word_at summary s v) i) (sym row) ∙ ap (bit_at (word_at summary s ((block * 64 + i) / 64))) (sym column)
-    ∙ right.buckets s (block * 64 + i) low ∙ none)))
+    grind (arith, past_end))
 
 -- so does a class's
 pub open_there : (summary words : List ℕ) (k block : ℕ) → k < 4 → IsSummary summary words → HoldsBits words (word_at summary (33 + k) block) block
 open_there summary words k block low right = λ i small set.
     let row : (block * 64 + i) / 64 ≡ block = omega arith in
-    let column : (block * 64 + i) % 64 ≡ i = omega arith in
-    right.there k (block * 64 + i) low (λ none. set (ap (λ v. bit_at (word_at summary (33 + k) v) i) (sym row)
-    ∙ ap (bit_at (word_at summary (33 + k) ((block * 64 + i) / 64))) (sym column) ∙ none))
+    grind arith
 
 -- nor have those that it has no bits for
 pub beyond : (summary words : List ℕ) (s blocks : ℕ) → s < 32 → IsSummary summary words → length summary ≡ blocks * 37 → (w : ℕ)
@@ -133,9 +128,7 @@ module _ (c : Calendar) (beside : Class) where
 
   pub none_in_blocks : c.blocks ≢ 0 → ((r : ℕ) → r / 64 / 64 < c.blocks → open_bit words (place_of beside) r ≡ 0) → IsFirst (offers c beside) None
   none_in_blocks some none = λ r. is_offered r 0 (by_lt (r / 64 / 64) c.blocks (none r)
-      (λ past. (c.summarised some).closed (place_of beside) r (place_small beside)
-      (no_bit (word_at c.summary.items (33 + place_of beside) (r / 64 / 64)) (r / 64 % 64)
-      (past_end c.summary.items (33 + place_of beside) (r / 64 / 64) (omega (arith, c.sized, place_small beside))))))
+      (grind (arith, no_bit, past_end, place_small)))
 
 -- what is written to a list's slice is in the list
 module _ (v : Vec ℕ) (xs ws : List ℕ) (same : xs ≡ v.items) where

@@ -3,7 +3,6 @@ use Rattle.std.proofs.Common.{◌≡◌, ℕ, ◌+◌, ◌-◌, ◌*◌, ◌/◌
 use Rattle.std.specs.Int.{bit_at}
 use Rattle.std.proofs.lemmas.Nat.Bits.{bit_at-lt, bit_at_and}
 use Rattle.iloc_sched.specs.Steps.Cycle.RankSets.{word_at, rank_bit, open_bit, IsSummary, IsSearched, AddsBit, TakesBit}
-use Rattle.iloc_sched.proofs.Basics.Cases.{by_eq}
 use Rattle.iloc_sched.proofs.Ranks.Firsts.{none_open}
 use Rattle.iloc_sched.proofs.Ranks.WordBits.{one_if, and_same, and_other, or_same, or_other, or_some}
 use Rattle.iloc_sched.proofs.Ranks.Cells.{by_both, cell_same, cell_other, put_same, put_other}
@@ -45,22 +44,9 @@ module _ (summary words words' : List ℕ) (right : IsSummary summary words) whe
       → IsSummary summary words'
   IsSummary-kept_out j k b small free adds = less_open
       (λ s w low. adds.words_kept s w (omega arith) (λ same _. absurd (omega arith)))
-      (λ c r low.
-      let ready = adds.others 32 r (omega arith) (λ same _. absurd (omega arith)) in
-      by_both (33 + c) (33 + j) r k
-      (λ same at.
-      let now : rank_bit words' (33 + c) r ≡ max (rank_bit words (33 + j) k) (one_if b) = ap₂ (rank_bit words') same at ∙ adds.here in
-      let was : rank_bit words (33 + c) r ≡ rank_bit words (33 + j) k = ap₂ (rank_bit words) same at in
-      omega arith)
-      (λ other. let kept = adds.others (33 + c) r (omega arith) other in omega arith))
+      (grind (arith, by_both))
       adds.size
-      (λ r. by_both 36 (33 + j) r k
-      (λ same at.
-      let now : rank_bit words' 36 r ≡ max (rank_bit words (33 + j) k) (one_if b) = ap₂ (rank_bit words') same at ∙ adds.here in
-      let was : rank_bit words (33 + j) k ≡ 0 = ap₂ (rank_bit words) (sym same) (sym at) ∙ right.rest r in
-      let none : one_if b ≡ 0 = ap one_if (free (omega arith)) in
-      omega arith)
-      (λ other. adds.others 36 r (omega arith) other ∙ right.rest r))
+      (grind (arith, by_both))
 
   pub IsSummary-taken : (k : ℕ) → TakesBit words words' true 32 k → IsSummary summary words'
   IsSummary-taken k takes = grind (arith, less_open)
@@ -90,9 +76,7 @@ module _ (summary words : List ℕ) (k block some left : ℕ) (small : k < 4) (t
   IsSummary-searched = record {
     buckets = λ s w low. bit_else s w (omega arith) (λ same _. absurd (omega arith)) ∙ right.buckets s w low;
     closed = λ j r low none. by_both (33 + j) (33 + k) (r / 64 / 64) block
-        (λ same at.
-        let class : j ≡ k = omega arith in
-        ap (λ c. open_bit words c r) class ∙ searched.passed r at (sym (bit_here (33 + j) (r / 64) same at) ∙ none))
+        (grind (arith, bit_here))
         (λ other. right.closed j r low (sym (bit_else (33 + j) (r / 64) (omega arith) other) ∙ none));
     there = λ j w low set. by_both (33 + j) (33 + k) (w / 64) block
         (λ same at. right.there j w low
@@ -111,11 +95,10 @@ module _ (summary words : List ℕ) (k block : ℕ) (small : k < 4) (right : IsS
 
   pub both_closed : (r : ℕ) → r / 64 / 64 ≡ block → bit_at both (r / 64 % 64) ≡ 0 → open_bit words k r ≡ 0
   both_closed r here none =
-      let e = bit_at_and (word_at summary (33 + k) block) (word_at summary 36 block) (r / 64 % 64) in
-      let class : rank_bit summary (33 + k) (r / 64) ≡ bit_at (word_at summary (33 + k) block) (r / 64 % 64) =
-      ap (λ v. bit_at (word_at summary (33 + k) v) (r / 64 % 64)) here in
-      let all : rank_bit summary 36 (r / 64) ≡ bit_at (word_at summary 36 block) (r / 64 % 64) =
-      ap (λ v. bit_at (word_at summary 36 v) (r / 64 % 64)) here in
-      by_eq (rank_bit summary (33 + k) (r / 64)) 0
-      (right.closed k r small)
-      (λ some. let ready = right.closed 3 r (omega arith) (omega arith) in let free = right.rest r in omega arith)
+      grind (
+        arith,
+        bit_at_and (word_at summary (33 + k) block) (word_at summary 36 block) (r / 64 % 64),
+        right.closed k r small,
+        right.closed 3 r,
+        right.rest r,
+      )

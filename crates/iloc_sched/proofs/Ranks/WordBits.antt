@@ -1,7 +1,7 @@
 -- One bit of a word.
-use Rattle.std.proofs.Common.{◌≡◌, ◌≢◌, ℕ, ◌-◌, ◌*◌, ◌%◌, ◌^◌, ◌<◌, set, min, max, Bool, true, false, eqb, ◌||◌, ap, ◌∙◌, inl, inr, arith, w64, bit_and, bit_or}
+use Rattle.std.proofs.Common.{◌≡◌, ◌≢◌, ℕ, ◌-◌, ◌*◌, ◌%◌, ◌^◌, ◌<◌, set, min, max, Bool, true, false, eqb, ◌||◌, ap, ◌∙◌, arith, w64, bit_and, bit_or}
 use Rattle.std.specs.Int.{bit_at, bit_not, from_bool}
-use Rattle.std.proofs.lemmas.Bool.{cases_eq, eq-eqb}
+use Rattle.std.proofs.lemmas.Bool.{eq-eqb}
 use Rattle.std.proofs.lemmas.Nat.{one_shl, pow_pos, le_or_r, and_le_l}
 use Rattle.std.proofs.lemmas.Nat.Bits.{bit_at_set_same, bit_at_set_other, bit_at_clear_same, bit_at_clear_other, bit_at_and, bit_at_not, bit_at-lt, bit_at-zero}
 use lib.Bits.{or_zero_r}
@@ -28,8 +28,7 @@ or_some n k small false = ap (λ m. min 1 (bit_or n m)) (no_shift k) ∙ ap (min
 
 -- n & !(b << k)
 and_all : (n k i : ℕ) → i < 64 → bit_at (bit_and n (2 ^ 64 - 1 - 0 * 2 ^ k % 2 ^ 64)) i ≡ bit_at n i
-and_all n k i within = ap (λ m. bit_at (bit_and n (2 ^ 64 - 1 - m)) i) (no_shift k) ∙ bit_at_and n (bit_not w64 0) i
-    ∙ ap (min (bit_at n i)) (bit_at_not w64 0 i (omega arith) within) ∙ omega (arith, bit_at-zero i, bit_at-lt n i)
+and_all n k i within = grind (arith, bit_at-lt n i, bit_at-zero i, bit_at_and n (bit_not w64 0) i, bit_at_not w64 0 i, no_shift k)
 
 pub and_same : (n k : ℕ) → k < 64 → (b : Bool) → bit_at (bit_and n (2 ^ 64 - 1 - one_if b * 2 ^ k % 2 ^ 64)) k ≡ min (bit_at n k) (1 - one_if b)
 and_same n k small true = bit_at_clear_same w64 n k small ∙ omega arith
@@ -45,12 +44,7 @@ test_added b x small = grind (arith, eq-eqb)
 
 -- the set bit of a word that is cleared makes it smaller
 pub cleared_less : (n k : ℕ) → k < 64 → bit_at n k ≡ 1 → bit_and n (2 ^ 64 - 1 - 1 * 2 ^ k % 2 ^ 64) < n
-cleared_less n k small set =
-    let most = and_le_l n (2 ^ 64 - 1 - 1 * 2 ^ k % 2 ^ 64) in
-    elim (cases_eq (bit_and n (2 ^ 64 - 1 - 1 * 2 ^ k % 2 ^ 64)) n) [
-      | inl same ↦ let gone = bit_at_clear_same w64 n k small in absurd (omega (arith, ap (λ x. bit_at x k) same))
-      | inr other ↦ omega arith
-    ]
+cleared_less n k small set = grind (arith, and_le_l n (2 ^ 64 - 1 - 1 * 2 ^ k % 2 ^ 64), bit_at_clear_same w64 n k small)
 
 -- a word that is 0 has no bit
 pub no_bit : (n i : ℕ) → n ≡ 0 → bit_at n i ≡ 0

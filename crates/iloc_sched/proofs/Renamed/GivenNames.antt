@@ -83,29 +83,10 @@ pub name_next : (n m : ℕ) (sources : List Source) (now now' : Reg → Source) 
 name_next n m sources now now' given given' current current' r s follows next later new result here others = record {
   count = next.count ∙ omega (arith, follows.count, length-append sources (s ∷ []));
   numbers = λ q. by_bool (q.0 == r.0)
-      (λ same.
-      let is : q ≡ r = same_register q r same in
-      rw is (next.here ∙ ap Some follows.count ∙ sym (number_new sources s new)
-      ∙ ap (number_of (sources ++ s ∷ [])) (sym here)))
-      (λ differ.
-      let apart : q.0 ≢ r.0 = eqb-apart q.0 r.0 differ in
-      let kept = others q apart in
-      next.others q apart ∙ follows.numbers q ∙ sym (number_kept sources s (now q) (is_source-false (now q) s kept.1))
-      ∙ ap (number_of (sources ++ s ∷ [])) (sym kept.0));
-  origin = λ q. by_bool (q.0 == r.0)
-      (λ same.
-      let is : q ≡ r = same_register q r same in
-      inr (rw (is, here) (stands_last sources s)))
-      (λ differ.
-      let kept = others q (eqb-apart q.0 r.0 differ) in
-      elim (follows.origin q) [
-        | inl start ↦ inl (kept.0 ∙ start)
-        | inr there ↦ inr (rw kept.0 (stands_left sources (s ∷ []) (now q) there))
-      ]);
-  results = λ j there. elim (stands_either sources s (Result j) there) [
-    | inl before ↦ let below : j < n = follows.results j before in omega arith
-    | inr last ↦ result j (sym last)
-  ];
+      (grind (arith, number_new, same_register))
+      (grind (arith, eqb-apart, is_source-false, number_kept));
+  origin = grind (arith, eqb-apart, same_register, stands_last, stands_left);
+  results = grind (arith, stands_either);
 }
   where
     eqb-apart : (a b : ℕ) → a == b ≡ false → a ≢ b

@@ -47,8 +47,7 @@ definition_numbered ops i r below is =
 
 pub renamed_op_at : (ops : List Op) (sources : List Source) (i : ℕ) → i < length ops → op_at (renamed_by ops sources) i
     ≡ renamed_op ops sources i
-renamed_op_at ops sources i below =
-    get_or-map-range_with_len (renamed_op ops sources) 0 (length ops) i i Nop below (omega arith)
+renamed_op_at ops sources i below = grind (arith, get_or-map-range_with_len (renamed_op ops sources) 0 (length ops) i i Nop below)
 
 pub length-renamed_by : (ops : List Op) (sources : List Source) → length (renamed_by ops sources) ≡ length ops
 length-renamed_by ops sources = length-map-range_with_len (renamed_op ops sources) 0 (length ops)

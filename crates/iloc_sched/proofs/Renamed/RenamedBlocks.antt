@@ -1,5 +1,5 @@
 -- The renamed operations define each register once and have the block's outcome: `rename` (`once`, `outcome`).
-use Rattle.std.proofs.Common.{◌≡◌, ◌≢◌, ℕ, zero, suc, ◌<◌, ◌≤◌, true, false, List, [], ◌∷◌, length, map, Option, Some, option_map, ℤ, refl, sym, ap, subst, ◌∙◌, arith, inl, inr, eq-eqb, ne_eqb}
+use Rattle.std.proofs.Common.{◌≡◌, ◌≢◌, ℕ, zero, suc, ◌<◌, ◌≤◌, true, false, List, [], ◌∷◌, length, map, Option, Some, option_map, ℤ, refl, sym, ap, ◌∙◌, arith, inl, inr, eq-eqb, ne_eqb}
 use Rattle.std.proofs.lemmas.List.{get_or_past}
 use Rattle.std.proofs.lemmas.List.Elements.{All-get_or, filter_passes}
 use Rattle.iloc_ops.specs.declared.op.Reg.{Reg}
@@ -58,11 +58,7 @@ register_renamed memory ops (suc k) within same r stands = by_bool (is_register 
     let still : Stands (numbering ops) (source ops k r) = rw elsewhere at stands in
     let other : is_register (name_of (numbering ops) (source ops k r)) (defined (op_at (new ops) k)) ≡ false =
     rw (defined_at ops k below) (other_is_not _ _ _ (apart still)) in
-    let earlier : source ops (suc k) r ≡ source ops k r = rw elsewhere refl in
-    subst
-    (λ s. register_after (before memory (new ops) (suc k)) (name_of (numbering ops) s)
-    ≡ register_after (before memory ops (suc k)) r)
-    (sym earlier) (rw (elsewhere, other) (register_renamed memory ops k (omega arith) same.1 r still)))
+    grind (arith, register_renamed memory ops k))
   where
     below : k < length ops
     below = omega arith
@@ -141,10 +137,7 @@ renamed_before ops i j r there is =
 
 pub renamed_is_renamed : (block : List Op) → IsRenamed (renamed block)
 renamed_is_renamed block = record {
-  no_nop = λ i below.
-      let within : i < length (without_nops block) = rw length-renamed_by at below in
-      rw (renamed_op_at (without_nops block) (numbering (without_nops block)) i within)
-      (is_nop-with_registers _ _ (op_at (without_nops block) i) ∙ no_nop block i within);
+  no_nop = grind (arith, is_nop-with_registers, length-renamed_by, no_nop, renamed_op_at);
   once = λ i j r. renamed_once (without_nops block) i j r;
   defined_before = λ i j r there. renamed_before (without_nops block) i j r (in_from _ r there);
 }

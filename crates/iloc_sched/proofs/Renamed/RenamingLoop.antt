@@ -82,13 +82,7 @@ whole done op given current follows =
 -- an operation that defines nothing
 pub named_without : (done : List Op) (op : Op) (names : List Reg) (given : ℕ) (current : Reg → Option ℕ)
     → UsesNamed done (used op) names given current → defined op ≡ None → Named (done ++ op ∷ []) given current
-named_without done op names given current named none =
-    whole done op given current (rw none record {
-      count = named.follows.count;
-      numbers = named.follows.numbers;
-      origin = named.follows.origin;
-      results = λ j there. let below : j < length done = named.follows.results j there in omega arith;
-    })
+named_without done op names given current named none = grind (arith, whole done op given current)
 
 own_is_new : (n : ℕ) (sources : List Source) (now : Reg → Source) (given : ℕ) (current : Reg → Option ℕ)
     → Follows n sources now given current → list_any (is_source (Result n)) sources ≡ false
@@ -118,10 +112,7 @@ pub renamed_next : (done : List Op) (op : Op) (names : List Reg) (given : ℕ) (
 renamed_next done op names given current named =
     with_registers-same _ (λ r. name_of (numbering (done ++ op ∷ [])) (source (done ++ op ∷ []) (length done) r)) _
     (name_of (numbering (done ++ op ∷ [])) (Result (length done))) op
-    (map_same _ _ (used op) (λ r there.
-    rw (numbering_more done op, source_kept done op (length done) r (omega arith))
-    (sym (name_also_all (numbering_with done (used op)) (own_source (length done) (defined op))
-    (source done (length done) r) (use_stands done (used op) r there)))))
+    (grind (arith, map_same, name_also_all, numbering_more, source_kept, use_stands))
     (own_same (defined op) _ _ (λ r is.
     let new : list_any (is_source (Result (length done))) (numbering_with done (used op)) ≡ false =
     own_is_new _ _ _ _ _ named.follows in
@@ -145,12 +136,8 @@ next_with : (done : List Op) (op : Op) (names : List Reg) (own : Reg) (given giv
     → Option ℕ) (r : Reg) → UsesNamed done (used op) names given current → defined op ≡ Some r
     → own ≡ record { 0 = given } → NamesNext r given current given' current'
     → NextNamed done op names own given' current'
-next_with done op names own given given' current current' r named is own_is next = record {
-  named = named_with done op names given given' current current' r named is next;
-  new = λ r. name_of (numbering_with done (used op)) (source done (length done) r);
-  names = named.names;
-  renamed = rw own_is (renamed_next done op names given current named);
-}
+next_with done op names own given given' current current' r named is own_is next =
+    grind (arith, named_with done op names given given' current current', next, renamed_next done op names given current named)
 
 pub defining_named : (dest own : Reg) (given given' : ℕ) (current current' : Reg → Option ℕ)
     → NamesDefinition dest own given current given' current'
@@ -223,9 +210,7 @@ form_renamed op op' o written shape numbers news own given given' current curren
 name_more : (done : List Op) (op : Op) (s : Source) → Stands (numbering done) s
     → name_of (numbering (done ++ op ∷ [])) s ≡ name_of (numbering done) s
 name_more done op s there =
-    ap (λ sources. name_of sources s) (numbering_more done op
-    ∙ sym (also_all-append (numbering done) (map (source done (length done)) (used op))
-    (own_source (length done) (defined op))))
+    ap (λ sources. name_of sources s) (grind (arith, also_all-append, numbering_more))
     ∙ name_also_all (numbering done) (map (source done (length done)) (used op) ++ own_source (length done)
     (defined op)) s there
 
@@ -254,9 +239,7 @@ renamed_more done op =
     ∙ map-range_with_len_more (renamed_op (done ++ op ∷ []) (numbering (done ++ op ∷ []))) 0 (length done) (length done)
     (omega arith)
     ∙ ap (λ ops. ops ++ next_renamed done op ∷ [])
-    (map_same _ _ (range_with_len 0 (length done))
-    (λ i there. let below : i < 0 + length done = in_range 0 (length done) i there in
-    renamed_op_kept done op i (omega arith)))
+    (grind (arith, in_range, map_same, renamed_op_kept))
 
 pub next_pushed : (done ops more : List Op) (op next : Op) → ops ≡ renamed_by done (numbering done)
     → next ≡ next_renamed done op → more ≡ ops ++ next ∷ []

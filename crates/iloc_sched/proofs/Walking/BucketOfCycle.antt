@@ -10,13 +10,7 @@ earliest_bound graph w f i at is waits j there =
     elim (waits.reached j there) [
       | inl at_once ↦ omega arith
       | inr h ↦
-          let x : ℕ = h.0 in
-          let earlier : graph.from x < graph.to x = is.earlier x h.2 in
-          let target : graph.to x < graph.ops = (is.to_there x h.2).0 in
-          let time : h.1 < f = waits.times (graph.from x) h.1 (omega arith) h.4 in
-          let short : graph.delay x ≤ 16 = (is.delays x h.2).1 in
-          let same : w.earliest j ≡ h.1 + graph.delay x = h.5 in
-          omega arith
+          grind arith
     ]
 
 same_mod : (a c : ℕ) → c ≤ a → a < c + 16 → a % 32 ≡ c % 32 → a ≡ c

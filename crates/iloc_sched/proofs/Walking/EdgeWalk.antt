@@ -2,9 +2,8 @@
 use Rattle.std.proofs.Common.{◌≡◌, ◌≢◌, ℕ, ◌+◌, ◌-◌, ◌%◌, ◌<◌, ◌≤◌, max, Bool, true, false, Option, Some, None, ◌⊎◌, inl, inr, sym, ◌∙◌, ap, subst, arith}
 use Rattle.iloc_sched.specs.Steps.Graph.{Graph, IsLast, IsGraph}
 use Rattle.iloc_sched.specs.Steps.Cycle.Progress.{Progress, UpTo, Waits, CanIssue, count_from}
-use Rattle.iloc_meaning.proofs.Cases.{by_bool}
 use Rattle.iloc_sched.proofs.Walking.UnmetEdges.{not_true, without, without_it, without_other, count_same, count_less}
-use Rattle.iloc_sched.proofs.Basics.Cases.{by_eq, by_lt, not_both, same_some, none_of}
+use Rattle.iloc_sched.proofs.Basics.Cases.{by_eq, by_lt, not_both}
 
 -- what passes below n is at most the last that does
 pub up_to_last : (P : ℕ → Type 0) (n : ℕ) (last : Option ℕ) (x : ℕ) → IsLast P n last → x < n → P x → UpTo last x
@@ -27,40 +26,14 @@ begins graph w f i c issued' is waits can before at others =
     record {
       is_unmet = waits.is_unmet;
       unmet = waits.unmet;
-      ahead = λ x there from_i below. by_bool (waits.is_unmet x) (λ yes. yes)
-          (λ no. let h = waits.past x there no in
-          not_both (w.issued (graph.from x)) h.0 (ap w.issued from_i ∙ can.waiting) h.1);
-      stuck = λ x there yes. elim (waits.stuck x there yes) [
-        | inl none ↦ by_eq (graph.from x) i
-            (λ same. inr (
-              same,
-              up_to_last (λ y. graph.from y ≡ i) graph.count (graph.head i) x (is.heads i can.there) there same,
-            ))
-            (λ apart. inl (others _ apart ∙ none))
-        | inr loose ↦ absurd loose.1
-      ];
+      ahead = grind arith;
+      stuck = grind (arith, up_to_last);
       past = λ x there no. let h = waits.past x there no in (h.0, still _ _ h.1, h.2);
-      reached = λ j there. elim (waits.reached j there) [
-        | inl at_once ↦ inl at_once
-        | inr h ↦ inr (h.0, h.1, h.2, h.3, still _ _ h.4, h.5)
-      ];
-      complete = λ j t there was. by_eq j i
-          (λ same. subst (λ k. w.unmet k ≡ 0) (sym same) can.past_all)
-          (λ apart. waits.complete j t there (sym (others j apart) ∙ was));
-      times = λ j t there was. by_eq j i
-          (λ same. let now : t ≡ c = same_some (issued' i) t c (ap issued' (sym same) ∙ was) at in omega arith)
-          (λ apart. waits.times j t there (sym (others j apart) ∙ was));
+      reached = grind arith;
+      complete = grind arith;
+      times = grind arith;
       waits = λ j there none. waits.waits j there (sym (others j (not_i j none)) ∙ none);
-      only = λ b j small there held.
-          let h = waits.only b j small there held in
-          let later : f ≤ w.earliest j = h.2 in
-          let soon : w.earliest i < f = can.soon in (
-            others j (λ same. let e : w.earliest j ≡ w.earliest i = ap w.earliest same in absurd (omega arith))
-                ∙ h.0,
-            h.1,
-            h.2,
-            h.3,
-          );
+      only = grind arith;
     }
 
 -- of the edges out of i up to x those other than x are up to the one before it
@@ -133,9 +106,7 @@ moves graph w f i x c p t unmet' earliest' bucket' is waits there from_i now at_
           (λ same. subst (λ k. unmet' k ≡ count_from (without waits.is_unmet x) (graph.start k)
           (graph.start (k + 1) - graph.start k)) (sym same) (at_unmet ∙ omega arith))
           (λ apart. other_unmet k apart ∙ others_same graph w f i x is waits there from_i k within apart);
-      ahead = λ y within from_y up.
-          let below : y < x = previous_below graph is x y there up in
-          without_other waits.is_unmet x y (λ same. absurd (omega arith)) ∙ waits.ahead y within from_y (omega arith);
+      ahead = grind (arith, previous_below, without_other);
       stuck = λ y within yes. by_eq y x
           (λ same. not_true (without waits.is_unmet x y)
           (subst (λ a. without waits.is_unmet x a ≡ false) (sym same) (without_it waits.is_unmet x)) yes)
@@ -155,28 +126,14 @@ moves graph w f i x c p t unmet' earliest' bucket' is waits there from_i now at_
           ))
           (λ apart.
           let h = waits.past y within (sym (without_other waits.is_unmet x y apart) ∙ no) in
-          let enough : h.0 + graph.delay y ≤ w.earliest (graph.to y) = h.2 in
-          let more : w.earliest (graph.to y) ≤ earliest' (graph.to y) =
-          by_eq (graph.to y) j
-          (λ same. subst (λ k. w.earliest k ≤ earliest' k) (sym same)
-          (subst (λ a. w.earliest j ≤ a) (sym at_earliest) (omega arith)))
-          (λ other. subst (λ a. w.earliest (graph.to y) ≤ a) (sym (other_earliest (graph.to y) other)) (omega arith)) in
-          (h.0, h.1, omega arith));
+          grind arith);
       reached = λ k within. by_eq k j
           (λ same. let at_k : earliest' k ≡ t = ap earliest' same ∙ at_earliest in
           by_lt (w.earliest j) (c + graph.delay x)
           (λ later. inr (x, c, there, sym same, issued_x, omega arith))
-          (λ earlier. elim (waits.reached j j_there) [
-            | inl at_once ↦ inl (omega arith)
-            | inr h ↦ let was : w.earliest j ≡ h.1 + graph.delay h.0 = h.5 in
-                inr (h.0, h.1, h.2, h.3 ∙ sym same, h.4, omega arith)
-          ]))
-          (λ apart. subst (λ a. (a ≡ 0) ⊎ ((y : ℕ) × (u : ℕ) × (y < graph.count) × (graph.to y ≡ k)
-          × (w.issued (graph.from y) ≡ Some u) × (a ≡ u + graph.delay y))) (sym (other_earliest k apart))
-          (waits.reached k within));
-      complete = λ k u within was. by_eq k j
-          (λ same. absurd (waiting u (ap w.issued (sym same) ∙ was)))
-          (λ apart. other_unmet k apart ∙ waits.complete k u within was);
+          (grind arith))
+          (grind arith);
+      complete = λ k u within was. grind arith;
       times = waits.times;
       waits = λ k within none all late_k. by_eq k j
           (λ same. let at_k : earliest' k ≡ t = ap earliest' same ∙ at_earliest in
@@ -188,14 +145,7 @@ moves graph w f i x c p t unmet' earliest' bucket' is waits there from_i now at_
           (enters.others (w.earliest k % 32) k (omega arith) within (λ _ same. apart same)
           ∙ waits.waits k within none (sym (other_unmet k apart) ∙ all) (subst (λ a. f ≤ a) is_e late_k)));
       only = λ b k small within held. by_eq k j
-          (λ same.
-          let at_k : earliest' k ≡ t = ap earliest' same ∙ at_earliest in
-          let new : (b ≡ t % 32) × (p ≡ 0) = entered b small (subst (λ a. bucket' b a ≡ true) same held) in (
-            subst (λ a. w.issued a ≡ None) (sym same) (none_of (w.issued j) waiting),
-            ap unmet' same ∙ at_unmet ∙ new.1,
-            omega arith,
-            ap (λ a. a % 32) at_k ∙ sym new.0,
-          ))
+          (grind (arith, entered))
           (λ apart.
           let h = waits.only b k small within (sym (enters.others b k small within (λ _ same. apart same)) ∙ held) in (
             h.0,

@@ -1,5 +1,5 @@
 -- The states and buckets with which a schedule begins; for `Waiting::open`.
-use Rattle.std.proofs.Common.{◌≡◌, ◌≢◌, ℕ, ◌+◌, ◌-◌, ◌%◌, ◌<◌, ◌≤◌, ◌||◌, List, [], ◌∷◌, ◌++◌, length, map, get_or, Bool, true, false, eqb, None, inl, refl, sym, ◌∙◌, ap, subst, arith, eq-eqb}
+use Rattle.std.proofs.Common.{◌≡◌, ◌≢◌, ℕ, ◌+◌, ◌-◌, ◌<◌, ◌≤◌, ◌||◌, List, [], ◌∷◌, ◌++◌, length, map, get_or, Bool, true, false, eqb, None, inl, refl, sym, ◌∙◌, ap, arith, eq-eqb}
 use Rattle.std.specs.Prelude.{replicate}
 use Rattle.std.proofs.lemmas.Bool.{eqb-true, true≢false}
 use Rattle.std.proofs.lemmas.List.{length-map, length-replicate, replicate_more}
@@ -97,17 +97,8 @@ opened graph w is none unmet earliest roots others = record {
   reached = λ j there. inl (earliest j);
   complete = λ j t there was. not_both (w.issued j) t (none j) was;
   times = λ j t there was. not_both (w.issued j) t (none j) was;
-  waits = λ j there waiting all late. subst (λ b. w.bucket b j ≡ true) (sym (ap (λ e. e % 32) (earliest j)))
-      (let count : w.unmet j ≡ graph.start (j + 1) - graph.start j = unmet j there in
-      let up : graph.start j ≤ graph.start (j + 1) = is.rises j (j + 1) (omega arith) (omega arith) in
-      roots j there ∙ eq-eqb (graph.start j) (graph.start (j + 1)) (omega arith));
-  only = λ b j small there held. by_eq b 0
-      (λ same.
-      let alike : graph.start j ≡ graph.start (j + 1) =
-      eqb-true (graph.start j) (graph.start (j + 1)) (sym (roots j there) ∙ ap (λ a. w.bucket a j) (sym same) ∙ held) in
-      let count : w.unmet j ≡ graph.start (j + 1) - graph.start j = unmet j there in
-      (none j, omega arith, omega arith, ap (λ e. e % 32) (earliest j) ∙ sym same))
-      (λ apart. absurd (true≢false (sym held ∙ others b j small apart)));
+  waits = grind (arith, eq-eqb);
+  only = grind (arith, eqb-true, true≢false);
 }
 
 -- none is made

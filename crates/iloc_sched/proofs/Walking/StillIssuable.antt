@@ -1,8 +1,7 @@
 -- Who can be issued once another was; for `Waiting::issue_first`.
-use Rattle.std.proofs.Common.{◌≡◌, ◌≢◌, ℕ, ◌+◌, ◌-◌, ◌<◌, ◌≤◌, false, Some, None, inl, inr, sym, ◌∙◌, ap, subst, arith}
+use Rattle.std.proofs.Common.{◌≡◌, ◌≢◌, ℕ, ◌+◌, ◌-◌, ◌<◌, false, Some, None, sym, ◌∙◌, arith}
 use Rattle.iloc_sched.specs.Steps.Graph.{Graph, IsGraph}
 use Rattle.iloc_sched.specs.Steps.Cycle.Progress.{Progress, Waits, CanIssue, KeepsPlaces, count_from}
-use Rattle.iloc_sched.proofs.Basics.Cases.{by_eq, not_both, same_some}
 use Rattle.iloc_sched.proofs.Walking.EdgeWalk.{within_count}
 use Rattle.iloc_sched.proofs.Walking.UnmetEdges.{count_none, count_some}
 
@@ -28,17 +27,7 @@ module _ (graph : Graph) (w w' : Progress) (c i : ℕ) (is : IsGraph graph)
         count_none waits'.is_unmet (graph.start j) (graph.start (j + 1) - graph.start j)
         (sym (waits'.unmet j can.there) ∙ can.past_all) x one.1 before in
         let h = waits'.past x there met in
-        let long : 1 ≤ graph.delay x = (is.delays x there).0 in
-        let soon : w'.earliest j < c + 1 = can.soon in
-        let enough : h.0 + graph.delay x ≤ w'.earliest j = subst (λ k. h.0 + graph.delay x ≤ w'.earliest k) into h.2 in
-        elim (waits.stuck x there one.3) [
-          | inl none ↦ by_eq (graph.from x) i
-              (λ same.
-              let now : h.0 ≡ c = same_some (w'.issued i) h.0 c (ap w'.issued (sym same) ∙ h.1) at in
-              absurd (omega arith))
-              (λ apart. not_both (w.issued (graph.from x)) h.0 none (sym (others (graph.from x) apart) ∙ h.1))
-          | inr loose ↦ loose.1
-        ]
+        grind arith
 
     pub can_issue_back : (j : ℕ) → CanIssue graph w' (c + 1) j → (j ≢ i) × CanIssue graph w (c + 1) j
     can_issue_back j can = grind (arith, completed_before)

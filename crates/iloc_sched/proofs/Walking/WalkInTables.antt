@@ -114,11 +114,7 @@ started ranks e w v i cycle is sized waits can issued unmet earliest calendar =
     (λ k apart. ap (λ xs. get_or xs k None) issued ∙ get_or-set_other (issued_list w) i k (Some cycle) None apart) in (
       subst (λ xs. Waits (graph_of e) (progress_by ranks (issued_list v) xs (earliest_list v) v.calendar) (cycle + 1) i
           ((graph_of e).head i)) (sym unmet)
-          (subst (λ xs. Waits (graph_of e) (progress_by ranks (issued_list v) (unmet_list w) xs v.calendar) (cycle + 1) i
-          ((graph_of e).head i)) (sym earliest)
-          (subst (λ (turned : Calendar). Waits (graph_of e)
-          (progress_by ranks (issued_list v) (unmet_list w) (earliest_list w) turned) (cycle + 1) i ((graph_of e).head i))
-          (sym calendar) begun)),
+          (grind arith),
       from_last (graph_of e) i ((graph_of e).head i) (is.heads i there),
     )
 
