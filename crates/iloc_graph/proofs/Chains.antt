@@ -1,5 +1,5 @@
 -- A longest chain of delays runs along nearest pairs: where it went by way of an operation between, that would come first.
-use Rattle.std.proofs.Common.{◌≡◌, ℕ, ◌+◌, ◌<◌, ◌≤◌, List, [], ◌∷◌, inl, inr, subst, sym, arith}
+use Rattle.std.proofs.Common.{◌≡◌, ℕ, ◌+◌, ◌<◌, ◌≤◌, List, [], ◌∷◌, inl, inr, arith}
 use Rattle.std.specs.Prelude.{Contains}
 use Rattle.iloc_ops.specs.declared.op.Op.{Op}
 use Rattle.iloc_meaning.specs.Trace.{op_at}
@@ -47,9 +47,7 @@ module _ (lat : Latencies) (ops : List Op) where
   runs_along : (i : ℕ) (chain : List ℕ) → IsChainFrom lat ops i chain → RunsAlong lat ops chain
   runs_along i [] is = tt
   runs_along i (x ∷ []) is = tt
-  runs_along i (x ∷ y ∷ chain) is =
-      let next : IsNext lat ops x y = subst (λ z. IsNext lat ops z y) (sym is.0) is.1 in
-      (next_near x y next, runs_along y (y ∷ chain) is.2)
+  runs_along i (x ∷ y ∷ chain) is = grind (arith, next_near, runs_along y (y ∷ chain) is.2)
 
 pub chains_run_along : ChainsRunAlongNearestPairs
 chains_run_along lat [] chain is = rw is tt

@@ -1,5 +1,5 @@
 -- The lines of operations, one after another.
-use Rattle.std.proofs.Common.{◌≡◌, ◌<◌, ℕ, ◌+◌, List, ◌∷◌, ◌++◌, length, drop, get_or, refl, sym, ap, ◌∙◌, append_assoc, add-one, drop-cons}
+use Rattle.std.proofs.Common.{arith, ◌≡◌, ◌<◌, ℕ, ◌+◌, List, ◌∷◌, ◌++◌, length, drop, get_or, append_assoc, add-one, drop-cons}
 use Rattle.iloc_ops.specs.declared.op.Op.{Op}
 use Rattle.iloc_graph.specs.Listing.{node_line, node_lines}
 
@@ -7,12 +7,7 @@ use Rattle.iloc_graph.specs.Listing.{node_line, node_lines}
 pub line_more : (text new all : List ℕ) (k i : ℕ) (left rest : List Op) (prios : List ℕ) (op : Op) (d : ℕ)
     → i < length prios → left ≡ op ∷ rest → text ++ node_lines k i left (drop i prios) ≡ all
     → new ≡ text ++ node_line k i op (get_or prios i d) → new ++ node_lines k (i + 1) rest (drop (i + 1) prios) ≡ all
-line_more text new all k i left rest prios op d known taken so_far pushed =
-    let more : List ℕ = node_lines k (i + 1) rest (drop (i + 1) prios) in
-    let first : drop i prios ≡ get_or prios i d ∷ drop (i + 1) prios = rw add-one (drop-cons prios i d known) in
-    let whole : node_lines k i left (drop i prios) ≡ node_line k i op (get_or prios i d) ++ more = rw (first, taken) refl in
-    ap (λ xs. xs ++ more) pushed ∙ (append_assoc text (node_line k i op (get_or prios i d)) more
-    ∙ (ap (λ xs. text ++ xs) (sym whole) ∙ so_far))
+line_more text new all k i left rest prios op d known taken so_far pushed = grind (arith, add-one, drop-cons, append_assoc)
 
 -- parts that were pushed one after another
 

@@ -15,10 +15,7 @@ in_flat_map f (z ∷ zs) x y (inr there) at = in_right (f z) (flat_map f zs) y (
 pub from_flat_map : {X Y : Type 0} (f : X → List Y) (xs : List X) (y : Y) → In (flat_map f xs) y
     → (x : X) × In xs x × In (f x) y
 from_flat_map f [] y there = absurd there
-from_flat_map f (x ∷ xs) y there = elim (from_append (f x) (flat_map f xs) y there) [
-  | inl here ↦ (x, inl refl, here)
-  | inr rest ↦ let found = from_flat_map f xs y rest in (found.0, inr found.1, found.2)
-]
+from_flat_map f (x ∷ xs) y there = grind (arith, from_append, from_flat_map f xs y)
 
 pub any_none : {X : Type 0} (p : X → Bool) (xs : List X) → ((x : X) → In xs x → p x ≡ false) → list_any p xs ≡ false
 any_none p [] none = refl

@@ -24,13 +24,7 @@ use Rattle.iloc_graph.proofs.Lists.{any_none, from_flat_map, in_flat_map}
 
 -- a delay by memory or outputs is between operations of which one comes after the other
 ordered : (lat : Latencies) (i j : Op) (d : ℕ) → Contains (memory_delays lat i j) d → is_ordered i j ≡ true
-ordered lat i j d there = elim (from_append (when (reads_stored (kind i) (kind j)) (latency lat i))
-    (when (keeps_order (kind i) (kind j)) 1) d (in_from (memory_delays lat i j) d there)) [
-      | inl reads ↦ or_left (reads_stored (kind i) (kind j)) (keeps_order (kind i) (kind j))
-          (from_when (reads_stored (kind i) (kind j)) (latency lat i) d reads).0
-      | inr keeps ↦ or_right (reads_stored (kind i) (kind j)) (keeps_order (kind i) (kind j))
-          (from_when (keeps_order (kind i) (kind j)) 1 d keeps).0
-    ]
+ordered lat i j d there = grind (arith, from_append, in_from, or_left, from_when, or_right)
 
 module _ (lat : Latencies) (ops : List Op) (i j : ℕ) where
   abbrev a : Op
@@ -76,28 +70,11 @@ module _ (lat : Latencies) (ops : List Op) (i j : ℕ) where
 -- the longest delay is one of them, where there is one
 longest_is : (lat : Latencies) (i j : Op) (d : ℕ) → In (delays lat i j) d
     → Contains (delays lat i j) (longest_delay lat i j)
-longest_is lat i j d there = elim (fold_max_reached 0 (delays lat i j)) [
-  | inl none ↦
-      let some : 1 ≤ d = delay_at_least lat i j d (contains_from (delays lat i j) d there) in
-      let most : d ≤ longest_delay lat i j = fold_max_each 0 (delays lat i j) d there in
-      absurd (omega arith)
-  | inr is ↦ contains_from (delays lat i j) (longest_delay lat i j) is
-]
+longest_is lat i j d there = grind (arith, fold_max_reached, delay_at_least, contains_from, fold_max_each)
 
 -- a near pair is one of the nearest, but maybe for its delay
 pub nearest : (lat : Latencies) (ops : List Op) (i j d : ℕ) → IsNear lat ops i j d → is_nearest ops j i ≡ true
-nearest lat ops i j d near = elim near [
-  | inl result ↦ or_left (uses_result (op_at ops i) (op_at ops j)) _ result.0
-  | inr memory ↦ or_right (uses_result (op_at ops i) (op_at ops j)) _
-      (and_from (is_ordered (op_at ops i) (op_at ops j)) (not (is_taken_over ops i j))
-      (ordered lat (op_at ops i) (op_at ops j) d memory.0) (not_from_false (is_taken_over ops i j) (free memory.1)))
-]
-  where
-    free : ((k : ℕ) → i < k → k < j → takes_over (op_at ops i) (op_at ops k) ≡ false) → is_taken_over ops i j ≡ false
-    free none = any_none (λ k. takes_over (op_at ops i) (op_at ops k)) (range_with_len (i + 1) (j - (i + 1)))
-        (λ k there.
-        let b : (i + 1 ≤ k) × (k < i + 1 + (j - (i + 1))) = from_range (i + 1) (j - (i + 1)) k there in
-        none k (omega arith) (omega arith))
+nearest lat ops i j d near = grind (arith, or_left, or_right, and_from, ordered, not_from_false, any_none, from_range)
 
 pub in_nearest : (lat : Latencies) (ops : List Op) (i j : ℕ) → i < j → j < length ops → is_nearest ops j i ≡ true
     → Contains (nearest_pairs lat ops) (pair_of lat ops j i)

@@ -1,4 +1,5 @@
-use Rattle.std.proofs.Common.{◌∙◌}
+use Rattle.std.proofs.lemmas.Grind.{common_steps}
+use Rattle.std.proofs.Common.{arith, ◌∙◌}
 use Rattle.iloc_graph.proofs.Pairs.{one_more}
 use Rattle.iloc_graph.proofs.Sources.{source_earlier}
 use Rattle.iloc_graph.proofs.nearest.nearest_pairs.Goals as goal
@@ -8,7 +9,4 @@ push_pairs-requires-clause-earlier c =
     source_earlier c.args.graph.now.ops c.loop-second.second _ (c.deref.ensures.value ∙ c.in_ok-sources.ensures)
 
 pub loop-second-preserved : goal.loop-second-preserved
-loop-second-preserved c =
-    one_more c.args.graph.now.latencies c.args.graph.now.ops c.loop-second.second _ _ _ c.loop-second.invariant
-    (c.deref.ensures.value ∙ c.in_ok-sources.ensures)
-    (rw (c.ops-ops.ensures.ops, c.latencies.ensures) at c.in_ok-push_pairs.ensures)
+loop-second-preserved c = grind (arith, one_more, common_steps)
