@@ -20,7 +20,7 @@ from oracle.scheduler import Schedule
 from refusals.refuser import GROWTH, GROWTH_OF_A_START, NOTHING, THREAD, Asked, refusing, symbols
 
 NO_MEMORY = (3, b"", b"ilocfarm: out of memory\n")
-NO_WORKER = (3, b"", b"ilocfarm: a worker could not be started: try --workers 1\n")
+NO_WORKER = (3, b"", b"ilocfarm: a worker could not be started\n")
 # As soon as so many runs in a row asked for no growth of the number, none asks for one any more.
 UNTOUCHED = 20
 SAMPLED = 40

@@ -69,7 +69,7 @@ run_status_of WriteFailed = 4
 
 -- what is said of a fault of the work
 abbrev pub farm_text : FarmFault → List ℕ
-farm_text farm.NoThread = codes "a worker could not be started: try --workers 1"
+farm_text farm.NoThread = codes "a worker could not be started"
 farm_text farm.NoMemory = codes "out of memory"
 
 -- what is said of a task that there isn't: of its own text, and so that it is told apart from the other

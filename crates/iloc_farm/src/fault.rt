@@ -27,7 +27,7 @@ impl Display for FarmFault {
 
     fn fmt<W: fmt::Write>(&self, f: &mut Formatter<W>) -> fmt::Result {
         match self {
-            FarmFault::NoThread => f.write_str("a worker could not be started: try --workers 1"),
+            FarmFault::NoThread => f.write_str("a worker could not be started"),
             FarmFault::NoMemory => f.write_str("out of memory"),
         }
     }
