@@ -20,6 +20,9 @@ HINTS = [
     (b"".join(b"loadI 4 => r%d\n" % k for k in range(22)),
      b"".join(b"hint: line %d: nothing uses this value of r%d\n" % (k + 1, k) for k in range(20))
      + b"hint: and 2 more like these\n"),
+    (b"".join(b"L%d: loadI %d => r1\n" % (k, k) for k in range(30)),
+     ALONE + b"".join(b"hint: line %d: nothing uses this value of r1\n" % (k + 1) for k in range(19))
+     + b"hint: and 11 more like these\n"),
 ]
 
 

@@ -165,9 +165,11 @@ impl Hints {
         let mut hints = Vec::new(self.alloc);
         if self.headed > 2 && self.others == 0 {
             hints.push(Hint::AllHeaded)?;
+            self.count = self.count.saturating_add(1);
         }
         hints.extend_from_slice(&self.found)?;
         if self.count > MOST {
+            hints.truncate(MOST as usize);
             hints.push(Hint::More(self.count - MOST))?;
         }
         Ok(hints)
