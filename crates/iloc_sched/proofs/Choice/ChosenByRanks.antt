@@ -1,5 +1,6 @@
 -- The choice of a cycle by ranks is the choice of the definition; for `Waiting::step`.
 use Rattle.std.proofs.Common.{◌≡◌, ◌<◌, ◌≤◌, ◌≢◌, ℕ, ◌+◌, ◌==◌, ◌&&◌, not, Bool, true, false, List, length, Option, Some, None, sym, ◌∙◌, ap, subst, arith}
+use Rattle.std.proofs.lemmas.Bool.{and_from, and_parts, not-true}
 use Rattle.std.proofs.lemmas.Bool.Decides.{nat_tests}
 use Rattle.std.specs.Prelude.{filter}
 use Rattle.iloc_meaning.specs.Trace.{op_at}
@@ -31,21 +32,8 @@ use Rattle.iloc_sched.proofs.Choice.IssuedChoice.{issued_at}
 beside_by_class : (a b : Kind) → may_stand_beside a b ≡ not (excludes (class_of a) (class_of b))
 beside_by_class a b = grind arith
 
--- what keeps none out of a row that is empty
-open_alone : (b : Bool) → not b ≡ true → b ≡ false
-open_alone b is = grind arith
-
 apart_numbers : (a b : ℕ) → a ≢ b → not (a == b) ≡ true
 apart_numbers a b apart = grind (arith, nat_tests)
-
-both_true : (a b : Bool) → a ≡ true → b ≡ true → (a && b) ≡ true
-both_true a b first second = grind arith
-
-from_both : (a b : Bool) → (a && b) ≡ true → (a ≡ true) × (b ≡ true)
-from_both a b both = grind arith
-
-not_equal : (b : Bool) → b ≡ true → not b ≡ true → ⊥
-not_equal b is other = grind arith
 
 abbrev row_one : Choice → Option Choice → Row
 row_one a b = record { zero = number_of b; one = Some a.number }
@@ -59,13 +47,13 @@ none_excluded k = grind arith
 -- what is offered beside a class is ready and not excluded by it
 module _ (p : Plan) (w : Waiting) (f : ℕ) (under : IsUnderWay p w f) (k : Class) (j : ℕ) (there : j < length p.tables.now.ops.items) where
   pub opens : has w.calendar 32 (rank_of p j) ≡ true → excludes k (class_at p.tables.now.ops.items j) ≡ false → IsOpen p w k j
-  opens held free = grind (arith, both_true)
+  opens held free = grind (arith, and_from)
 
   pub open_ready : IsOpen p w k j → has w.calendar 32 (rank_of p j) ≡ true
-  open_ready is = (from_both _ _ is.1).0
+  open_ready is = (and_parts _ _ is.1).0
 
   pub open_free : IsOpen p w k j → excludes k (class_at p.tables.now.ops.items j) ≡ false
-  open_free is = sym (under.calendar.kept.each k j there) ∙ open_alone _ (from_both _ _ is.1).1
+  open_free is = sym (under.calendar.kept.each k j there) ∙ not-true _ (and_parts _ _ is.1).1
 
 module _ (p : Plan) (w : Waiting) (rows : List Row) (plan : IsPlan p)
     (under : IsUnderWay p w (length rows + 1))
@@ -125,7 +113,7 @@ module _ (p : Plan) (w : Waiting) (rows : List Row) (plan : IsPlan p)
     -- who is ready and can go beside a is open in what is left
     left_open : (j : ℕ) → In (filter beside all_ready) j → IsOpen p w1 (class_of a.kind) j
     left_open j held =
-        grind (arith, from_both, from_filter, nat_tests, not_equal, open_alone, open_beside, opens, ready_queued, ready_there)
+        grind (arith, and_parts, from_filter, nat_tests, not-true, open_beside, opens, ready_queued, ready_there)
 
     -- who is open in it is ready and can go beside a
     open_left : (j : ℕ) → IsOpen p w1 (class_of a.kind) j → In (filter beside all_ready) j
@@ -134,7 +122,7 @@ module _ (p : Plan) (w : Waiting) (rows : List Row) (plan : IsPlan p)
         in_filter beside all_ready j
         (queued_ready j is.0 (sym (issues.ready j is.0 (λ same. apart (sym same)))
         ∙ open_ready p w1 (length rows + 1) issues.under_way (class_of a.kind) j is.0 is))
-        (both_true _ _ (apart_numbers a.number j apart)
+        (and_from _ _ (apart_numbers a.number j apart)
         (open_beside j ∙ ap not (open_free p w1 (length rows + 1) issues.under_way (class_of a.kind) j is.0 is)))
 
     pub chosen_second : (b : Option Choice) → IsBest p w1 (class_of a.kind) b

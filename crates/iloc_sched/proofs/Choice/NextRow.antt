@@ -21,6 +21,7 @@ use Rattle.iloc_sched.specs.Steps.Views.{issued_list, progress_of}
 use Rattle.iloc_sched.specs.Steps.Cycle.SoFar.{IsPlan, IsUnderWay, IsSoFar, IsBest, Issues, IssuesAny, number_of, row_with, slot_count, waiting_count}
 use Rattle.iloc_sched.proofs.Basics.IssueCycles.{issue_cycle_more, issue_cycle_last, issue_cycle_beyond}
 use Rattle.iloc_sched.proofs.Basics.Slots.{holds_from, from_holds}
+use Rattle.iloc_sched.proofs.Choice.ChosenRows.{in_option}
 use Rattle.iloc_sched.proofs.Choice.RowAfterRow.{chosen_more, chosen_is_greedy}
 use Rattle.iloc_sched.proofs.Bounds.BusyCycles.{rows_bound}
 use Rattle.iloc_sched.proofs.Choice.IssuedChoice.{issued_at, issued_other}
@@ -40,16 +41,13 @@ matches_more : (n : ℕ) (rows : List Row) (row : Row) (issued issued' : ℕ →
 matches_more n rows row issued issued' matches now others =
     grind (arith, by_slots, issue_cycle_beyond, issue_cycle_last, issue_cycle_more, length-append)
 
-one_of : (o : Option ℕ) (j : ℕ) → In (option_to_list o) j → o ≡ Some j
-one_of o j held = grind arith
-
 two_of : (o : Option ℕ) (a j : ℕ) → In (option_to_list o ++ a ∷ []) j → (o ≡ Some j) ⊎ (j ≡ a)
 two_of o a j held = grind arith
 
 -- who stands in the row of a choice
 from_row : (a : Choice) (b : Option Choice) (j : ℕ) → In (slots (row_with a b)) j → (j ≡ a.number)
     ⊎ (number_of b ≡ Some j)
-from_row a b j = grind (arith, one_of, two_of)
+from_row a b j = grind (arith, in_option, two_of)
 
 in_last : (o : Option ℕ) (a : ℕ) → In (option_to_list o ++ a ∷ []) a
 in_last o a = grind arith

@@ -56,7 +56,7 @@ pub only_outputs_emit : (op : Op) (reg : Reg → ℤ) (word : ℕ → ℤ) → i
     → emitted_by (effect op reg word) ≡ []
 only_outputs_emit op reg word is = grind (arith, load_emits_not, store_emits_not, true≢false)
 
-store_kind_latency : (lat : Latencies) (k : Kind) → is_store k ≡ true → latency_of lat k ≡ lat.store
+pub store_kind_latency : (lat : Latencies) (k : Kind) → is_store k ≡ true → latency_of lat k ≡ lat.store
 store_kind_latency lat k is = grind (arith, false≢true)
 
 -- all stores have one latency

@@ -8,13 +8,14 @@ use Rattle.iloc_timed.specs.declared.kind.Kind.{Kind}
 use Rattle.iloc_timed.specs.declared.kind.Kind.TheVariants as K
 use Rattle.iloc_timed.specs.declared.latencies.Latencies.{Latencies}
 use Rattle.iloc_timed.specs.Kinds.{kind, is_load, is_store}
-use Rattle.iloc_timed.specs.Latency.{latency, latency_of}
+use Rattle.iloc_timed.specs.Latency.{latency}
 use Rattle.iloc_sched.specs.Delays.{when}
 use Rattle.iloc_sched.specs.LowerBound.Least.{needed, load_tails, tails, tail}
 use Rattle.iloc_sched.specs.Steps.Members.{In}
 use Rattle.iloc_sched.specs.Steps.Chains.{IsChainOut}
 use Rattle.iloc_sched.specs.Steps.LowerBound.Tails.{loads_from, chain_tail, store_tail, tail_by}
 use Rattle.iloc_sched.proofs.Basics.Members.{contains_from, from_append}
+use Rattle.iloc_sched.proofs.Outcome.UsedEffects.{store_kind_latency}
 use Rattle.iloc_sched.proofs.PriorityValues.Longest.{chain_own, chain_pairs, chain_reached}
 use Rattle.iloc_sched.proofs.Bounds.Swept.{in_drop, needed_most}
 use Rattle.iloc_sched.proofs.Bounds.TailBound.{tail_most, serial_end}
@@ -84,17 +85,13 @@ loads_reach lat ops i x small =
         let most = tail_most lat ops found.0 (omega arith) in
         omega arith
 
--- a store has its latency
-stored : (lat : Latencies) (k : Kind) → is_store k ≡ true → latency_of lat k ≡ lat.store
-stored lat k is = grind arith
-
 not_stored : (k : Kind) → is_load k ≡ true → is_store k ≡ false
 not_stored k is = grind arith
 
 -- the tail by the latency of stores
 pub tail_by_store : (lat : Latencies) (ops : List Op) (i : ℕ) → i < length ops → tail_by (kind (op_at ops i))
     (chain_tail lat ops i) lat.store (loads_from lat ops (i + 1)) ≡ tail lat ops i
-tail_by_store lat ops i within = grind (arith, stored, tail_parts)
+tail_by_store lat ops i within = grind (arith, store_kind_latency, tail_parts)
 
 -- a load leaves what its delays leave
 pub load_kept : (lat : Latencies) (ops : List Op) (i : ℕ) → i < length ops
