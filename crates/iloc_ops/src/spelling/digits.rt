@@ -35,7 +35,8 @@ fn write_long(line: &mut [u8], end: usize, number: u32) -> usize
 
 /// A number below 10,000 in decimal.
 ///
-/// Its four digits are computed side by side, zeros first.
+/// Its four digits are computed side by side, zeros first. With `write_digits` 0.6 to 1.2 branches more are mispredicted for each
+/// operation, which is 1 to 9 ns of the 195 that `schedule` takes for it.
 #[inline(always)]
 fn short_number(number: u32) -> Word
     requires { number < 10000 }
