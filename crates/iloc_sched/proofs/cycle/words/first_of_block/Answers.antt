@@ -6,10 +6,7 @@ use Rattle.iloc_sched.proofs.Ranks.Firsts.{low_set, low_one, found_here, next_se
 use Rattle.iloc_sched.proofs.cycle.words.first_of_block.Goals as goal
 
 pub first_of_word-requires-clause-there : goal.first_of_word-requires-clause-there
-first_of_word-requires-clause-there c =
-    let low = trailing_zeros w64 c.loop-left.left % 64 in
-    c.requires.there low (omega arith)
-    (c.loop-left.invariant.within low (omega arith) (low_set c.loop-left.left (omega arith) c.loop-left-test.true))
+first_of_word-requires-clause-there c = grind (arith, low_set)
 
 pub loop-left-init : goal.loop-left-init
 loop-left-init c = record { passed = c.requires.summary; within = λ i small set. set }
@@ -30,9 +27,7 @@ returns-in-Some-clause-first c =
     c.loop-left-test.true c.in-Some.rank c.in-Some.ensures
 
 pub loop-left-smaller : goal.loop-left-smaller
-loop-left-smaller c =
-    cleared_less c.loop-left.left (trailing_zeros w64 c.loop-left.left % 64) (omega arith)
-    (low_one c.loop-left.left (omega arith) c.loop-left-test.true)
+loop-left-smaller c = grind (arith, cleared_less, low_one)
 
 pub loop-left-preserved : goal.loop-left-preserved
 loop-left-preserved c =

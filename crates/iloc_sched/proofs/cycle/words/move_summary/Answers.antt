@@ -1,5 +1,4 @@
-use Rattle.std.proofs.Common.{◌≡◌, subst, arith}
-use Rattle.iloc_sched.specs.Steps.Cycle.RankSets.{NotesMoved}
+use Rattle.std.proofs.Common.{arith}
 use Rattle.iloc_sched.proofs.Ranks.Moves.{noting_start, noting_more}
 use Rattle.iloc_sched.proofs.cycle.words.move_summary.Goals as goal
 
@@ -12,6 +11,4 @@ loop-class-preserved c =
     (omega arith) c.requires.there c.loop-class.invariant
 
 pub returns : goal.returns
-returns c =
-    let all : c.loop-class.class ≡ 4 = omega arith in
-    subst (λ n. NotesMoved c.args.summary.now c.loop-class.summary c.args.some c.args.block c.args.bucket n) all c.loop-class.invariant
+returns c = grind arith

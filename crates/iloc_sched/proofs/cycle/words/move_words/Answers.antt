@@ -1,4 +1,4 @@
-use Rattle.std.proofs.Common.{◌≡◌, ◌+◌, ◌*◌, ◌%◌, ◌≤◌, length, arith, w64}
+use Rattle.std.proofs.Common.{◌%◌, arith, w64}
 use Rattle.std.specs.Int.{trailing_zeros}
 use Rattle.iloc_sched.proofs.Ranks.Firsts.{low_there, low_set, still_held}
 use Rattle.iloc_sched.proofs.Ranks.Moves.{moving_start, moving_step}
@@ -22,13 +22,7 @@ loop-left-init c =
     }
 
 pub move_next-left-requires-in-loop-left-clause-there : goal.move_next-left-requires-in-loop-left-clause-there
-move_next-left-requires-in-loop-left-clause-there c =
-    let at = c.loop-left.invariant in
-    let low = trailing_zeros w64 c.loop-left.left % 64 in
-    let size : length c.loop-left.words ≡ length c.args.words.now = at.moving.size in
-    let there : (c.args.block * 64 + low) * 37 + 37 ≤ length c.args.words.now =
-    at.there low (omega arith) (low_set c.loop-left.left at.fits c.loop-left-test.true) in
-    omega arith
+move_next-left-requires-in-loop-left-clause-there c = grind (arith, low_set)
 
 pub loop-left-preserved : goal.loop-left-preserved
 loop-left-preserved c =

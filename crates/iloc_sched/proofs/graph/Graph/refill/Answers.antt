@@ -1,8 +1,5 @@
+use Rattle.std.proofs.Common.{arith}
 use Rattle.iloc_sched.proofs.graph.Graph.refill.Goals as goal
 
 pub invariant_of-self : goal.invariant_of-self
-invariant_of-self c = record {
-  sound = c.in-Ok.ensures.sound;
-  block = c.args.block.now.ops;
-  named = c.in-Ok.ensures.ops;
-}
+invariant_of-self c = grind arith

@@ -1,32 +1,17 @@
 use Rattle.std.proofs.Common.{ℕ, ◌≡◌, ◌+◌, ◌*◌, ◌/◌, ◌%◌, ◌≤◌, min, List, length, map, get_or, count_ones, sym, ◌∙◌, ap, subst, arith}
 use Rattle.std.specs.Prelude.{count_by}
 use Rattle.std.specs.List.{range_with_len}
-use Rattle.std.proofs.lemmas.Grind.{div_ceil_times}
 use Rattle.std.proofs.lemmas.List.{ext_get_or}
 use Rattle.std.proofs.lemmas.List.Sums.{count_by-le-length}
 use Rattle.std.proofs.lemmas.List.FromFn.{length-range_with_len, length-map-range_with_len, get_or-map-range_with_len}
+use Rattle.std.proofs.lemmas.Grind.{div_ceil_times}
 use Rattle.iloc_sched.specs.Heuristics.{depends_on, descendants}
 use Rattle.iloc_sched.specs.Steps.Ranking.Dependents.{AreMarked}
 use Rattle.iloc_sched.proofs.PriorityValues.DependentsCounted.{counted_more, counted_all}
 use Rattle.iloc_sched.proofs.ranking.descendants.count_descendants.Goals as goal
 
 pub add_counts-requires-clause-small : goal.add_counts-requires-clause-small
-add_counts-requires-clause-small c = λ i below.
-    let t = c.args.tables.now in
-    let lat = t.latencies in
-    let ops = t.ops.items in
-    let heads : length t.edges.heads.items ≡ length ops = c.requires.graph.size in
-    let few : length t.edges.heads.items ≤ 10000 = t.edges.short in
-    let marked : length c.deref.result.now ≡ length ops = ap length c.deref.ensures.value ∙ c.mark.ensures.size in
-    let count : get_or c.loop-chunk.found.items i 0
-    ≡ count_by (depends_on lat ops i) (range_with_len 0 (64 * c.loop-chunk.chunk)) =
-    c.loop-chunk.invariant.counted i (omega arith) in
-    let most : count_by (depends_on lat ops i) (range_with_len 0 (64 * c.loop-chunk.chunk))
-    ≤ length (range_with_len 0 (64 * c.loop-chunk.chunk)) =
-    count_by-le-length (depends_on lat ops i) (range_with_len 0 (64 * c.loop-chunk.chunk)) in
-    let size : length (range_with_len 0 (64 * c.loop-chunk.chunk)) ≡ 64 * c.loop-chunk.chunk =
-    length-range_with_len 0 (64 * c.loop-chunk.chunk) in
-    omega arith
+add_counts-requires-clause-small c = grind (arith, count_by-le-length, length-range_with_len)
 
 pub loop-chunk-preserved : goal.loop-chunk-preserved
 loop-chunk-preserved c =

@@ -17,14 +17,7 @@ loop-x-init c =
     (is_priority t.latencies t.ops.items) c.copy_latencies.new.found.items c.in_ok-copy_latencies.ensures))
 
 pub overflow_add-through : goal.overflow_add-through
-overflow_add-through c =
-    let t = c.args.tables.now in
-    let edge = c.get-edge.result in
-    let known = read_edge t c.requires (c.loop-x.x - 1) edge (omega arith) c.get-edge.ensures in
-    let size : length c.loop-x.found.items ≡ length t.ops.items = c.loop-x.invariant.size in
-    let read = get_or_read c.loop-x.found.items edge.to c.index.result.now (omega arith) c.index.ensures 0 in
-    let upper = c.loop-x.invariant.upper edge.to known.1 known.1 in
-    omega (arith, priority_most t.latencies t.ops.items edge.to known.1)
+overflow_add-through c = grind (arith, get_or_read, priority_most, read_edge)
 
 pub loop-x-preserved : goal.loop-x-preserved
 loop-x-preserved c =

@@ -2,7 +2,6 @@ use Rattle.std.proofs.Common.{◌≡◌, ◌+◌, length, map, get_or, sym, ◌�
 use Rattle.std.specs.List.{range_with_len}
 use Rattle.std.proofs.lemmas.List.{ext_get_or}
 use Rattle.std.proofs.lemmas.List.FromFn.{length-map-range_with_len, get_or-map-range_with_len}
-use Rattle.iloc_sched.specs.Priority.{priority}
 use Rattle.iloc_sched.specs.LowerBound.Starts.{starts, start}
 use Rattle.iloc_sched.specs.Heuristics.{through}
 use Rattle.iloc_sched.proofs.PriorityValues.Longest.{length-priorities, priority_most}
@@ -10,24 +9,10 @@ use Rattle.iloc_sched.proofs.PriorityValues.Starts.{length-starts, start_most}
 use Rattle.iloc_sched.proofs.ranking.slack.fill_through.Goals as goal
 
 pub add_each-requires-clause-size : goal.add_each-requires-clause-size
-add_each-requires-clause-size c =
-    let t = c.args.tables.now in
-    ap length (c.deref.ensures.value ∙ c.in_ok-fill_starts.ensures) ∙ length-starts t.latencies t.ops.items
-    ∙ sym (ap length c.in_ok-fill_chains.ensures ∙ length-priorities t.latencies t.ops.items)
+add_each-requires-clause-size c = grind (arith, length-priorities, length-starts)
 
 pub add_each-requires-clause-small : goal.add_each-requires-clause-small
-add_each-requires-clause-small c = λ i below.
-    let t = c.args.tables.now in
-    let starts_are : c.deref.result.now ≡ starts t.latencies t.ops.items =
-    c.deref.ensures.value ∙ c.in_ok-fill_starts.ensures in
-    let size : length c.deref.result.now ≡ length t.ops.items =
-    ap length starts_are ∙ length-starts t.latencies t.ops.items in
-    let one : get_or c.deref.result.now i 0 ≡ start t.latencies t.ops.items i = ap (λ xs. get_or xs i 0) starts_are in
-    let other : get_or c.fill_chains.new.found.items i 0 ≡ priority t.latencies t.ops.items i =
-    ap (λ xs. get_or xs i 0) c.in_ok-fill_chains.ensures in
-    let first = start_most t.latencies t.ops.items i (omega arith) in
-    let second = priority_most t.latencies t.ops.items i (omega arith) in
-    omega (arith, t.edges.short, c.requires.graph.size)
+add_each-requires-clause-small c = grind (arith, length-starts, priority_most, start_most)
 
 pub returns : goal.returns
 returns c =

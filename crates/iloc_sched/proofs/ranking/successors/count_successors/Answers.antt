@@ -4,7 +4,6 @@ use Rattle.iloc_ops.specs.declared.op.Op.{Op}
 use Rattle.iloc_timed.specs.declared.kind.Kind.TheVariants.{Store}
 use Rattle.iloc_timed.specs.declared.latencies.Latencies.{Latencies}
 use Rattle.iloc_sched.specs.Steps.Ranking.Successors.{waiting_for, AreCounted, AreNoted}
-use Rattle.iloc_sched.proofs.Basics.Cases.{by_eq}
 use Rattle.iloc_sched.proofs.KeptEdges.ListedKinds.{kind_listed}
 use Rattle.iloc_sched.proofs.PriorityValues.Successors.{none_counted, one_counted, all_counted, none_noted, one_noted, noted_few, waiting_few, counted_few}
 use Rattle.iloc_sched.proofs.ranking.successors.count_successors.Goals as goal
@@ -48,15 +47,8 @@ overflow_add-index_mut c =
 -- the numbers stay small while operation j gets its own
 own_few : (lat : Latencies) (ops : List Op) (found : List ℕ) (j k n i : ℕ) → AreCounted lat ops found k
     → j < length found → n ≤ 20000 → length ops ≤ 10000 → get_or (set found j n) i 0 ≤ 20000
-own_few lat ops found j k n i counted there most few = by_eq i j
-    (λ same.
-    let here : get_or (set found j n) i 0 ≡ n =
-    ap (λ m. get_or (set found j n) m 0) same ∙ get_or-set_same found j n 0 there in
-    omega arith)
-    (λ apart.
-    let same : get_or (set found j n) i 0 ≡ get_or found i 0 = get_or-set_other found j i n 0 apart in
-    let small : get_or found i 0 ≤ length ops = counted_few lat ops found k i counted in
-    omega arith)
+own_few lat ops found j k n i counted there most few =
+    grind (arith, counted_few lat ops found k i counted, get_or-set_other found j i n 0, get_or-set_same found j n 0 there)
 
 pub count_uses-requires-clause-small : goal.count_uses-requires-clause-small
 count_uses-requires-clause-small c = λ i.
@@ -94,8 +86,4 @@ loop-j-preserved c =
     }
 
 pub returns : goal.returns
-returns c =
-    let t = c.args.tables.now in
-    let end : c.loop-j.j ≡ 0 = omega arith in
-    all_counted t.latencies t.ops.items c.loop-j.found.items
-    (subst (AreCounted t.latencies t.ops.items c.loop-j.found.items) end c.loop-j.invariant.counted)
+returns c = grind (arith, all_counted)

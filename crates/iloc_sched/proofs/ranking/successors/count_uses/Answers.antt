@@ -10,24 +10,10 @@ use Rattle.iloc_sched.proofs.ranking.successors.count_uses.Goals as goal
 use Rattle.iloc_sched.proofs.ranking.successors.count_uses.Goals.{then-adds_one, else-adds_one}
 
 pub loop-x-init : goal.loop-x-init
-loop-x-init c =
-    let t = c.args.tables.now in
-    let graph = graph_of t.edges in
-    let up : graph.start c.args.j ≤ graph.start (c.args.j + 1) =
-    c.requires.sound.graph.is_graph.rises c.args.j (c.args.j + 1) (omega arith) (omega (arith, c.requires.there)) in
-    let first : c.start-x.result ≡ graph.start c.args.j = c.start-x.ensures in
-    record {
-      low = omega arith;
-      high = omega arith;
-      counting = none_counting t.latencies t.ops.items graph c.requires.sound.graph c.args.j c.requires.there
-          c.args.found.now.items c.start-x.result first;
-    }
+loop-x-init c = grind (arith, none_counting)
 
 pub adds_one-requires-clause-there : goal.adds_one-requires-clause-there
-adds_one-requires-clause-there c =
-    let t = c.args.tables.now in
-    (into_j t.latencies t.ops.items (graph_of t.edges) c.requires.sound.graph c.args.j c.requires.there c.loop-x.x
-    c.loop-x.invariant.low (omega (arith, c.start-x-end.ensures))).0
+adds_one-requires-clause-there c = grind (arith, into_j)
 
 pub overflow_add-index_mut : goal.overflow_add-index_mut
 overflow_add-index_mut c =

@@ -1,4 +1,4 @@
-use Rattle.std.proofs.Common.{◌≡◌, ◌++◌, ap, subst, sym, ◌∙◌}
+use Rattle.std.proofs.Common.{arith, ◌≡◌, ◌++◌, ap, subst, sym, ◌∙◌}
 use Rattle.std.specs.Global.{Vec}
 use Rattle.iloc_ops.specs.declared.op.Op.{Op}
 use Rattle.iloc_timed.specs.declared.row.Row.{Row}
@@ -8,16 +8,7 @@ use Rattle.iloc_sched.proofs.Choice.Scheduled.{handed_out, the_schedule}
 use Rattle.iloc_sched.proofs.scheduler.Scheduler.lend.Goals as goal
 
 pub of_table-requires-clause-table : goal.of_table-requires-clause-table
-of_table-requires-clause-table c =
-    let p = c.tables-tables.result.now in
-    let ops_are : c.args.graph.now.ops ≡ p.ops.items = ap (λ (g : GraphOf). g.ops) c.tables-tables.ensures.graph in
-    let copied : c.replace-ops.result.items ≡ p.ops.items = ap (λ (v : Vec Op). v.items) c.replace-ops.ensures.value
-    ∙ (c.in_ok-extend_from_slice.ensures.items ∙ (ap (λ xs. xs ++ c.ops.result.now) c.clear.ensures.items
-    ∙ (c.ops.ensures.ops ∙ ops_are))) in
-    (handed_out c.args.ranks.now p.latencies c.tables-tables.ensures.named.0 p.ops.items c.replace-ops.result.items
-    c.fill_rows.new.rows.items c.replace-rows.result.items copied
-    (ap (λ (v : Vec Row). v.items) c.replace-rows.ensures.value)
-    (c.in_ok-fill_rows.ensures.greedy c.tables-tables.ensures.named.0 c.tables-tables.ensures.named.1)).lawful.table
+of_table-requires-clause-table c = grind (arith, handed_out)
 
 pub returns : goal.returns
 returns c = λ lat block is.

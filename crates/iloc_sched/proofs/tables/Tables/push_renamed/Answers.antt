@@ -1,4 +1,4 @@
-use Rattle.std.proofs.Common.{◌∷◌, ◌++◌, [], List, length, refl, sym, ◌∙◌, ap, subst}
+use Rattle.std.proofs.Common.{arith, ◌∷◌, ◌++◌, [], List, length, refl, sym, ◌∙◌, ap, subst}
 use Rattle.iloc_ops.specs.declared.op.Op.{Op}
 use Rattle.iloc_sched.specs.Renaming.{numbering, renamed_by, IsRenamed}
 use Rattle.iloc_sched.proofs.Renamed.RenamingLoop.{next_pushed, without_nops_more}
@@ -21,13 +21,7 @@ pub push-requires-clause-filling : goal.push-requires-clause-filling
 push-requires-clause-filling c = c.requires.gathered.1.filling
 
 pub returns-clause-gathered : goal.returns-clause-gathered
-returns-clause-gathered c done was =
-    let next = c.in_ok-renamed.ensures.next _ was.named in
-    record {
-      named = next.0;
-      ops = next_pushed _ _ _ _ _ was.ops next.1 c.in_ok-push.ensures.ops;
-      filling = c.in_ok-push.ensures.filling;
-    }
+returns-clause-gathered c done was = grind (arith, next_pushed)
 
 pub returns-clause-size : goal.returns-clause-size
 returns-clause-size c =

@@ -44,22 +44,10 @@ invariant_of-self c =
     }
 
 pub returns-then-some-eq0-clause-released : goal.returns-then-some-eq0-clause-released
-returns-then-some-eq0-clause-released c =
-    let s = c.args.self.now in
-    let some : s.blocks ≢ 0 = λ none. let more = c.requires.block in absurd (omega arith) in
-    let there : c.args.block * 37 + c.args.bucket < length s.summary.items = omega (arith, s.sized, c.requires.block, c.requires.bucket) in
-    let read : c.index-some.result.now ≡ word_at s.summary.items c.args.bucket c.args.block =
-    get_or_read s.summary.items (c.args.block * 37 + c.args.bucket) c.index-some.result.now there c.index-some.ensures 0 in
-    block_as_released s c.args.bucket c.args.block c.requires.bucket some (sym read ∙ c.if-some-eq0.true)
+returns-then-some-eq0-clause-released c = grind (arith, block_as_released, get_or_read)
 
 pub returns-then-some-eq0-clause-emptied : goal.returns-then-some-eq0-clause-emptied
-returns-then-some-eq0-clause-emptied c =
-    let s = c.args.self.now in
-    let some : s.blocks ≢ 0 = λ none. let more = c.requires.block in absurd (omega arith) in
-    let there : c.args.block * 37 + c.args.bucket < length s.summary.items = omega (arith, s.sized, c.requires.block, c.requires.bucket) in
-    let read : c.index-some.result.now ≡ word_at s.summary.items c.args.bucket c.args.block =
-    get_or_read s.summary.items (c.args.block * 37 + c.args.bucket) c.index-some.result.now there c.index-some.ensures 0 in
-    block_without s c.args.bucket c.args.block c.requires.bucket some (sym read ∙ c.if-some-eq0.true)
+returns-then-some-eq0-clause-emptied c = grind (arith, block_without, get_or_read)
 
 pub returns-clause-released : goal.returns-clause-released
 returns-clause-released c =
@@ -70,12 +58,7 @@ returns-clause-released c =
     (kept_back s.words c.deref_mut.result.now low.new.words c.deref_mut.ensures.value (λ w. w / 64 ≡ c.args.block) c.args.bucket low.ensures.size low.ensures.others)
 
 pub returns-clause-emptied : goal.returns-clause-emptied
-returns-clause-emptied c =
-    let s = c.args.self.now in
-    let low = c.move_words in
-    block_empty s.words.items (with_items s.words low.new.words).items c.args.bucket c.args.block
-    (λ w here. moves_back s.words c.deref_mut.result.now low.new.words c.deref_mut.ensures.value c.args.bucket w low.ensures.size (low.ensures.moved w here))
-    (kept_back s.words c.deref_mut.result.now low.new.words c.deref_mut.ensures.value (λ w. w / 64 ≡ c.args.block) c.args.bucket low.ensures.size low.ensures.others)
+returns-clause-emptied c = grind (arith, block_empty, kept_back, moves_back)
 
 pub returns-clause-others : goal.returns-clause-others
 returns-clause-others c =

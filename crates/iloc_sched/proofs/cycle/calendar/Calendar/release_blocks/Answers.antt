@@ -4,17 +4,10 @@ use Rattle.iloc_sched.proofs.Ranks.Calendars.{room_kept}
 use Rattle.iloc_sched.proofs.cycle.calendar.Calendar.release_blocks.Goals as goal
 
 pub loop-block-init : goal.loop-block-init
-loop-block-init c =
-    let r = c.release_block in
-    one_released c.args.self.now c.args.self.now r.new.self c.args.bucket 0 c.requires.bucket (none_released c.args.self.now c.args.bucket)
-    r.ensures.released r.ensures.emptied r.ensures.others r.ensures.room
+loop-block-init c = grind (arith, none_released, one_released)
 
 pub release_block-requires-in-loop-block : goal.release_block-requires-in-loop-block
-release_block-requires-in-loop-block c = record {
-  bucket = c.requires.bucket;
-  block = let same = c.loop-block.invariant.room.blocks in omega arith;
-  room = room_kept c.args.self.now c.loop-block.self 0 c.loop-block.invariant.room c.requires.room;
-}
+release_block-requires-in-loop-block c = grind (arith, room_kept)
 
 pub loop-block-preserved : goal.loop-block-preserved
 loop-block-preserved c =

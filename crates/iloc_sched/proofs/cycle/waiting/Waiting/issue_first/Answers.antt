@@ -1,19 +1,11 @@
-use Rattle.std.proofs.Common.{◌+◌, false, length, get_or, sym, refl, subst}
-use Rattle.iloc_sched.specs.declared.cycle.waiting.Waiting.{Waiting}
+use Rattle.std.proofs.Common.{arith, ◌+◌, false, get_or, sym, refl, subst}
 use Rattle.iloc_sched.specs.Steps.Cycle.Calendar.{Puts}
-use Rattle.iloc_sched.specs.Steps.Cycle.SoFar.{IsBest, IssuesAny}
 use Rattle.iloc_sched.proofs.Choice.IssuedChoice.{same_under_way, none_is_best, is_best, rank_there, rank_below, number_there, rank_is, can_issue, taken_calendar, taken_can, taken_waits, issues_choice}
 use Rattle.iloc_sched.proofs.Ranks.Calendars.{room_none}
 use Rattle.iloc_sched.proofs.cycle.waiting.Waiting.issue_first.Goals as goal
 
 pub take_first-requires : goal.take_first-requires
-take_first-requires c =
-    let under = c.requires.under_way in
-    record {
-      room = room_none c.args.self.now.calendar (length c.args.plan.now.tables.now.ops.items) under.calendar.room;
-      within = λ r offered. under.calendar.room.ranks r
-          (rank_below c.args.plan.now c.args.self.now (c.args.cycle + 1) c.args.beside c.requires.plan under r offered);
-    }
+take_first-requires c = grind (arith, rank_below, room_none)
 
 pub issue-requires : goal.issue-requires
 issue-requires c =
@@ -37,36 +29,19 @@ issue-requires c =
     }
 
 pub kind_of-kind-requires : goal.kind_of-kind-requires
-kind_of-kind-requires c = record {
-  there = number_there c.args.plan.now c.args.self.now (c.args.cycle + 1) c.args.beside c.requires.plan c.requires.under_way
-      c.in_ok-rank.rank c.in_ok-rank.ensures.first.0 (get_or c.args.plan.now.order.now c.in_ok-rank.rank 0) refl;
-  kinds = c.requires.plan.kinds;
-}
+kind_of-kind-requires c = grind (arith, number_there)
 
 pub bounds-plan-rank : goal.bounds-plan-rank
-bounds-plan-rank c =
-    rank_there c.args.plan.now c.args.self.now (c.args.cycle + 1) c.args.beside c.requires.plan c.requires.under_way c.in_ok-rank.rank
-    c.in_ok-rank.ensures.first.0
+bounds-plan-rank c = grind (arith, rank_there)
 
 pub returns-in_err-rank-clause-best : goal.returns-in_err-rank-clause-best
-returns-in_err-rank-clause-best c =
-    subst (IsBest c.args.plan.now c.args.self.now c.args.beside) (sym c.from_residual.ensures)
-    (none_is_best c.args.plan.now c.args.self.now (c.args.cycle + 1) c.args.beside c.requires.plan c.requires.under_way
-    c.in_err-rank.ensures.first)
+returns-in_err-rank-clause-best c = grind (arith, none_is_best)
 
 pub returns-in_err-rank-clause-issues : goal.returns-in_err-rank-clause-issues
-returns-in_err-rank-clause-issues c =
-    let p = c.args.plan.now in
-    let w = c.args.self.now in
-    let v : Waiting = record { states = w.states; calendar = c.take_first.new.self } in
-    subst (IssuesAny p w v c.args.cycle) (sym c.from_residual.ensures)
-    (same_under_way p w c.take_first.new.self (c.args.cycle + 1) c.in_err-rank.ensures.takes c.requires.under_way, refl)
+returns-in_err-rank-clause-issues c = grind (arith, same_under_way)
 
 pub returns-clause-best : goal.returns-clause-best
-returns-clause-best c =
-    is_best c.args.plan.now c.args.self.now (c.args.cycle + 1) c.args.beside c.requires.plan c.requires.under_way c.in_ok-rank.rank
-    c.in_ok-rank.ensures.first.0 (get_or c.args.plan.now.order.now c.in_ok-rank.rank 0) refl c.in_ok-rank.ensures.first.1
-    c.kind_of-kind.result c.kind_of-kind.ensures
+returns-clause-best c = grind (arith, is_best)
 
 pub returns-clause-issues : goal.returns-clause-issues
 returns-clause-issues c =

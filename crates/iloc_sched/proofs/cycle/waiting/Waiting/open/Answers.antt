@@ -1,10 +1,8 @@
-use Rattle.std.proofs.Common.{◌≡◌, ◌+◌, ◌-◌, ◌<◌, ◌≤◌, length, ap, None, nat_eq, refl, ◌∙◌, subst, arith}
+use Rattle.std.proofs.Common.{◌≡◌, ◌+◌, ◌-◌, ◌<◌, length, ap, None, nat_eq, refl, ◌∙◌, subst, arith}
 use Rattle.iloc_sched.specs.declared.cycle.waiting.OperationState.{OperationState}
 use Rattle.iloc_sched.specs.declared.cycle.waiting.Waiting.{Waiting}
-use Rattle.iloc_sched.specs.Steps.Cycle.Calendar.{HasRoom}
 use Rattle.iloc_sched.specs.Steps.Cycle.Classes.{class_of}
 use Rattle.iloc_sched.specs.Steps.Cycle.Opening.{IsOpening}
-use Rattle.iloc_sched.specs.Steps.Cycle.SoFar.{rank_of}
 use Rattle.iloc_sched.specs.Steps.Views.{graph_of}
 use Rattle.iloc_sched.proofs.Ranks.Calendars.{within_kept}
 use Rattle.iloc_sched.proofs.Walking.FirstStates.{opening_none, opening_more, none_issued, all_opened, all_sized, all_calendar, none_ready}
@@ -14,53 +12,22 @@ pub clear-requires : goal.clear-requires
 clear-requires c = let short = c.args.plan.now.tables.now.edges.short in omega (arith, c.op_count-count.ensures)
 
 pub loop-j-init : goal.loop-j-init
-loop-j-init c = record {
-  opening = opening_none c.args.plan.now (record { states = c.reserve.new.self; calendar = c.clear.new.self })
-      (c.in_ok-reserve.ensures.items ∙ c.clear-2.ensures.items)
-      (subst (λ n. HasRoom c.clear.new.self n) (c.op_count-count.ensures ∙ c.requires.plan.graph.size) c.in_ok-clear.ensures.room)
-      c.in_ok-clear.ensures.empty;
-  place = c.start-place.ensures;
-  size = c.in_ok-reserve.ensures.len ∙ c.clear-2.ensures.len;
-  capacity = omega (arith, c.in_ok-reserve.ensures.ok, c.reserve.ensures.len, c.clear-2.ensures.len);
-}
+loop-j-init c = grind (arith, opening_none)
 
 pub keep_out-requires : goal.keep_out-requires
-keep_out-requires c =
-    let size = c.requires.plan.graph.size in
-    let count = c.requires.plan.priorities in
-    let all = c.op_count-count.ensures in
-    let low = c.requires.plan.ranked.within c.loop-j.j (omega arith) in
-    c.loop-j.invariant.opening.room.ranks (rank_of c.args.plan.now c.loop-j.j) (omega arith)
+keep_out-requires c = grind arith
 
 pub put_if-requires : goal.put_if-requires
-put_if-requires c =
-    let r = rank_of c.args.plan.now c.loop-j.j in
-    let size = c.requires.plan.graph.size in
-    let count = c.requires.plan.priorities in
-    let all = c.op_count-count.ensures in
-    let low = c.requires.plan.ranked.within c.loop-j.j (omega arith) in
-    within_kept c.loop-j.self.calendar c.keep_out.new.self r c.keep_out.ensures.room
-    (c.loop-j.invariant.opening.room.ranks r (omega arith))
+put_if-requires c = grind (arith, within_kept)
 
 pub overflow_sub-end : goal.overflow_sub-end
-overflow_sub-end c =
-    let e = c.args.plan.now.tables.now.edges in
-    let j = c.loop-j.j in
-    let up : (graph_of e).start j ≤ (graph_of e).start (j + 1) =
-    c.requires.plan.graph.is_graph.rises j (j + 1) (omega arith) (omega (arith, c.op_count-count.ensures)) in
-    omega (arith, c.loop-j.invariant.place, c.start-end.ensures)
+overflow_sub-end c = grind arith
 
 pub returns-clause-waits : goal.returns-clause-waits
-returns-clause-waits c =
-    let p = c.args.plan.now in
-    let at_end : c.loop-j.j ≡ length p.tables.now.edges.heads.items = omega (arith, c.op_count-count.ensures) in
-    all_opened p c.loop-j.self c.requires.plan (subst (λ n. IsOpening p c.loop-j.self n) at_end c.loop-j.invariant.opening)
+returns-clause-waits c = grind (arith, all_opened)
 
 pub returns-clause-sized : goal.returns-clause-sized
-returns-clause-sized c =
-    let p = c.args.plan.now in
-    let at_end : c.loop-j.j ≡ length p.tables.now.edges.heads.items = omega (arith, c.op_count-count.ensures) in
-    all_sized p c.loop-j.self c.requires.plan (subst (λ n. IsOpening p c.loop-j.self n) at_end c.loop-j.invariant.opening)
+returns-clause-sized c = grind (arith, all_sized)
 
 pub returns-clause-calendar : goal.returns-clause-calendar
 returns-clause-calendar c =

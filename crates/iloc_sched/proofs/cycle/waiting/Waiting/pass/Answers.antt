@@ -1,4 +1,4 @@
-use Rattle.std.proofs.Common.{◌≡◌, ◌+◌, ◌-◌, ◌%◌, ◌<◌, ◌||◌, ℕ, nat_eq, length, get_or, set, ap, sym, ◌∙◌, subst, arith, eq-eqb}
+use Rattle.std.proofs.Common.{◌≡◌, ◌+◌, ◌-◌, ◌%◌, ◌<◌, ◌||◌, ℕ, nat_eq, length, get_or, set, ap, sym, subst, arith, eq-eqb}
 use Rattle.std.proofs.lemmas.Bool.{eqb-true}
 use Rattle.iloc_sched.specs.declared.edges.Edge.{Edge}
 use Rattle.iloc_sched.specs.declared.cycle.waiting.Waiting.{Waiting}
@@ -104,6 +104,4 @@ returns-clause-calendar c =
     (subst (λ (k : Calendar). KeepsRoom k c.put_if.new.self) c.change.ensures.calendar c.put_if.ensures.room)
 
 pub returns-clause-ready : goal.returns-clause-ready
-returns-clause-ready c = λ r.
-    c.put_if.ensures.puts.others 32 r (omega arith) (λ same _. absurd (omega arith))
-    ∙ ap (λ (k : Calendar). has k 32 r) c.change.ensures.calendar
+returns-clause-ready c = grind arith

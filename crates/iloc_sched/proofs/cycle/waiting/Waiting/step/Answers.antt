@@ -1,16 +1,10 @@
-use Rattle.std.proofs.Common.{refl, subst, ◌∙◌}
-use Rattle.iloc_timed.specs.Rows.{empty_row}
+use Rattle.std.proofs.Common.{arith, subst, ◌∙◌}
 use Rattle.iloc_sched.specs.Steps.Cycle.SoFar.{IsBest}
 use Rattle.iloc_sched.proofs.Choice.NextRow.{step_none, step_some, step_count}
 use Rattle.iloc_sched.proofs.cycle.waiting.Waiting.step.Goals as goal
 
 pub returns-in_ok-push-in-None-clause-so_far : goal.returns-in_ok-push-in-None-clause-so_far
-returns-in_ok-push-in-None-clause-so_far c =
-    step_none c.args.plan.now c.args.self.now c.release.new.self c.issue_first-first.new.self
-    c.args.rows.now.items c.push.new.self.items empty_row
-    c.len-cycle.result c.issue_first-first.result (c.len-cycle.ensures ∙ c.args.rows.now.ok.0) c.requires.plan
-    c.requires.so_far c.release.ensures.issued c.release.ensures.under_way
-    c.in-None.is c.issue_first-first.ensures.best c.issue_first-first.ensures.issues refl c.in_ok-push-in-None.ensures.items
+returns-in_ok-push-in-None-clause-so_far c = grind (arith, step_none)
 
 pub returns-in_ok-push-in-Some-clause-so_far : goal.returns-in_ok-push-in-Some-clause-so_far
 returns-in_ok-push-in-Some-clause-so_far c =

@@ -12,10 +12,7 @@ first_free-place-requires-clause-space c =
     omega arith
 
 pub first_free-place-requires-clause-there : goal.first_free-place-requires-clause-there
-first_free-place-requires-clause-there c =
-    let own = needed_own c.args.from c.requires.packed.0 in
-    let space = c.requires.packed.2 in
-    omega arith
+first_free-place-requires-clause-there c = grind (arith, needed_own)
 
 pub returns-clause-packed : goal.returns-clause-packed
 returns-clause-packed c = λ xs is.

@@ -44,17 +44,10 @@ module _ (c : goal.After-self-in-loop-self-1) where
       omega (arith, c.link-after.ensures)
 
   moved : c.link-next.result ≢ c.loop-self.place
-  moved same =
-      let read = get_or_read c.loop-self.self.links.items c.loop-self.place c.index.result.now within c.index.ensures 0 in
-      c.loop-self-test.true (omega (arith, c.link-next.ensures))
+  moved same = grind (arith, get_or_read, within)
 
   goes_on : c.loop-self.place < c.link-after.result
-  goes_on =
-      let one = ahead c.loop-self.self.links.items c.loop-self.place c.link-next.result c.link-after.result
-      c.loop-self.invariant.linked within c.link-next.ensures moved c.link-after.ensures in
-      let two = further c.loop-self.self.links.items c.loop-self.place c.link-next.result c.link-after.result
-      c.loop-self.invariant.linked within c.link-next.ensures moved c.link-after.ensures in
-      omega arith
+  goes_on = grind (arith, ahead, further, moved, within)
 
 pub loop-self-smaller : goal.loop-self-smaller
 loop-self-smaller c =
