@@ -75,7 +75,6 @@ times_one (row ∷ rows) i within once none =
     times_issued-cons row rows i ∙ omega arith)
     (λ t.
     let later : issue_cycle (row ∷ rows) i ≡ suc (issue_cycle rows i) = rw (t, add-one) refl in
-    let below : issue_cycle (row ∷ rows) i < suc (length rows) = within in
     let there : count_in (row_at rows (issue_cycle rows i)) i ≡ 1 = rw (t, add-one) at once in
     let here : count_in row i ≡ 0 = count_in_none row i t in
     let inner : suc (issue_cycle rows i) < suc (length rows) = rw (t, add-one) at within in

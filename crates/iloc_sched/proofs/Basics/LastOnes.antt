@@ -17,7 +17,3 @@ last_before P n o not last = grind arith
 pub last_is : (P : ℕ → Type 0) (n : ℕ) (o : Option ℕ) (i : ℕ) → IsLast P n o → i < n → P i
     → ((k : ℕ) → i < k → k < n → P k → ⊥) → o ≡ Some i
 last_is P n o i last below here none = grind arith
-
--- the last is there
-pub last_holds : (P : ℕ → Type 0) (n : ℕ) (o : Option ℕ) (i : ℕ) → IsLast P n o → o ≡ Some i → (i < n) × P i
-last_holds P n o i last is = grind arith

@@ -81,7 +81,6 @@ module _ (prios : List ℕ) (lat : Latencies) (ops : List Op) (rows : List Row)
       let late : c < issue_cycle rows from.0 + delay.0 = leb-false (issue_cycle rows from.0 + delay.0) c delay.2 in
       let most : delay.0 ≤ latency lat (op_at ops from.0) =
       delay_at_most lat (op_at ops from.0) (op_at ops i) delay.0 (contains_from _ delay.0 delay.1) in
-      let early : issue_cycle rows from.0 < c = earlier from.0 (omega arith) in
       record { by = from.0; within = omega arith; begun = omega arith; goes_on = omega arith }
 
   covered_by_lowest : (c i : ℕ) → c < length rows → i < length ops → c ≤ issue_cycle rows i

@@ -71,8 +71,7 @@ count-or {X} p q (x ∷ xs) =
     let rest : count_by (λ y. p y || q y) xs ≤ count_by p xs + count_by q xs = count-or p q xs in
     let first : cond {A = ℕ} (p x || q x) 1 0 ≤ cond (p x) 1 0 + cond (q x) 1 0 = by (p x) (q x) in
     let here = count_by-cons (λ y. p y || q y) x xs in
-    let mine = count_by-cons p x xs in
-    let other = count_by-cons q x xs in omega arith
+    grind (arith, count_by-cons)
   where
     by : (a b : Bool) → cond {A = ℕ} (a || b) 1 0 ≤ cond a 1 0 + cond b 1 0
     by true b = omega arith

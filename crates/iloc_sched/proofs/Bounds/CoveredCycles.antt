@@ -54,7 +54,6 @@ module _ (start size : ℕ → ℕ) (n : ℕ) where
   covered_parts (suc m) each =
       let before : m ≤ sum_by (part m) (range_with_len 0 n) = covered_parts m (λ c below. each c (omega arith)) in
       let here = each m (omega arith) in
-      let below : here.by < n = here.within in
       let more : sum_by (part m) (range_with_len 0 n) + 1 ≤ sum_by (part (suc m)) (range_with_len 0 n) =
       sum_grows (part m) (part (suc m)) (range_with_len 0 n) here.by
       (in_range_from 0 n here.by (omega arith) (omega arith)) (part_more m here.by here.begun here.goes_on)

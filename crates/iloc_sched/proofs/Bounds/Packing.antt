@@ -16,15 +16,12 @@ use Rattle.iloc_sched.proofs.Bounds.Counting.{count-mono, div-mono, at_least, is
 
 -- Numbers that are at least s
 
-low_no : (s x : ℕ) → x < s → nat_le s x ≡ false
-low_no s x lt = grind (arith, nat_tests)
-
 pub count_yes : (s x : ℕ) (xs : List ℕ) → s ≤ x → count_from (x ∷ xs) s ≡ 1 + count_from xs s
 count_yes s x xs le = count_by-cons (λ p. nat_le s p) x xs
     ∙ ap (λ b. cond {A = ℕ} b 1 0 + count_from xs s) (is_at_least s x le)
 
 pub count_no : (s x : ℕ) (xs : List ℕ) → x < s → count_from (x ∷ xs) s ≡ 0 + count_from xs s
-count_no s x xs lt = grind (arith, count_by-cons, low_no)
+count_no s x xs lt = grind (arith, count_by-cons)
 
 pub count_falls : (xs : List ℕ) (a b : ℕ) → a ≤ b → count_from xs b ≤ count_from xs a
 count_falls xs a b le = grind (arith, at_least, count-mono, is_at_least)
@@ -83,7 +80,6 @@ needed_mono width xs ys some more = elim (fold_max_reached 0 (map (cycles_from w
       let any : 1 ≤ count_from xs b = count_some (λ p. nat_le b p) xs b found.1 (is_at_least b b (omega arith)) in
       let as_many : count_from xs b ≤ count_from ys b = more b in
       let l = lowest ys b (omega arith) in
-      let low : b ≤ l.number = l.from in
       let many : count_from ys b ≤ count_from ys l.number = l.many in
       let value : cycles_from width ys l.number ≤ needed width ys =
       fold_max_each 0 (map (cycles_from width ys) ys) (cycles_from width ys l.number)
@@ -106,14 +102,11 @@ needed_own x xs = grind (arith, count_yes x x xs, needed_from (x ∷ xs) x)
 taken_yes : (taken : ℕ → Bool) (s n : ℕ) → taken s ≡ true → taken_in taken s (suc n) ≡ 1 + taken_in taken (s + 1) n
 taken_yes taken s n holds = grind (arith, count_by-cons)
 
-taken_no : (taken : ℕ → Bool) (s n : ℕ) → taken s ≡ false → taken_in taken s (suc n) ≡ 0 + taken_in taken (s + 1) n
-taken_no taken s n fails = grind (arith, count_by-cons)
-
 -- no more than up to the top
 taken_few : (taken : ℕ → Bool) (top : ℕ) → ((q : ℕ) → taken q ≡ true → q ≤ top) → (s n : ℕ)
     → taken_in taken s n ≤ (top + 1) - s
 taken_few taken top up_to s zero = omega arith
-taken_few taken top up_to s (suc n) = grind (arith, taken_no, taken_yes, taken_few taken top up_to (s + 1) n)
+taken_few taken top up_to s (suc n) = grind (arith, taken_yes, taken_few taken top up_to (s + 1) n)
 
 -- all up to the top
 taken_run : (taken : ℕ → Bool) (top s n : ℕ) → s ≤ top → top < s + n
@@ -123,17 +116,17 @@ taken_run taken top s (suc n) below within all = grind (arith, taken_yes, taken_
 
 taken_none : (taken : ℕ → Bool) (s n : ℕ) → ((q : ℕ) → taken q ≡ false) → taken_in taken s n ≡ 0
 taken_none taken s zero none = refl
-taken_none taken s (suc n) none = grind (arith, taken_no, taken_none taken (s + 1) n none)
+taken_none taken s (suc n) none = grind (arith, taken_none taken (s + 1) n none)
 
 module _ (taken taken' : ℕ → Bool) (p : ℕ) (other : (q : ℕ) → q ≢ p → taken' q ≡ taken q) where
   put_out : (s n : ℕ) → p < s → taken_in taken' s n ≡ taken_in taken s n
   put_out s zero past = refl
-  put_out s (suc n) past = grind (arith, taken_no, taken_yes, put_out (s + 1) n (omega arith))
+  put_out s (suc n) past = grind (arith, taken_yes, put_out (s + 1) n (omega arith))
 
   put_in : taken p ≡ false → taken' p ≡ true → (s n : ℕ) → s ≤ p → p < s + n
       → taken_in taken' s n ≡ 1 + taken_in taken s n
   put_in free now s zero low within = absurd (omega arith)
-  put_in free now s (suc n) low within = grind (arith, put_out, taken_no, taken_yes, put_in free now (s + 1) n)
+  put_in free now s (suc n) low within = grind (arith, put_out, taken_yes, put_in free now (s + 1) n)
 
 -- Packed numbers
 
@@ -173,7 +166,6 @@ packed_high xs taken top is = elim (fold_max_reached 0 (map (cycles_from 1 xs) x
       (let found = from_map (cycles_from 1 xs) xs (needed 1 xs) there in
       let b : ℕ = found.0 in
       let any : 1 ≤ count_from xs b = count_some (λ p. nat_le b p) xs b found.1 (is_at_least b b (omega arith)) in
-      let most : count_from xs b ≤ taken_in taken b (top + 1) = is.most b (top + 1) (omega arith) in
       let few : taken_in taken b (top + 1) ≤ (top + 1) - b = taken_few taken top is.up_to b (top + 1) in
       grind (arith, div-one))
 ]
@@ -191,7 +183,6 @@ packed_more xs taken taken' top x p is from passed free now other = record {
       (λ past.
       let count = count_no s x xs (omega arith) in
       let places = put_out taken taken' p other s n past in
-      let most : count_from xs s ≤ taken_in taken s n = is.most s n (omega arith) in
       omega arith)
       (λ low.
       let places = put_in taken taken' p other free now s n low (omega arith) in

@@ -1,7 +1,7 @@
 -- What the choice puts into a row: ready operations, by the rules of the units; for `laws::one_greedy_schedule`.
 use Rattle.std.proofs.Common.{arith, ◌≡◌, ◌≢◌, ℕ, Bool, true, false, ◌||◌, ◌&&◌, not, List, [], ◌∷◌, ◌++◌, Option, Some, None, ◌⊎◌}
 use Rattle.std.specs.Prelude.{filter, ◌==◌, count_by, option_to_list}
-use Rattle.std.proofs.lemmas.Bool.{and_parts, eq-eqb, ne_eqb, eqb-false, not-true, true≢false, false≢true}
+use Rattle.std.proofs.lemmas.Bool.{and_parts, eq-eqb, ne_eqb, eqb-false, not-true, true≢false}
 use Rattle.iloc_ops.specs.declared.op.Op.{Op}
 use Rattle.iloc_meaning.specs.Trace.{op_at}
 use Rattle.iloc_timed.specs.declared.kind.Kind.{Kind}
@@ -23,9 +23,6 @@ fits zero one = not (is_some_kind is_mult zero) && not (is_some_kind is_memory o
 abbrev goes_on_one : Kind → Kind → Bool
 goes_on_one a b = is_mult a || is_memory b
 
-alone_on_one : (k : Kind) → is_mult k ≡ true → fits None (Some k) ≡ true
-alone_on_one k is = grind (arith, false≢true)
-
 alone_on_zero : (k : Kind) → is_mult k ≡ false → fits (Some k) None ≡ true
 alone_on_zero k is = grind (arith, true≢false)
 
@@ -40,7 +37,7 @@ abbrev FitsBeside : List Op → ℕ → Option ℕ → Type 0
 FitsBeside ops a b = (k : ℕ) → b ≡ Some k → may_stand_beside (kind (op_at ops a)) (kind (op_at ops k)) ≡ true
 
 on_units_fit : (ops : List Op) (a : ℕ) (b : Option ℕ) → FitsBeside ops a b → keeps_units ops (on_units ops a b) ≡ true
-on_units_fit ops a None beside = grind (arith, alone_on_one, alone_on_zero)
+on_units_fit ops a None beside = grind (arith, alone_on_zero)
 on_units_fit ops a (Some b) beside = grind (arith, first_on_one, first_on_zero)
 
 -- a slot for each of the two, in one order or the other
@@ -65,16 +62,6 @@ count_two i a b apart held = grind (arith, eq-eqb, ne_eqb)
 count_once : (ops : List Op) (a : ℕ) (b : Option ℕ) (i : ℕ) → Apart a b → In (slots (on_units ops a b)) i
     → count_in (on_units ops a b) i ≡ 1
 count_once ops a b i apart there = grind (arith, count_two, from_slots, slots_of)
-
-cons_some : (a : ℕ) (is : List ℕ) → a ∷ is ≢ []
-cons_some a is same = absurd cc
-
-push_some : (a : ℕ) (is : List ℕ) → is ++ a ∷ [] ≢ []
-push_some a [] same = absurd cc
-push_some a (i ∷ is) same = absurd cc
-
-on_units_some : (ops : List Op) (a : ℕ) (b : Option ℕ) → slots (on_units ops a b) ≢ []
-on_units_some ops a b empty = grind (arith, cons_some, push_some, slots_of)
 
 module _ (ops : List Op) (prios candidates : List ℕ) where
   -- the candidates that can go beside a, without it
@@ -108,7 +95,7 @@ module _ (ops : List Op) (prios candidates : List ℕ) where
   with_once (Some a) i there = count_once ops a (first_of_all prios (beside a)) i (second_apart a) there
 
   with_some : (a : Option ℕ) (k : ℕ) → a ≡ Some k → slots (chosen_with ops prios candidates a) ≢ []
-  with_some a k is = grind (arith, on_units_some)
+  with_some a k is = grind arith
 
   -- the choice keeps the rules of the units
   pub chosen_units : keeps_units ops (chosen ops prios candidates) ≡ true

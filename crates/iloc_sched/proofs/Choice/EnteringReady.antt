@@ -7,9 +7,8 @@ use Rattle.iloc_sched.specs.Steps.Cycle.Calendar.{has, Releases}
 use Rattle.iloc_sched.specs.Steps.Graph.{Graph, IsGraph}
 use Rattle.iloc_sched.specs.Steps.Cycle.Progress.{Progress, Waits, CanIssue, KeepsPlaces}
 use Rattle.iloc_sched.specs.Steps.Cycle.SoFar.{IsQueued}
-use Rattle.iloc_sched.proofs.Ranks.Calendars.{true_or}
 use Rattle.iloc_sched.proofs.Walking.BucketOfCycle.{due_now, then_due, later_still}
-use Rattle.iloc_sched.proofs.Walking.StillIssuable.{can_issue_still, can_issue_back}
+use Rattle.iloc_sched.proofs.Walking.StillIssuable.{can_issue_back}
 
 -- the same but for the buckets
 still_can : (graph : Graph) (w : Progress) (f j : ℕ) (bucket' : ℕ → ℕ → Bool) → CanIssue graph w f j
@@ -26,7 +25,7 @@ pub queued_with_due : (ranks : List ℕ) (graph : Graph) (w : Progress) (c : ℕ
     → Waits graph w c 0 None → IsQueued ranks graph w c k → Releases k k' (c % 32)
     → IsQueued ranks graph (record w { bucket = bucket' }) (c + 1) k'
 queued_with_due ranks graph w c k k' bucket' is at waits queued released =
-    grind (arith, back_can, due_now, later_still, or_cases, still_can, then_due, true_or)
+    grind (arith, back_can, due_now, later_still, or_cases, still_can, then_due)
 
 -- once operation n was taken and issued
 pub queued_after : (ranks : List ℕ) (graph : Graph) (w w' : Progress) (c n : ℕ) (k k' : Calendar) → IsGraph graph
@@ -35,5 +34,4 @@ pub queued_after : (ranks : List ℕ) (graph : Graph) (w w' : Progress) (c n : �
     → (has k' 32 (get_or ranks n 0) ≡ true → ⊥)
     → ((j : ℕ) → j < graph.ops → j ≢ n → has k' 32 (get_or ranks j 0) ≡ has k 32 (get_or ranks j 0))
     → IsQueued ranks graph w (c + 1) k → IsQueued ranks graph w' (c + 1) k'
-queued_after ranks graph w w' c n k k' is waits waits' at others keeps gone kept queued =
-    grind (arith, can_issue_back, can_issue_still)
+queued_after ranks graph w w' c n k k' is waits waits' at others keeps gone kept queued = grind (arith, can_issue_back)

@@ -8,12 +8,9 @@ use Rattle.iloc_sched.specs.Steps.Members.{In}
 use Rattle.iloc_sched.proofs.Basics.Members.{empty_from}
 use Rattle.iloc_sched.proofs.Basics.Rising.{Rises}
 
-better_of : (prios : List ℕ) (i : ℕ) (o : Option ℕ) → (better prios i o ≡ i) ⊎ (o ≡ Some (better prios i o))
-better_of prios i o = grind arith
-
 pub first_in : (prios xs : List ℕ) (k : ℕ) → first_of_all prios xs ≡ Some k → In xs k
 first_in prios [] k is = absurd (none-some k is)
-first_in prios (i ∷ is) k same = grind (arith, better_of, same_Some, first_in prios is k)
+first_in prios (i ∷ is) k same = grind (arith, same_Some, first_in prios is k)
 
 pub goes_before_self : (prios : List ℕ) (i : ℕ) → GoesBefore prios i i
 goes_before_self prios i = inr (refl, omega arith)

@@ -1,5 +1,5 @@
 -- The tables and the calendar after a choice was issued, or released; for `Waiting::issue_first`, `release`.
-use Rattle.std.proofs.Common.{◌≡◌, ◌≢◌, ℕ, ◌+◌, ◌%◌, ◌<◌, not, true, false, List, length, set, get_or, Option, Some, None, refl, sym, ◌∙◌, ap, subst, arith}
+use Rattle.std.proofs.Common.{◌≡◌, ◌≢◌, ℕ, ◌+◌, ◌%◌, ◌<◌, not, true, false, List, length, set, get_or, Option, Some, None, sym, ◌∙◌, ap, subst, arith}
 use Rattle.std.proofs.lemmas.Bool.{false≢true, and_parts}
 use Rattle.std.proofs.lemmas.List.{get_or-set_same, get_or-set_other}
 use Rattle.iloc_meaning.specs.Trace.{op_at}
@@ -36,8 +36,7 @@ released p w k' c plan under releases keeps = record {
   waits = empties (graph_of p.tables.now.edges) (progress_of p.ranks.now w) c (bucket_of p.ranks.now k') plan.graph.is_graph under.waits
       (λ j. releases.empty (rank_of p j))
       (λ b j small apart. releases.others b (rank_of p j) (omega arith) (λ same. absurd (omega arith)) apart);
-  queued = queued_with_due p.ranks.now (graph_of p.tables.now.edges) (progress_of p.ranks.now w) c w.calendar k' (bucket_of p.ranks.now k')
-      plan.graph.is_graph (λ j. refl) under.waits under.queued releases;
+  queued = grind (arith, queued_with_due);
 }
 
 -- the calendar has the same sets
@@ -46,8 +45,7 @@ pub same_under_way : (p : Plan) (w : Waiting) (k : Calendar) (f : ℕ) → HasSa
 same_under_way p w k f same under = record {
   sized = under.sized;
   calendar = grind (arith, room_kept, same_has, same_room);
-  waits = same_buckets (graph_of p.tables.now.edges) (progress_of p.ranks.now w) f 0 None (bucket_of p.ranks.now k) under.waits
-      (λ b j small. same_has w.calendar k same b (rank_of p j));
+  waits = grind (arith, same_buckets, same_has);
   queued = record {
     ready = λ j can. same_has w.calendar k same 32 (rank_of p j)
         ∙ under.queued.ready j (record { there = can.there; waiting = can.waiting; past_all = can.past_all; soon = can.soon });
@@ -127,7 +125,6 @@ module _ (p : Plan) (w w' : Waiting) (k : Calendar) (c n : ℕ) (plan : IsPlan p
       → Issues p w w' c (record { number = n; kind = k })
   issues_choice k waits' issued keeps sized' calendar' =
       let size : length (issued_list w) ≡ length p.tables.now.edges.heads.items = issued_size p.tables.now.edges w under.sized in
-      let among : n < length p.tables.now.edges.heads.items = can.there in
       let below : n < length (issued_list w) = omega arith in
       record {
         under_way = record {

@@ -51,7 +51,6 @@ module _ (prios : List ℕ) (lat : Latencies) (block ops : List Op) (rows rows' 
       greedy'.last (length rows' - 1) (omega arith)
       (empty_from (slots (row_at rows' (length rows' - 1))) (λ i there.
       let was = was_ready prios lat ops rows' greedy'.each (length rows' - 1) i there in
-      let waiting : length rows' - 1 ≤ issue_cycle rows' i = was.waiting in
       let issued : issue_cycle rows i < length rows = issued_within ops rows greedy.lawful.table i was.within in
       grind (arith, cycles_agree, rows_agree)))
 

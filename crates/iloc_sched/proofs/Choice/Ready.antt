@@ -43,7 +43,6 @@ ready_means lat ops rows c i there =
       within = omega arith;
       waiting = leb-true c (issue_cycle rows i) parts.0;
       over = λ h d pair.
-          let before : h < i = pair.order in
           leb-true (issue_cycle rows h + d) c
           (from_all (is_over rows c h) (delays lat (op_at ops h) (op_at ops i)) d
           (from_all (all_over lat ops rows c i) (range_with_len 0 i) h parts.1
@@ -54,7 +53,6 @@ ready_means lat ops rows c i there =
 pub ready_from : (lat : Latencies) (ops : List Op) (rows : List Row) (c i : ℕ) → IsReady lat ops rows c i
     → In (ready lat ops rows c) i
 ready_from lat ops rows c i is =
-    let below : i < length ops = is.within in
     in_filter (is_ready lat ops rows c) (range_with_len 0 (length ops)) i
     (in_range_from 0 (length ops) i (omega arith) (omega arith))
     (and_from _ _ (le-leb c (issue_cycle rows i) is.waiting)

@@ -70,8 +70,7 @@ pairs_exact lat ops i j d = (
       let found = from_pairs_before lat ops (length ops) (record { first = i; second = j; delay = d })
       (in_from _ _ there) in
       record { order = found.order; within = found.within; delay = contains_from _ d found.delay },
-  λ pair. contains_from _ _ (in_pairs_before lat ops (length ops) i j d pair.order pair.within
-      (in_from _ d pair.delay)),
+  grind (arith, contains_from, in_from, in_pairs_before),
 )
 
 ordered_from : (lat : Latencies) (ops : List Op) (j n : ℕ) → Ordered ComesBefore (pairs_from lat ops j n)

@@ -1,12 +1,8 @@
 -- Whether an operation puts a delay on another; for `puts_delay`.
-use Rattle.std.proofs.Common.{arith, ◌≡◌, ◌==◌, ◌&&◌, ◌||◌, ℕ, Bool, List, ◌++◌}
+use Rattle.std.proofs.Common.{arith, ◌≡◌, ◌==◌, ◌&&◌, ◌||◌, ℕ, Bool, ◌++◌}
 use Rattle.std.proofs.Math.Bool.{or-false, or_comm}
 use Rattle.std.specs.List.{list_any}
 use Rattle.iloc_sched.specs.Delays.{when}
-
-any_either : (p : ℕ → Bool) (holds : Bool) (d : ℕ) (ds : List ℕ)
-    → list_any p (when holds d ++ ds) ≡ ((holds && p d) || list_any p ds)
-any_either p holds d ds = grind arith
 
 gathered : (uses reads own rest : Bool)
     → ((uses && own) || ((reads && own) || rest)) ≡ ((own && (reads || uses)) || rest)
@@ -16,4 +12,4 @@ gathered uses reads own rest = grind arith
 pub put_delay : (uses reads keeps : Bool) (own delay : ℕ)
     → list_any (λ d. d == delay) (when uses own ++ (when reads own ++ when keeps 1))
     ≡ ((keeps && (1 == delay)) || ((own == delay) && (reads || uses)))
-put_delay uses reads keeps own delay = grind (arith, any_either, gathered, or-false, or_comm)
+put_delay uses reads keeps own delay = grind (arith, gathered, or-false, or_comm)

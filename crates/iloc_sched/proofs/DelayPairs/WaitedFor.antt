@@ -12,7 +12,7 @@ use Rattle.iloc_timed.specs.declared.row.Row.{Row}
 use Rattle.iloc_timed.specs.Kinds.{kind, is_store, is_output}
 use Rattle.iloc_timed.specs.Latency.{latency}
 use Rattle.iloc_timed.specs.Rows.{issue_cycle}
-use Rattle.iloc_sched.specs.Delays.{uses_result, reads_stored, keeps_order, when, memory_delays, delays, IsDelayPair}
+use Rattle.iloc_sched.specs.Delays.{uses_result, keeps_order, when, memory_delays, delays, IsDelayPair}
 use Rattle.iloc_sched.specs.Steps.Members.{In}
 use Rattle.iloc_sched.proofs.Basics.Members.{contains_from, in_left, in_right, any_at}
 use Rattle.iloc_sched.proofs.Outcome.UsedEffects.{reads_memory}
@@ -56,8 +56,7 @@ module _ (lat : Latencies) (ops : List Op) (rows : List Row) (waits : Waits lat 
   kept_in_order k i within before order =
       let later : issue_cycle rows k + 1 ≤ issue_cycle rows i =
       by_memory k i 1 within before
-      (in_right (when (reads_stored (kind (op_at ops k)) (kind (op_at ops i))) (latency lat (op_at ops k)))
-      (when (keeps_order (kind (op_at ops k)) (kind (op_at ops i))) 1) 1 (in_when _ _ order)) in
+      (grind (arith, in_right, in_when)) in
       omega arith
 
 pub read_then_store : (a b : Kind) → reads_memory a ≡ true → is_store b ≡ true → keeps_order a b ≡ true

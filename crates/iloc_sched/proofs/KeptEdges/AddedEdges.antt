@@ -168,7 +168,6 @@ pub two_covered : (lat : Latencies) (ops : List Op) (a b : Graph) (j : ℕ) (lef
     → left ∷ right ∷ [] ≡ used (op_at ops j) → Grows lat ops a b j → CoversUse lat ops a j left → CoversUse lat ops b j right
     → CoversUses lat ops b j
 two_covered lat ops a b j left right are grows first second =
-    let of_left : (s : Reg) → In (left ∷ []) s → CoversUse lat ops a j s = λ s held.
-    elim held [ inl same ↦ subst (λ q. CoversUse lat ops a j q) same first | inr none ↦ absurd none ] in
+    let of_left : (s : Reg) → In (left ∷ []) s → CoversUse lat ops a j s = grind arith in
     covers_along lat ops b j (left ∷ right ∷ []) (left ∷ right ∷ []) refl are
     (uses_more lat ops a b j (left ∷ []) right grows of_left second)

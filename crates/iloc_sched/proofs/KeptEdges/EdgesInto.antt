@@ -27,7 +27,6 @@ module _ (lat : Latencies) (ops : List Op) (e : Edges) (kept : IsGraphOf lat ops
 
   bounds : (graph.start j ≤ graph.start (j + 1)) × (graph.start (j + 1) ≤ length e.edges.items)
   bounds =
-      let size : graph.ops ≡ length ops = kept.size in
       grind arith
 
   size : length into ≡ count
@@ -41,7 +40,6 @@ module _ (lat : Latencies) (ops : List Op) (e : Edges) (kept : IsGraphOf lat ops
 
   pub each_into : All IsInto into
   each_into k d within =
-      let up = bounds.0 in
       let most = bounds.1 in
       let below : k < count = subst (λ n. k < n) size within in
       let x : ℕ = first + k in
@@ -53,7 +51,6 @@ module _ (lat : Latencies) (ops : List Op) (e : Edges) (kept : IsGraphOf lat ops
 
   pub all_into : (i d : ℕ) → IsNearPair lat ops i j d → Any (λ (edge : Edge). (edge.from ≡ i) × (d ≤ edge.delay)) into
   all_into i d near =
-      let up = bounds.0 in
       let found = kept.all i j d (record { order = near.order; within = near.within; delay = near.delay }) near.near in
       let x : ℕ = found.0 in
       let at = kept.is_graph.to_there x found.1 in

@@ -102,7 +102,6 @@ module _ (lat : Latencies) (ops : List Op) (t : ℕ → ℕ) (c j : ℕ)
   over_within (suc n) i d few pair = elim (near_or_by_way lat ops i j d pair) [
     | inl is ↦ near i d pair is
     | inr by ↦
-        let order : i < by.way = by.first.order in
         let rest : t by.way + by.second_delay ≤ c = over_within n by.way by.second_delay (omega arith) by.second in
         let long : 1 ≤ by.second_delay = delay_at_least lat (op_at ops by.way) (op_at ops j) by.second_delay
         by.second.delay in

@@ -27,8 +27,7 @@ definers_noted ops j old new is notes r =
     by_bool (is_register r (defined (op_at ops j)))
     (λ test.
     let here : defined (op_at ops j) ≡ Some r = is_register_same r (defined (op_at ops j)) test in
-    subst (λ o. IsLast (λ i. defined (op_at ops i) ≡ Some r) (j + 1) o) (sym (notes.changed r here))
-    (last_here (λ i. defined (op_at ops i) ≡ Some r) j here))
+    grind (arith, here, last_here))
     (λ test.
     let not : defined (op_at ops j) ≡ Some r → ⊥ =
     λ here. false≢true (sym test ∙ is_register_from r (defined (op_at ops j)) here) in
@@ -37,9 +36,6 @@ definers_noted ops j old new is notes r =
 
 module _ (ops : List Op) (j : ℕ) (old new : Lasts) (is : IsLasts ops old j) (k : Kind) (kind_is : kind (op_at ops j)
     ≡ k) where
-  not_here : (test : Kind → Bool) → test k ≡ false → test (kind (op_at ops j)) ≡ true → ⊥
-  not_here test fails here = false≢true (sym fails ∙ sym (ap test kind_is) ∙ here)
-
   here : (test : Kind → Bool) → test k ≡ true → test (kind (op_at ops j)) ≡ true
   here test holds = ap test kind_is ∙ holds
 
@@ -47,7 +43,7 @@ module _ (ops : List Op) (j : ℕ) (old new : Lasts) (is : IsLasts ops old j) (k
   Last test n o = IsLast (λ i. test (kind (op_at ops i)) ≡ true) n o
 
   stays : (test : Kind → Bool) (o o' : Option ℕ) → Last test j o → test k ≡ false → o' ≡ o → Last test (j + 1) o'
-  stays test o o' last fails same = grind (arith, last_before, not_here)
+  stays test o o' last fails same = grind (arith, last_before)
 
   comes : (test : Kind → Bool) (o' : Option ℕ) → test k ≡ true → o' ≡ Some j → Last test (j + 1) o'
   comes test o' holds same = grind (arith, here, last_here)
@@ -59,27 +55,21 @@ module _ (ops : List Op) (j : ℕ) (old new : Lasts) (is : IsLasts ops old j) (k
   AllLoads items = (i : ℕ) → i < j + 1 → is_load (kind (op_at ops i)) ≡ true
       → NoStoreBetween ops i (j + 1) → In items i
 
-  still_none : (i : ℕ) → is_store k ≡ false → NoStoreBetween ops i j → NoStoreBetween ops i (j + 1)
-  still_none i no_store none m after below = grind arith
-
   loads_stay : is_store k ≡ false → Loads old.loads.items
-  loads_stay no_store i held = grind (arith, still_none)
+  loads_stay no_store i held = grind arith
 
   earlier_load : (i : ℕ) → i < j → is_load (kind (op_at ops i)) ≡ true → NoStoreBetween ops i (j + 1)
       → In old.loads.items i
   earlier_load i below load none = is.all_loads i below load (λ m after before. none m after (omega arith))
 
   all_loads_stay : is_load k ≡ false → AllLoads old.loads.items
-  all_loads_stay fails i below load none = grind (arith, earlier_load, not_here)
+  all_loads_stay fails i below load none = grind (arith, earlier_load)
 
   loads_more : is_load k ≡ true → is_store k ≡ false → Loads (old.loads.items ++ j ∷ [])
   loads_more holds no_store i held = grind (arith, from_append, here, loads_stay)
 
   all_loads_more : AllLoads (old.loads.items ++ j ∷ [])
   all_loads_more i below load none = grind (arith, earlier_load, in_left, in_right)
-
-  all_loads_gone : is_store k ≡ true → is_load k ≡ false → AllLoads []
-  all_loads_gone store fails i below load none = grind (arith, false≢true, here, not_here)
 
   noted_as : NotesDefiner (op_at ops j) old.definers new.definers j → Last is_store (j + 1) new.store
       → Last is_output (j + 1) new.output → (items : List ℕ) → new.loads.items ≡ items → Loads items → AllLoads items
@@ -103,7 +93,7 @@ noted_by K.Load ops j old new is kind_is definers notes =
     (stays ops j old new is K.Load kind_is is_output old.output new.output is.output refl notes.1)
     (old.loads.items ++ j ∷ []) notes.2 (loads_more ops j old new is K.Load kind_is refl refl)
     (all_loads_more ops j old new is K.Load kind_is)
-noted_by K.Store ops j old new is kind_is definers notes = grind (arith, all_loads_gone, comes, noted_as, stays)
+noted_by K.Store ops j old new is kind_is definers notes = grind (arith, comes, noted_as, stays)
 noted_by K.Output ops j old new is kind_is definers notes = grind (arith, comes, noted_apart)
 noted_by _ ops j old new is kind_is definers notes =
     noted_apart ops j old new is _ kind_is definers refl refl notes.0

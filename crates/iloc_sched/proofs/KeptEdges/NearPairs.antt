@@ -1,5 +1,5 @@
 -- A near pair is a use, or comes from what stands last before the operation; for `Edges::add_all`.
-use Rattle.std.proofs.Common.{◌≡◌, ℕ, ◌<◌, Bool, true, false, if◌then◌else◌, List, length, Some, ◌⊎◌, inl, inr, refl, sym, subst, arith}
+use Rattle.std.proofs.Common.{◌≡◌, ℕ, ◌<◌, Bool, true, false, if◌then◌else◌, List, length, Some, inl, inr, refl, sym, subst, arith}
 use Rattle.std.specs.Prelude.{Contains}
 use Rattle.std.proofs.lemmas.Bool.{false≢true, false_from_ne_true}
 use Rattle.iloc_ops.specs.declared.op.Reg.{Reg}
@@ -22,19 +22,8 @@ use Rattle.iloc_sched.specs.Steps.Renaming.ByRegister.{number_at}
 use Rattle.iloc_sched.specs.Steps.Edges.PartialGraph.{HasEdge, CoversUse, CoversUses, CoversMemory}
 use Rattle.iloc_sched.proofs.Basics.Members.{contains_from, in_from, any_at, from_any, in_left, in_right}
 use Rattle.iloc_sched.proofs.Basics.Registers.{is_register_same, is_register_from}
-use Rattle.iloc_sched.proofs.Basics.LastOnes.{last_is, last_holds}
+use Rattle.iloc_sched.proofs.Basics.LastOnes.{last_is}
 use Rattle.iloc_sched.proofs.DelayPairs.DelayBounds.{kind_delays}
-
-before_load : (lat : Latencies) (k : Kind) (d : ℕ) → In (kind_delays lat k K.Load) d → (k ≡ K.Store) × (d ≡ lat.store)
-before_load lat k d held = grind arith
-
-before_output : (lat : Latencies) (k : Kind) (d : ℕ) → In (kind_delays lat k K.Output) d
-    → ((k ≡ K.Store) × (d ≡ lat.store)) ⊎ ((k ≡ K.Output) × (d ≡ 1))
-before_output lat k d held = grind arith
-
-before_store : (lat : Latencies) (k : Kind) (d : ℕ) → In (kind_delays lat k K.Store) d
-    → (d ≡ 1) × ((k ≡ K.Store) ⊎ ((k ≡ K.Output) ⊎ (k ≡ K.Load)))
-before_store lat k d held = grind arith
 
 pub store_is : (k : Kind) → is_store k ≡ true → k ≡ K.Store
 store_is k holds = grind arith
@@ -46,18 +35,14 @@ load_is : (k : Kind) → is_load k ≡ true → k ≡ K.Load
 load_is k holds = grind arith
 
 module _ (lat : Latencies) (ops : List Op) (j : ℕ) (lasts : Lasts) (is : IsLasts ops lasts j) where
-  none_like : (a : Kind) (i : ℕ) → kind (op_at ops i) ≡ a → NoneBetween ops i j → (k : ℕ) → i < k → k < j
-      → (if is_output a then is_output (kind (op_at ops k)) else is_store (kind (op_at ops k))) ≡ false
-  none_like a i kind_is none k after before = grind arith
-
   last_store : (i : ℕ) → i < j → kind (op_at ops i) ≡ K.Store → NoneBetween ops i j → lasts.store ≡ Some i
-  last_store i below kind_is none = grind (arith, false≢true, last_is, none_like)
+  last_store i below kind_is none = grind (arith, false≢true, last_is)
 
   last_output : (i : ℕ) → i < j → kind (op_at ops i) ≡ K.Output → NoneBetween ops i j → lasts.output ≡ Some i
-  last_output i below kind_is none = grind (arith, false≢true, last_is, none_like)
+  last_output i below kind_is none = grind (arith, false≢true, last_is)
 
   recent_load : (i : ℕ) → i < j → kind (op_at ops i) ≡ K.Load → NoneBetween ops i j → In lasts.loads.items i
-  recent_load i below kind_is none = grind (arith, none_like)
+  recent_load i below kind_is none = grind arith
 
   -- the delays into an operation of a kind
   delays_into : (k : Kind) → kind (op_at ops j) ≡ k → (i d : ℕ)
@@ -67,16 +52,16 @@ module _ (lat : Latencies) (ops : List Op) (j : ℕ) (lasts : Lasts) (is : IsLas
   module _ (graph : Graph) where
     pub covers_load : kind (op_at ops j) ≡ K.Load → ((i : ℕ) → lasts.store ≡ Some i → HasEdge graph j i lat.store)
         → CoversMemory lat ops graph j
-    covers_load kind_is stored = grind (arith, before_load, delays_into, last_store)
+    covers_load kind_is stored = grind (arith, delays_into, last_store)
 
     pub covers_output : kind (op_at ops j) ≡ K.Output → ((i : ℕ) → lasts.store ≡ Some i → HasEdge graph j i lat.store)
         → ((i : ℕ) → lasts.output ≡ Some i → HasEdge graph j i 1) → CoversMemory lat ops graph j
-    covers_output kind_is stored emitted = grind (arith, before_output, delays_into, last_output, last_store)
+    covers_output kind_is stored emitted = grind (arith, delays_into, last_output, last_store)
 
     pub covers_store : kind (op_at ops j) ≡ K.Store → ((i : ℕ) → lasts.store ≡ Some i → HasEdge graph j i 1)
         → ((i : ℕ) → lasts.output ≡ Some i → HasEdge graph j i 1)
         → ((i : ℕ) → In lasts.loads.items i → HasEdge graph j i 1) → CoversMemory lat ops graph j
-    covers_store kind_is stored emitted loaded = grind (arith, before_store, delays_into, last_output, last_store, recent_load)
+    covers_store kind_is stored emitted loaded = grind (arith, delays_into, last_output, last_store, recent_load)
 
     -- a used register's definition is the one that is noted
     pub covers_use : IsRenamed ops → (r : Reg)
@@ -102,7 +87,7 @@ module _ (lat : Latencies) (ops : List Op) (j : ℕ) (lasts : Lasts) (is : IsLas
 
   pub definer_there : (r : Reg) (i : ℕ) → number_at lasts.definers r.0 ≡ Some i
       → (i < j) × (defined (op_at ops i) ≡ Some r)
-  definer_there r i at = grind (arith, last_holds)
+  definer_there r i at = grind arith
 
   pub store_before : (b : Kind) (d : ℕ) → In (kind_delays lat K.Store b) d → j < length ops → kind (op_at ops j) ≡ b
       → (i : ℕ) → lasts.store ≡ Some i → IsNearPair lat ops i j d

@@ -157,5 +157,4 @@ module _ (ops : List Op) (op : Op) where
       (subst (λ n. IsPartialGraph lat (ops ++ op ∷ []) (graph_of e') n) (sym at)
       (subst (λ (v : Vec Edge). IsPartialGraph lat (ops ++ op ∷ []) (tables_graph v.items e'.starts.items e'.heads.items) (length ops))
       (sym edges)
-      (subst (λ (v : Vec ℕ). IsPartialGraph lat (ops ++ op ∷ []) (tables_graph e.edges.items v.items e'.heads.items) (length ops))
-      (sym starts) next)))
+      (grind arith)))

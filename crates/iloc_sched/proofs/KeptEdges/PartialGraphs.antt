@@ -1,5 +1,5 @@
 -- The kept edges grow edge by edge and operation by operation; for `Edges::fill`.
-use Rattle.std.proofs.Common.{◌≡◌, ℕ, ◌+◌, ◌<◌, ◌≤◌, List, length, sym, ◌∙◌, ap, subst, arith}
+use Rattle.std.proofs.Common.{◌≡◌, ℕ, ◌+◌, ◌<◌, ◌≤◌, List, length, ◌∙◌, ap, subst, arith}
 use Rattle.iloc_ops.specs.declared.op.Op.{Op}
 use Rattle.iloc_meaning.specs.Trace.{op_at}
 use Rattle.iloc_timed.specs.declared.latencies.Latencies.{Latencies}
@@ -43,8 +43,7 @@ module _ (lat : Latencies) (ops : List Op) (graph graph' : Graph) (i j d : ℕ) 
     to_there = grind (arith, earlier_there);
     sound = λ x there.
         by_lt x graph.count
-        (λ before. pair_along lat ops _ _ _ _ _ _ (more.from x before) (more.to x before) (more.delay x before)
-        (is.sound x before))
+        (grind (arith, pair_along))
         (grind (arith, last_place, pair_along));
     heads = grind (arith, head_more);
     previous_edges = previous_more;
@@ -80,9 +79,6 @@ module _ (lat : Latencies) (ops : List Op) (graph : Graph) (j : ℕ) (is : IsPar
       grind (arith, at_end, below_end))
       (grind arith)
 
-  into_more : (b x : ℕ) → b < j + 1 → start' b ≤ x → x < start' (b + 1) → graph.to x ≡ b
-  into_more b x below from_start to_end = grind arith
-
   to_there_more : (x : ℕ) → x < start' (j + 1) → (graph.to x < j + 1) × (start' (graph.to x) ≤ x)
       × (x < start' (graph.to x + 1))
   to_there_more x there = grind arith
@@ -94,14 +90,13 @@ module _ (lat : Latencies) (ops : List Op) (graph : Graph) (j : ℕ) (is : IsPar
       (λ same.
       let edge : HasEdge graph j i d = near i d (subst (λ k. IsDelayPair lat ops i k d) same pair)
       (subst (λ k. IsNear lat ops i k d) same is_near) in
-      let there : edge.place < graph.count = edge.there in
-      (edge.place, omega arith, is.into_last edge.place edge.after there ∙ sym same, edge.source, edge.long))
+      grind arith)
       (λ apart.
       let old = is.all i b d (omega arith) pair is_near in
       grind arith)
 
   pub closed : IsPartialGraph lat ops (record graph { start = start' }) (j + 1)
-  closed = grind (arith, all_more, into_more, rises_more, to_there_more)
+  closed = grind (arith, all_more, rises_more, to_there_more)
 
 module _ (lat : Latencies) (ops : List Op) (graph : Graph) (is : IsPartialGraph lat ops graph (length ops)) where
   none_behind : (x : ℕ) → graph.start (length ops) ≤ x → x < graph.count → ⊥

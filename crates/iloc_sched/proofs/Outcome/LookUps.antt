@@ -10,12 +10,9 @@ use Rattle.iloc_sched.specs.Steps.Members.{In}
 use Rattle.iloc_sched.proofs.Basics.Members.{in_filter, from_filter, empty_from}
 use Rattle.iloc_sched.proofs.Basics.Rising.{countdown, finds}
 
-later_of : (e : Issued) (o : Option Issued) → (later e o ≡ e) ⊎ (o ≡ Some (later e o))
-later_of e o = grind arith
-
 last_due_in : (es : List Issued) (f : Issued) → last_due es ≡ Some f → In es f
 last_due_in [] f is = absurd (none-some f is)
-last_due_in (e ∷ es) f is = grind (arith, later_of, same_Some, last_due_in es f)
+last_due_in (e ∷ es) f is = grind (arith, same_Some, last_due_in es f)
 
 later_stays : (e : Issued) (o : Option Issued) → ((f : Issued) → o ≡ Some f → f.due ≤ e.due) → later e o ≡ e
 later_stays e o low = grind (arith, le-ltb)
@@ -52,8 +49,7 @@ pub look_up_same : (q : Executed → Bool) (done : ℕ → Executed) (due : ℕ 
 look_up_same q done due n log below within ordered = elim (finds (λ k. q (done k)) n) [
   | inl none ↦
       let empty : passing ≡ [] = empty_from passing (grind (arith, from_filter, true≢false)) in
-      ap (λ es. option_map (λ (f : Issued). f.executed) (last_due es)) empty
-      ∙ sym (find-map q done (countdown n) ∙ ap (option_map done) none.is)
+      grind (arith, find-map)
   | inr some ↦
       let m = some.0 in
       let there : In passing (entry done due m) =

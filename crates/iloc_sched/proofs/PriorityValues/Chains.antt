@@ -21,7 +21,6 @@ module _ (size : ℕ) (Pair : ℕ → ℕ → ℕ → Type 0) (base value : ℕ 
         let fall = falls i long.0 long.1 long.2 in
         let rest : value long.0 ≤ other long.0 = least_below n long.0 (omega arith) fall.0 in
         let least = pairs i long.0 long.1 long.2 in
-        let same : value i ≡ long.1 + value long.0 = long.3 in
         omega arith
   ]
 
@@ -87,8 +86,7 @@ module _ (lat : Latencies) (ops : List Op) (graph : Graph) (is : IsGraphOf lat o
         let ends = ends_within x below in
         raise (length ops) base chain value graph.to graph.from graph.delay (λ k i d. IsDelayPair lat ops i k d) chains
         (IsBefore graph x) found (IsBefore graph (x + 1)) j x raised (is.sound x below) early ends.1 (omega arith)
-        (λ y more same. let low = more.0 in let up = to_rises y x (omega arith) more.1 below in
-        let other = ends_within y more.1 in absurd (omega arith))
+        (grind (arith, ends_within, to_rises))
         (λ y more away. let low = more.0 in (omega arith, more.1))
 
   -- where all edges out of the operations from `low` on are kept, so are all delay pairs out of these

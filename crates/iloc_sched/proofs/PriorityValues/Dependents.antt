@@ -1,5 +1,5 @@
 -- Which operations depend on which, step by step; for `Heuristic::Descendants`.
-use Rattle.std.proofs.Common.{◌≡◌, ℕ, ◌+◌, ◌<◌, ◌≤◌, zero, suc, Bool, true, ◌==◌, ◌||◌, ◌&&◌, List, [], ◌∷◌, length, ◌⊎◌, inl, inr, refl, sym, arith}
+use Rattle.std.proofs.Common.{◌≡◌, ℕ, ◌+◌, ◌<◌, ◌≤◌, zero, suc, Bool, true, ◌==◌, ◌||◌, ◌&&◌, List, [], ◌∷◌, length, ◌⊎◌, inl, refl, sym, arith}
 use Rattle.std.specs.Prelude.{nat_lt}
 use Rattle.std.specs.List.{range_with_len}
 use Rattle.std.proofs.lemmas.Bool.{ltb-true, lt-ltb, and_parts, eq-eqb, true≢false, eqb-true, and_from, or_cases}
@@ -14,17 +14,12 @@ use Rattle.iloc_sched.proofs.Basics.Members.{contains_from, in_from, any_at, fro
 either : (a b : Bool) → (a ≡ true) ⊎ (b ≡ true) → (a || b) ≡ true
 either a b one = grind (arith, true≢false)
 
--- a list with a member isn't empty, and the other way round
-not_empty : (ds : List ℕ) (d : ℕ) → In ds d → nat_lt 0 (length ds) ≡ true
-not_empty [] d there = absurd there
-not_empty (x ∷ ds) d there = lt-ltb 0 (length (x ∷ ds)) (omega arith)
-
 some_delay : (ds : List ℕ) → nat_lt 0 (length ds) ≡ true → (d : ℕ) × In ds d
 some_delay [] some = absurd (true≢false (sym some))
 some_delay (d ∷ ds) some = (d, inl refl)
 
 pub pair_waits : (lat : Latencies) (ops : List Op) (i k d : ℕ) → IsDelayPair lat ops i k d → waits_for lat ops i k ≡ true
-pair_waits lat ops i k d pair = grind (arith, and_from, in_from, lt-ltb, not_empty)
+pair_waits lat ops i k d pair = grind (arith, and_from, in_from, lt-ltb)
 
 pub waits_pair : (lat : Latencies) (ops : List Op) (i k : ℕ) → k < length ops → waits_for lat ops i k ≡ true
     → (d : ℕ) × IsDelayPair lat ops i k d
@@ -40,8 +35,7 @@ one_more lat ops n i k j d pair rest =
     any_at (λ m. waits_for lat ops i m && ((m == j) || depends lat ops n m j)) (range_with_len 0 (length ops)) k
     (in_range_from 0 (length ops) k (omega arith) (let within : k < length ops = pair.within in omega arith))
     (and_from (waits_for lat ops i k) ((k == j) || depends lat ops n k j) (pair_waits lat ops i k d pair)
-    (either (k == j) (depends lat ops n k j)
-    (elim rest [ inl same ↦ inl (eq-eqb k j same) | inr further ↦ inr further ])))
+    (grind (arith, either, eq-eqb)))
 
 -- the first delay of a chain
 record Begins (lat : Latencies) (ops : List Op) (n i j : ℕ) : Type 0 where
@@ -64,7 +58,6 @@ enough lat ops zero m i j is few = absurd (true≢false (sym is))
 enough lat ops (suc n) zero i j is few = grind (arith, later lat ops (suc n) i j is)
 enough lat ops (suc n) (suc m) i j is few =
     let first = one_less lat ops n i j is in
-    let order : i < first.to = first.pair.order in
     one_more lat ops m i first.to j first.delay first.pair (grind (arith, enough lat ops n m first.to j))
 
 -- what depends on what waits for operation i depends on i
@@ -72,8 +65,7 @@ pub by_pair : (lat : Latencies) (ops : List Op) (i k j d : ℕ) → IsDelayPair 
     → depends_on lat ops i j ≡ true
 by_pair lat ops i k j d pair rest =
     let is : depends lat ops (suc (length ops)) i j ≡ true = one_more lat ops (length ops) i k j d pair rest in
-    let within : j < length ops = (later lat ops (suc (length ops)) i j is).1 in
-    enough lat ops (suc (length ops)) (length ops) i j is (omega arith)
+    grind (arith, enough, later)
 
 -- and the other way round
 pub record FirstPair (lat : Latencies) (ops : List Op) (i j : ℕ) : Type 0 where

@@ -48,7 +48,6 @@ module _ (lat : Latencies) (ops : List Op) (graph : Graph) (is : IsGraphOf lat o
         is.all i k d pair near in
         grind arith
     | inr by ↦
-        let order : by.way < k = by.second.order in
         pair_marked masks x i b marked after small n by.way by.first_delay (omega arith) by.first
         (inr (by_pair lat ops by.way k (base + b) by.second_delay by.second reaches))
   ]
@@ -69,7 +68,6 @@ module _ (lat : Latencies) (ops : List Op) (graph : Graph) (is : IsGraphOf lat o
   marked_more masks masks' x from to own marked below from_is to_is own_only own_all are =
       let place : (graph.to x < graph.ops) × (graph.start (graph.to x) ≤ x) × (x < graph.start (graph.to x + 1)) =
       is.is_graph.to_there x below in
-      let ops_size : graph.ops ≡ length ops = is.size in
       let size : length masks ≡ length ops = marked.size in
       let there : graph.to x < graph.ops = place.0 in
       let earlier : graph.from x < graph.to x = is.is_graph.earlier x below in

@@ -1,5 +1,5 @@
 -- A priority is the greatest of latency and d + prio(j) over the delay pairs; for `priorities` and the bounds.
-use Rattle.std.proofs.Common.{◌≡◌, ℕ, ◌+◌, ◌-◌, ◌*◌, ◌<◌, ◌≤◌, zero, suc, List, [], ◌∷◌, max, map, length, drop, ◌⊎◌, inl, inr, refl, ap, sym, subst, arith}
+use Rattle.std.proofs.Common.{◌≡◌, ℕ, ◌+◌, ◌-◌, ◌*◌, ◌<◌, ◌≤◌, zero, suc, List, [], ◌∷◌, max, map, length, drop, ◌⊎◌, inl, inr, refl, ap, sym, arith}
 use Rattle.std.specs.Prelude.{fold, slice_index}
 use Rattle.iloc_ops.specs.declared.op.Op.{Op}
 use Rattle.iloc_meaning.specs.Trace.{op_at}
@@ -86,7 +86,6 @@ chain_pairs lat [] values size i j d pair = absurd (let within : j < 0 = pair.wi
 chain_pairs lat (op ∷ later) [] size i j d pair = absurd (omega arith)
 chain_pairs lat (op ∷ later) (v ∷ values) size i zero d pair = absurd (let order : i < 0 = pair.order in omega arith)
 chain_pairs lat (op ∷ later) (v ∷ values) size zero (suc j) d pair =
-    let within : suc j < suc (length later) = pair.within in
     fold_max_each (latency lat op) (reaches lat op later values) (d + slice_index values j)
     (in_reaches lat op later values j d (omega arith) (omega arith)
     (in_from (delays lat op (op_at later j)) d pair.delay))
@@ -107,7 +106,6 @@ chain_reached lat (op ∷ later) (v ∷ values) size zero within = elim
       | inl own ↦ inl own
       | inr there ↦
           let r = from_reaches lat op later values (chain_of lat (op ∷ later) (v ∷ values) 0) there in
-          let below : r.to < length later = r.within in
           inr (
             suc r.to,
             r.delay,
@@ -135,8 +133,7 @@ is_priority lat ops =
       pairs = λ i j d pair.
           let least = chain_pairs lat ops (priorities lat ops) size i j d pair in
           grind (arith, priority_value);
-      reached = λ i within. subst (IsOne lat ops (priorities lat ops) i) (sym (priority_value lat ops i within))
-          (chain_reached lat ops (priorities lat ops) size i within);
+      reached = grind (arith, chain_reached, priority_value);
       whole = λ i within. omega arith;
     }
 

@@ -69,7 +69,6 @@ parted u k = grind arith
 waits_after : (lat : Latencies) (ops : List Op) (i : ℕ) → i < length ops
     → successors lat ops i ≡ count_by (waits_for lat ops i) (from_on ops (i + 1))
 waits_after lat ops i within =
-    let size : length ops ≡ (i + 1) + (length ops - (i + 1)) = omega arith in
     let all = count_range (waits_for lat ops i) 0 (i + 1) (length ops - (i + 1)) (i + 1) (omega arith) in
     let none : count_by (waits_for lat ops i) (range_with_len 0 (i + 1)) ≡ 0 =
     none_in_range (waits_for lat ops i) 0 (i + 1) (λ k after below. no_wait lat ops i k (omega arith)) in
@@ -89,9 +88,6 @@ successors_are lat ops i within =
     ∙ ap (λ w. cond {A = ℕ} (w && not (waits_by_kind by (kind (op_at ops k)))) 1 0
     + cond {A = ℕ} (waits_by_kind by (kind (op_at ops k))) 1 0) (sym one)) in
     waits_after lat ops i within ∙ both
-
-pub successors_few : (lat : Latencies) (ops : List Op) (i : ℕ) → successors lat ops i ≤ length ops
-successors_few lat ops i = count_most (waits_for lat ops i) 0 (length ops)
 
 -- one operation more at the front
 pub from_one_more : (p : ℕ → Bool) (ops : List Op) (j : ℕ) → j < length ops
@@ -124,7 +120,7 @@ none_counted lat ops found n j size end are = grind (arith, from_end, get_or-rep
 
 pub counted_few : (lat : Latencies) (ops : List Op) (found : List ℕ) (j i : ℕ) → AreCounted lat ops found j
     → get_or found i 0 ≤ length ops
-counted_few lat ops found j i counted = grind (arith, cases_lt, count_most, get_or_past, successors_few)
+counted_few lat ops found j i counted = grind (arith, cases_lt, count_most, get_or_past)
 
 -- operation j gets what waits by kind, and then the edges into it count
 pub one_counted : (lat : Latencies) (ops : List Op) (found found' found'' : List ℕ) (j waiting : ℕ) (later : Later)
@@ -146,7 +142,6 @@ one_counted lat ops found found' found'' j waiting later within counted noted is
       size = size'' ∙ size' ∙ size;
       done = λ i after within_i. by_eq i j
           (λ same.
-          let here = more j in
           let none = unused j (omega arith) in
           let by_use = counted.rest j (omega arith) within in
           let by_kind = noted (kind (op_at ops j)) in
@@ -163,5 +158,4 @@ all_counted lat ops found counted =
     let size : length (map (successors lat ops) (range_with_len 0 (length ops))) ≡ length ops =
     length-map-range_with_len (successors lat ops) 0 (length ops) in
     ext_get_or 0 found (map (successors lat ops) (range_with_len 0 (length ops))) (counted.size ∙ sym size)
-    (λ i below. counted.done i (omega arith) (omega arith)
-    ∙ sym (get_or-map-range_with_len (successors lat ops) 0 (length ops) i i 0 (omega arith) (omega arith)))
+    (grind (arith, get_or-map-range_with_len))

@@ -85,8 +85,7 @@ module _ (lat : Latencies) (ops : List Op) (graph : Graph) (is : IsGraphOf lat o
             (λ e. absurd (true≢false (sym same ∙ ap by_kind (e ∙ from_is) ∙ by_use)))
             (λ apart. other i apart ∙ counting.kept i same);
         some = λ i y apart low_y high_y source. by_eq i from
-            (λ e. ap (λ k. get_or grown k 0) e ∙ own ∙ ap (λ n. n + 1) before
-            ∙ ap (λ k. get_or old k 0 + 1) (sym e))
+            (grind arith)
             (λ differs.
             let earlier : y ≢ x = (λ e. differs (sym source ∙ ap graph.from e ∙ sym from_is)) in
             other i differs ∙ counting.some i y apart low_y (by_lt y x (λ l. l) (λ l. absurd (earlier (omega arith)))) source);
@@ -118,8 +117,6 @@ module _ (lat : Latencies) (ops : List Op) (graph : Graph) (is : IsGraphOf lat o
       let pair : IsDelayPair lat ops i j (latency lat (op_at ops i)) = (use_pair lat ops i j w f size_there).0 in
       let edge : (y : ℕ) × (y < graph.count) × (graph.to y ≡ j) × (graph.from y ≡ i) × (latency lat (op_at ops i) ≤ graph.delay y) =
       is.all i j (latency lat (op_at ops i)) pair (use_pair lat ops i j w f size_there).1 in
-      let place : (graph.to edge.0 < graph.ops) × (graph.start (graph.to edge.0) ≤ edge.0)
-      × (edge.0 < graph.start (graph.to edge.0 + 1)) = is.is_graph.to_there edge.0 edge.1 in
       grind arith)
       (λ w.
       let counted = counting.none i (λ y low high source.

@@ -1,5 +1,5 @@
 -- The calendar of a plan, as ranks are put into it, released and taken.
-use Rattle.std.proofs.Common.{◌≡◌, ◌≢◌, ℕ, ◌+◌, ◌<◌, ◌≤◌, ◌⊎◌, ◌||◌, Bool, true, false, eqb, length, sym, ◌∙◌, ap, arith}
+use Rattle.std.proofs.Common.{◌≡◌, ◌≢◌, ℕ, ◌+◌, ◌<◌, ◌≤◌, ◌||◌, Bool, true, false, eqb, length, sym, ◌∙◌, ap, arith}
 use Rattle.std.proofs.lemmas.Bool.{true≢false, or_cases}
 use Rattle.iloc_sched.specs.declared.cycle.calendar.Calendar.{Calendar}
 use Rattle.iloc_sched.specs.declared.cycle.class.Class.{Class}
@@ -27,9 +27,6 @@ same_class l k same = grind arith
 
 other_class : (l k : Class) → place_of l ≢ place_of k → excludes l k ≡ false
 other_class l k apart = grind arith
-
-pub true_or : (a b : Bool) → (a ≡ true) ⊎ (b ≡ true) → (a || b) ≡ true
-true_or a b is = grind arith
 
 -- the room is as it was
 pub within_kept : (c c' : Calendar) (r : ℕ) → KeepsRoom c c' → IsWithin c r → IsWithin c' r
@@ -79,7 +76,7 @@ module _ (p : Plan) (plan : IsPlan p) where
   pub puts_enters : (c c' : Calendar) (b j : ℕ) (ready : Bool) (at_end : Type 0) → b < 32 → j < length p.tables.now.ops.items
       → Puts c c' b (rank_of p j) (ready || has c b (rank_of p j)) → (ready ≡ true → at_end) → (at_end → ready ≡ true)
       → Enters (length p.tables.now.ops.items) (bucket_of p.ranks.now c) (bucket_of p.ranks.now c') b j at_end
-  puts_enters c c' b j ready at_end low there puts end begin = grind (arith, or_cases, ranks_apart, true_or)
+  puts_enters c c' b j ready at_end low there puts end begin = grind (arith, or_cases, ranks_apart)
 
   -- what operation n keeps out is noted for its class
   pub keeps_out_more : (c c' : Calendar) (n : ℕ) (k : Class) → n < length p.tables.now.ops.items → KeepsOut p n c
@@ -95,7 +92,6 @@ module _ (p : Plan) (plan : IsPlan p) where
         (λ _ same. (n, omega arith, sym same))
         (λ other.
         let was = kept.only l r (sym (puts.others (33 + place_of l) r (omega (arith, place_small l)) other) ∙ held) in
-        let before : was.0 < n = was.1 in
         (was.0, omega arith, was.2));
   }
     where

@@ -4,7 +4,7 @@ use Rattle.std.specs.Int.{bit_at, bit_not, trailing_zeros}
 use Rattle.std.specs.Int.Count.{count_trailing_zeros, trailing_of_zero}
 use Rattle.std.proofs.lemmas.Nat.{and_le_l}
 use Rattle.std.proofs.lemmas.Nat.Bits.{bit_at_and, bit_at_not, bit_at-trailing_zeros}
-use Rattle.iloc_sched.specs.Steps.Cycle.RankSets.{word_at, rank_bit, open_bit, HoldsBits, IsFirstBit, IsFirstWithin, IsSearched}
+use Rattle.iloc_sched.specs.Steps.Cycle.RankSets.{HoldsBits, IsFirstBit, IsFirstWithin, IsSearched}
 use Rattle.iloc_sched.proofs.Basics.Cases.{by_eq}
 use Rattle.iloc_sched.proofs.Ranks.WordBits.{no_bit}
 
@@ -23,10 +23,6 @@ module _ (ready kept_out : ℕ) (fits : ready < 2 ^ 64) (kept_fits : kept_out < 
   the_first_bit some =
       let lowest = bit_at-trailing_zeros w64 shown (omega arith) (omega (arith, and_le_l ready (bit_not w64 kept_out))) in
       grind (arith, open_at)
-
--- nothing is open where nothing is ready
-pub none_open : (words : List ℕ) (k r : ℕ) → word_at words 32 (r / 64) ≡ 0 → open_bit words k r ≡ 0
-none_open words k r none = let e : rank_bit words 32 r ≡ 0 = no_bit (word_at words 32 (r / 64)) (r % 64) none in omega arith
 
 module _ (left : ℕ) (fits : left < 2 ^ 64) (more : left ≢ 0) where
   lowest : (trailing_zeros w64 left < 64) × (bit_at left (trailing_zeros w64 left) ≡ 1)
@@ -60,7 +56,6 @@ module _ (words : List ℕ) (k block some left : ℕ) (so_far : IsSearched words
   pub found_here : (f : ℕ) → IsFirstWithin words k (λ r. r / 64 ≡ block * 64 + trailing_zeros w64 left % 64) (Some f)
       → IsFirstWithin words k (λ r. r / 64 / 64 ≡ block) (Some f)
   found_here f first =
-      let low : trailing_zeros w64 left < 64 = (lowest left fits more).0 in
       let is : trailing_zeros w64 left % 64 ≡ trailing_zeros w64 left = low_is left fits more in
       let at : f / 64 ≡ block * 64 + trailing_zeros w64 left % 64 = first.0 in (
         omega arith,

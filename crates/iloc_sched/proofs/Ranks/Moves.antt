@@ -1,10 +1,9 @@
 -- Words are moved from a bucket to what is ready; for `Calendar::release`.
-use Rattle.std.proofs.Common.{◌≡◌, ◌≢◌, ℕ, ◌+◌, ◌-◌, ◌*◌, ◌/◌, ◌%◌, ◌<◌, ◌≤◌, List, length, set, min, max, eqb, ◌||◌, ap, ap₂, sym, ◌∙◌, arith, bit_or, eq-eqb, length-set}
+use Rattle.std.proofs.Common.{◌≡◌, ◌≢◌, ℕ, ◌+◌, ◌-◌, ◌*◌, ◌/◌, ◌%◌, ◌<◌, ◌≤◌, List, length, set, min, max, eqb, ◌||◌, ap, ap₂, sym, ◌∙◌, arith, bit_or, length-set}
 use Rattle.std.specs.Int.{bit_at}
 use Rattle.std.proofs.lemmas.Nat.Bits.{bit_at_or, bit_at-lt}
 use lib.Bits.{or_zero_r}
 use Rattle.iloc_sched.specs.Steps.Cycle.RankSets.{word_at, rank_bit, open_bit, IsSummary, MovesAt, NotesMoved, HoldsBits}
-use Rattle.iloc_sched.proofs.Ranks.WordBits.{no_bit}
 use Rattle.iloc_sched.proofs.Ranks.Cells.{cell_same, cell_other}
 
 -- all is as it was but what is ready and bucket b in the words that moved
@@ -53,22 +52,16 @@ module _ (block left left' b low : ℕ) (words words' words'' : List ℕ) (bucke
   moved_now : MovesAt words words'' b (block * 64 + low)
   moved_now = grind (arith, or_none, row)
 
-  kept_bucket : (w : ℕ) → w ≢ block * 64 + low → word_at words'' b w ≡ word_at words' b w
-  kept_bucket w other = kept b w (omega arith) (λ at. absurd (other at))
-
   kept_ready : (w : ℕ) → w ≢ block * 64 + low → word_at words'' 32 w ≡ word_at words' 32 w
   kept_ready w other = kept 32 w (omega arith) (λ at. absurd (other at))
 
   pub moving_step : IsMoving block left' b words words''
-  moving_step = grind (arith, kept_bucket, kept_ready, moved_now, row)
-
-pub test_or : (a b : ℕ) → a < 2 → b < 2 → eqb (max a b) 1 ≡ (eqb a 1 || eqb b 1)
-test_or a b p q = grind (arith, eq-eqb)
+  moving_step = grind (arith, kept_ready, moved_now, row)
 
 -- what ranks of a word that was moved are ready
 pub moved_ready : (words words' : List ℕ) (b r : ℕ) → MovesAt words words' b (r / 64)
     → eqb (rank_bit words' 32 r) 1 ≡ (eqb (rank_bit words 32 r) 1 || eqb (rank_bit words b r) 1)
-moved_ready words words' b r moved = grind (arith, bit_at-lt, bit_at_or, test_or)
+moved_ready words words' b r moved = grind (arith, bit_at-lt, bit_at_or)
 
 -- the summary, class after class
 pub noting_start : (xs : List ℕ) (some block b : ℕ) → b < 32 → block * 37 + 37 ≤ length xs
@@ -91,15 +84,9 @@ module _ (summary summary' words words' : List ℕ) (block b some : ℕ) (small 
   same_bits : (t w : ℕ) → t < 32 → (w / 64 ≡ block → t ≢ b) → rank_bit summary' t w ≡ min 1 (word_at words' t w)
   same_bits t w low apart = grind arith
 
-  bucket_bits : (w : ℕ) → w / 64 ≡ block → rank_bit summary' b w ≡ min 1 (word_at words' b w)
-  bucket_bits w here = grind (arith, no_bit)
-
   class_bit : (k w : ℕ) → k < 4 → w / 64 ≡ block
       → rank_bit summary' (33 + k) w ≡ max (rank_bit summary (33 + k) w) (bit_at some (w % 64))
   class_bit k w low here = grind (arith, bit_at_or)
-
-  class_else : (k w : ℕ) → k < 4 → w / 64 ≢ block → rank_bit summary' (33 + k) w ≡ rank_bit summary (33 + k) w
-  class_else k w low other = grind arith
 
   due : (w : ℕ) → w / 64 ≡ block → bit_at some (w % 64) ≡ min 1 (word_at words b w)
   due w here = ap (λ v. bit_at v (w % 64)) is ∙ ap (λ v. bit_at (word_at summary b v) (w % 64)) (sym here) ∙ right.buckets b w small
@@ -109,10 +96,10 @@ module _ (summary summary' words words' : List ℕ) (block b some : ℕ) (small 
   same_open k r ready kept = ap₂ (λ a b. min (bit_at a (r % 64)) (1 - bit_at b (r % 64))) ready kept
 
   closed_bits : (k r : ℕ) → k < 4 → rank_bit summary' (33 + k) (r / 64) ≡ 0 → open_bit words' k r ≡ 0
-  closed_bits k r low none = grind (arith, class_bit, class_else, due, or_none, same_open)
+  closed_bits k r low none = grind (arith, class_bit, due, or_none, same_open)
 
   there_bits : (k w : ℕ) → k < 4 → rank_bit summary' (33 + k) w ≢ 0 → w * 37 + 37 ≤ length words'
-  there_bits k w low set = grind (arith, class_bit, class_else)
+  there_bits k w low set = grind (arith, class_bit)
 
   pub summary_moved : IsSummary summary' words'
-  summary_moved = grind (arith, bucket_bits, closed_bits, same_bits, there_bits)
+  summary_moved = grind (arith, closed_bits, same_bits, there_bits)

@@ -1,7 +1,6 @@
 -- What words say of sets: put, released, first; for the functions of `Calendar`.
 use Rattle.std.proofs.Common.{◌≡◌, ◌≢◌, ℕ, ◌+◌, ◌-◌, ◌*◌, ◌/◌, ◌%◌, ◌<◌, ◌≤◌, ◌&&◌, ◌||◌, not, Bool, true, false, eqb, List, length, min, None, sym, ◌∙◌, ap, subst, arith}
 use Rattle.std.specs.Int.{bit_at}
-use Rattle.std.proofs.lemmas.Nat.Bits.{bit_at-lt}
 use lib.ListN.{get_or-eq_default}
 use Rattle.std.specs.Global.{Vec}
 use Rattle.std.specs.Vec.{with_items}
@@ -16,11 +15,8 @@ use Rattle.iloc_sched.proofs.Ranks.Calendars.{place_small}
 use Rattle.iloc_sched.proofs.Ranks.Moves.{KeepsElse, moved_ready}
 use Rattle.iloc_sched.proofs.Ranks.WordBits.{no_bit, test_added}
 
-pub bit_small : (words : List ℕ) (s r : ℕ) → rank_bit words s r < 2
-bit_small words s r = bit_at-lt (word_at words s (r / 64)) (r % 64)
-
 pub puts_from : (c c' : Calendar) (s k : ℕ) (b : Bool) → AddsBit c.words.items c'.words.items b s k → Puts c c' s k (b || has c s k)
-puts_from c c' s k b adds = grind (arith, bit_small, test_added)
+puts_from c c' s k b adds = grind (arith, test_added)
 
 pub takes_from : (c c' : Calendar) (s k : ℕ) → TakesBit c.words.items c'.words.items true s k → Puts c c' s k false
 takes_from c c' s k takes = grind arith
@@ -77,8 +73,7 @@ module _ (c c1 c2 : Calendar) (b n : ℕ) (small : b < 32) (before : IsReleased 
 -- all blocks
 pub all_released : (c c' : Calendar) (b : ℕ) → b < 32 → c.blocks ≢ 0 → IsReleased c c' b c.blocks → Releases c c' b
 all_released c c' b small some released = record {
-  union = λ r. by_lt (r / 4096) c.blocks (λ here. released.union r here)
-      (λ past. released.others 32 r (omega arith) (λ less. absurd (omega arith)) ∙ or_none (has c 32 r) (has c b r) (gone r past));
+  union = grind (arith, gone, or_none);
   empty = λ r. by_lt (r / 4096) c.blocks (λ here. released.empty r here)
       (λ past. released.others b r (omega arith) (λ less. absurd (omega arith)) ∙ gone r past);
   others = λ s r low first second. released.others s r low (λ _. (first, second));
@@ -124,7 +119,7 @@ module _ (c : Calendar) (beside : Class) where
   words = c.words.items
 
   is_offered : (r x : ℕ) → open_bit words (place_of beside) r ≡ x → offers c beside r ≡ eqb x 1
-  is_offered r x is = grind (arith, bit_small, offers_bits)
+  is_offered r x is = grind (arith, offers_bits)
 
   pub none_in_blocks : c.blocks ≢ 0 → ((r : ℕ) → r / 64 / 64 < c.blocks → open_bit words (place_of beside) r ≡ 0) → IsFirst (offers c beside) None
   none_in_blocks some none = λ r. is_offered r 0 (by_lt (r / 64 / 64) c.blocks (none r)

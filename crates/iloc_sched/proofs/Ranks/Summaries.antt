@@ -3,7 +3,6 @@ use Rattle.std.proofs.Common.{◌≡◌, ℕ, ◌+◌, ◌-◌, ◌*◌, ◌/◌
 use Rattle.std.specs.Int.{bit_at}
 use Rattle.std.proofs.lemmas.Nat.Bits.{bit_at-lt, bit_at_and}
 use Rattle.iloc_sched.specs.Steps.Cycle.RankSets.{word_at, rank_bit, open_bit, IsSummary, IsSearched, AddsBit, TakesBit}
-use Rattle.iloc_sched.proofs.Ranks.Firsts.{none_open}
 use Rattle.iloc_sched.proofs.Ranks.WordBits.{one_if, and_same, and_other, or_same, or_other, or_some}
 use Rattle.iloc_sched.proofs.Ranks.Cells.{by_both, cell_same, cell_other, put_same, put_other}
 
@@ -54,7 +53,7 @@ module _ (summary words words' : List ℕ) (right : IsSummary summary words) whe
 -- a word leaves the summary of a class if nothing is ready in it
 pub IsSummary-emptied : (summary summary' words : List ℕ) (j w : ℕ) (b : Bool) → j < 4 → IsSummary summary words
     → (b ≡ true → word_at words 32 w ≡ 0) → TakesBit summary summary' b (33 + j) w → IsSummary summary' words
-IsSummary-emptied summary summary' words j w b small right none takes = grind (arith, bit_at-lt, by_both, none_open)
+IsSummary-emptied summary summary' words j w b small right none takes = grind (arith, bit_at-lt, by_both)
 
 -- the words of a block were searched for what is open beside a class
 module _ (summary words : List ℕ) (k block some left : ℕ) (small : k < 4) (there : block * 37 + 37 ≤ length summary)
@@ -79,8 +78,7 @@ module _ (summary words : List ℕ) (k block some left : ℕ) (small : k < 4) (t
         (grind (arith, bit_here))
         (λ other. right.closed j r low (sym (bit_else (33 + j) (r / 64) (omega arith) other) ∙ none));
     there = λ j w low set. by_both (33 + j) (33 + k) (w / 64) block
-        (λ same at. right.there j w low
-        (λ none. searched.within (w % 64) (omega arith) (λ out. set (bit_here (33 + j) w same at ∙ out)) (bit_was (33 + j) w same at none)))
+        (grind (arith, bit_here, bit_was))
         (λ other. right.there j w low (λ none. set (bit_else (33 + j) w (omega arith) other ∙ none)));
     rest = right.rest;
   }

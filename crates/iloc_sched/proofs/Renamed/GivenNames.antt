@@ -10,9 +10,6 @@ use Rattle.iloc_sched.specs.Renaming.Source.{Start, Result}
 use Rattle.iloc_sched.specs.Steps.Renaming.NamingWalk.{Stands, also, also_all, number_of, Follows, NamesNext}
 use Rattle.iloc_sched.proofs.Renamed.Sources.{is_source-refl, is_source-true, is_source-false, stands_left, stands_right}
 
-regroup : (a b c : Bool) → ((a || b) || c) ≡ (b || (a || c))
-regroup a b c = grind arith
-
 abbrev unless : Bool → Source → List Source
 unless b s = if b then [] else s ∷ []
 
@@ -20,7 +17,7 @@ struck_last : (ms stood : List Source) (s : Source)
     → struck stood (ms ++ s ∷ []) ≡ struck stood ms
     ++ unless (list_any (is_source s) stood || list_any (is_source s) (struck stood ms)) s
 struck_last [] stood s = grind arith
-struck_last (x ∷ rest) stood s = grind (arith, regroup, struck_last rest stood s, struck_last rest (x ∷ stood) s)
+struck_last (x ∷ rest) stood s = grind (arith, struck_last rest stood s, struck_last rest (x ∷ stood) s)
 
 also_unless : (sources : List Source) (s : Source) → sources ++ unless (list_any (is_source s) sources) s
     ≡ also sources s
@@ -134,8 +131,7 @@ pub define_new : (n : ℕ) (sources : List Source) (now : Reg → Source) (given
     → Follows (n + 1) (sources ++ Result n ∷ []) (λ q. if q.0 == r.0 then Result n else now q) given' current'
 define_new n sources now given given' current current' r follows next =
     name_next n (n + 1) sources now _ given given' current current' r (Result n) follows next (omega arith)
-    (by_bool (list_any (is_source (Result n)) sources) (λ b. absurd (let below : n < n = follows.results n b in
-    omega arith)) (λ b. b))
+    (grind arith)
     (λ j is. let same : n ≡ j = cc in omega arith)
     (rw (eq-eqb r.0 r.0 refl) refl)
     (λ q apart. (

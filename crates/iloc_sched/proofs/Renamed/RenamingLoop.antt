@@ -116,8 +116,7 @@ renamed_next done op names given current named =
     (own_same (defined op) _ _ (λ r is.
     let new : list_any (is_source (Result (length done))) (numbering_with done (used op)) ≡ false =
     own_is_new _ _ _ _ _ named.follows in
-    rw (numbering_more done op, is, new) (ap (λ (n : ℕ). record { 0 = n }) (named.follows.count
-    ∙ sym (place_new (numbering_with done (used op)) (Result (length done)) new)))))
+    grind (arith, numbering_more, place_new)))
     ∙ ap (with_registers _ _) (sym (op_at_last done op))
 
 -- an operation whose uses are named is renamed, one that defines nothing
@@ -223,8 +222,7 @@ renamed_op_kept done op i below =
     (map_same _ _ (used (op_at done i)) (λ r there.
     ap (name_of (numbering (done ++ op ∷ []))) (source_kept done op i r (omega arith))
     ∙ name_more done op (source done i r) (use_numbered done i r below there)))
-    (own_same (defined (op_at done i)) _ _
-    (λ r is. name_more done op (Result i) (definition_numbered done i r below is)))
+    (grind (arith, definition_numbered, name_more, own_same))
 
 in_range : (a n i : ℕ) → In (range_with_len a n) i → i < a + n
 in_range a zero i there = absurd there

@@ -1,11 +1,10 @@
 -- A block without its `nop`s has the block's outcome; for `rename` (`outcome`).
-use Rattle.std.proofs.Common.{◌≡◌, ℕ, zero, suc, ◌+◌, true, List, [], ◌∷◌, length, drop, ℤ, refl, arith, append-nil}
+use Rattle.std.proofs.Common.{◌≡◌, ℕ, zero, suc, ◌+◌, true, List, [], ◌∷◌, length, drop, ℤ, arith, append-nil}
 use Rattle.std.proofs.Math.Seq.{drop-cons, drop-length}
 use Rattle.iloc_ops.specs.declared.op.Reg.{Reg}
 use Rattle.iloc_ops.specs.declared.op.Op.{Op}
 use Rattle.iloc_ops.specs.declared.op.Op.TheVariants.{Nop}
 use Rattle.iloc_ops.specs.Registers.{with_registers}
-use Rattle.iloc_meaning.specs.declared.effect.Effect.{Effect}
 use Rattle.iloc_meaning.specs.Trace.{Executed, register_after, then_executed, before}
 use Rattle.iloc_meaning.specs.Outcome.{outcome}
 use Rattle.iloc_meaning.proofs.Cases.{by_bool}
@@ -18,15 +17,9 @@ pub record Alike (memory : List ℤ) (trace other : List Executed) : Type 0 wher
   pub registers : (r : Reg) → register_after trace r ≡ register_after other r
   pub end : SameEnd memory trace other
 
--- one operation goes on from both with the same effect
-alike_more : (memory : List ℤ) (trace other : List Executed) (op : Op) (e e' : Effect) → e ≡ e'
-    → Alike memory trace other → Alike memory (record { op = op; effect = e } ∷ trace)
-    (record { op = op; effect = e' } ∷ other)
-alike_more memory trace other op e e' same alike = grind arith
-
 alike_after : (memory : List ℤ) (trace other : List Executed) (op : Op) → Alike memory trace other
     → Alike memory (then_executed memory op trace) (then_executed memory op other)
-alike_after memory trace other op alike = grind (arith, alike_more, effect_same)
+alike_after memory trace other op alike = grind (arith, effect_same)
 
 pub is_nop-true : (op : Op) → is_nop op ≡ true → op ≡ Nop
 is_nop-true op is = grind arith
@@ -64,5 +57,4 @@ onward_all memory ops = onward_rest memory ops (length ops) 0 (omega arith)
 pub outcome_without_nops : (ops : List Op) (memory : List ℤ) → outcome (without_nops ops) memory ≡ outcome ops memory
 outcome_without_nops ops memory =
     rw (← onward_all memory (without_nops ops), ← onward_all memory ops)
-    (same_outcome memory _ _ (onward_alike memory ops [] []
-    (record { registers = λ r. refl; end = record { words = λ a. refl; outputs = refl; faults = refl } })).end)
+    (grind (arith, onward_alike, same_outcome))

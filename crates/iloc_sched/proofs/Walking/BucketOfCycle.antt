@@ -1,5 +1,5 @@
 -- The bucket of a cycle modulo 32 has just what becomes ready then; for `Waiting::release`.
-use Rattle.std.proofs.Common.{◌≡◌, ◌≢◌, ℕ, ◌+◌, ◌%◌, ◌<◌, ◌≤◌, Bool, true, false, Option, None, ◌⊎◌, inl, inr, arith}
+use Rattle.std.proofs.Common.{◌≡◌, ◌≢◌, ℕ, ◌+◌, ◌%◌, ◌<◌, Bool, true, false, Option, None, ◌⊎◌, inl, inr, arith}
 use Rattle.std.proofs.lemmas.Bool.{true≢false}
 use Rattle.iloc_sched.specs.Steps.Graph.{Graph, IsGraph}
 use Rattle.iloc_sched.specs.Steps.Cycle.Progress.{Progress, Waits, CanIssue}
@@ -13,13 +13,10 @@ earliest_bound graph w f i at is waits j there =
           grind arith
     ]
 
-same_mod : (a c : ℕ) → c ≤ a → a < c + 16 → a % 32 ≡ c % 32 → a ≡ c
-same_mod a c least most same = omega arith
-
 -- what is in the bucket of cycle c becomes ready just then
 pub due_now : (graph : Graph) (w : Progress) (c : ℕ) → IsGraph graph → Waits graph w c 0 None → (j : ℕ) → j < graph.ops
     → w.bucket (c % 32) j ≡ true → CanIssue graph w (c + 1) j
-due_now graph w c is waits j there held = grind (arith, earliest_bound, same_mod)
+due_now graph w c is waits j there held = grind (arith, earliest_bound)
 
 -- who can be issued one cycle later could before, or is in the bucket
 pub then_due : (graph : Graph) (w : Progress) (c : ℕ) → Waits graph w c 0 None → (j : ℕ) → CanIssue graph w (c + 1) j
@@ -34,7 +31,7 @@ later_still graph w c j can = grind arith
 pub empties : (graph : Graph) (w : Progress) (c : ℕ) (bucket' : ℕ → ℕ → Bool) → IsGraph graph → Waits graph w c 0 None
     → ((j : ℕ) → bucket' (c % 32) j ≡ false) → ((b j : ℕ) → b < 32 → b ≢ c % 32 → bucket' b j ≡ w.bucket b j)
     → Waits graph (record w { bucket = bucket' }) (c + 1) 0 None
-empties graph w c bucket' is waits emptied others = grind (arith, earliest_bound, same_mod, true≢false)
+empties graph w c bucket' is waits emptied others = grind (arith, earliest_bound, true≢false)
 
 -- other buckets with the same operations
 pub same_buckets : (graph : Graph) (w : Progress) (f i : ℕ) (at : Option ℕ) (bucket' : ℕ → ℕ → Bool) → Waits graph w f i at

@@ -78,7 +78,6 @@ module _ (p : Plan) (w v : Waiting) (m : Calendar) (n : ℕ) (state : OperationS
         (λ first same. (first, (n, omega arith, sym same)))
         (λ other.
         let was = so_far.only s r low (sym (puts.others s r (omega arith) other ∙ same_below s r low) ∙ held) in
-        let before : was.1.0 < n = was.1.1 in
         (was.0, (was.1.0, omega arith, was.1.2)));
   }
 
@@ -89,8 +88,7 @@ pub opened : (graph : Graph) (w : Progress) → IsGraph graph → ((j : ℕ) →
     → ((b j : ℕ) → b < 32 → b ≢ 0 → w.bucket b j ≡ false) → Waits graph w 0 0 None
 opened graph w is none unmet earliest roots others = record {
   is_unmet = λ x. true;
-  unmet = λ j there. unmet j there
-      ∙ sym (count_all (λ x. true) (λ x. refl) (graph.start j) (graph.start (j + 1) - graph.start j));
+  unmet = grind (arith, count_all);
   ahead = λ x there from up. refl;
   stuck = λ x there yes. inl (none (graph.from x));
   past = λ x there no. not_true true no refl;
@@ -116,8 +114,7 @@ module _ (p : Plan) (w : Waiting) (plan : IsPlan p) (made : IsOpening p w (lengt
 
   pub all_opened : Waits (graph_of p.tables.now.edges) (progress_of p.ranks.now w) 0 0 None
   all_opened = opened (graph_of p.tables.now.edges) (progress_of p.ranks.now w) plan.graph.is_graph none_issued
-      (λ j there. ap (λ xs. get_or xs j 0) made.unmet
-      ∙ get_or-map-range_with_len (edges_into (graph_of p.tables.now.edges)) 0 (length p.tables.now.edges.heads.items) j j 0 there (omega arith))
+      (grind (arith, get_or-map-range_with_len))
       (λ j. ap (λ xs. get_or xs j 0) made.earliest ∙ read_replicate (length p.tables.now.edges.heads.items) 0 j)
       made.roots
       (λ b j small other. in_first b (rank_of p j) (omega arith) other)

@@ -1,7 +1,7 @@
 -- Who can be issued once another was; for `Waiting::issue_first`.
 use Rattle.std.proofs.Common.{◌≡◌, ◌≢◌, ℕ, ◌+◌, ◌-◌, ◌<◌, false, Some, None, sym, ◌∙◌, arith}
 use Rattle.iloc_sched.specs.Steps.Graph.{Graph, IsGraph}
-use Rattle.iloc_sched.specs.Steps.Cycle.Progress.{Progress, Waits, CanIssue, KeepsPlaces, count_from}
+use Rattle.iloc_sched.specs.Steps.Cycle.Progress.{Progress, Waits, CanIssue, KeepsPlaces}
 use Rattle.iloc_sched.proofs.Walking.EdgeWalk.{within_count}
 use Rattle.iloc_sched.proofs.Walking.UnmetEdges.{count_none, count_some}
 
@@ -9,14 +9,9 @@ module _ (graph : Graph) (w w' : Progress) (c i : ℕ) (is : IsGraph graph)
     (waits : Waits graph w (c + 1) 0 None) (waits' : Waits graph w' (c + 1) 0 None)
     (at : w'.issued i ≡ Some c) (others : (k : ℕ) → k ≢ i → w'.issued k ≡ w.issued k) (keeps : KeepsPlaces w w')
   where
-    pub can_issue_still : (j : ℕ) → j ≢ i → CanIssue graph w (c + 1) j → CanIssue graph w' (c + 1) j
-    can_issue_still j apart can = grind arith
-
     -- who was completed by this has to wait for its result
     completed_before : (j : ℕ) → CanIssue graph w' (c + 1) j → 0 < w.unmet j → ⊥
     completed_before j can some =
-        let count : w.unmet j ≡ count_from waits.is_unmet (graph.start j) (graph.start (j + 1) - graph.start j) =
-        waits.unmet j can.there in
         let one = count_some waits.is_unmet (graph.start j) (graph.start (j + 1) - graph.start j) (omega arith) in
         let x : ℕ = one.0 in
         let before : x < graph.start j + (graph.start (j + 1) - graph.start j) = one.2 in

@@ -33,6 +33,5 @@ pub target_read : (ranks : List ℕ) (e : Edges) (w : Waiting) (x : ℕ) (edge :
     → state.unmet ≡ (progress_of ranks w).unmet ((graph_of e).to x)
 target_read ranks e w x edge state is sized below edge_is read =
     let to_is : edge.to ≡ (graph_of e).to x = ap (λ (d : Edge). d.to) edge_is in
-    let there : (graph_of e).to x < length e.heads.items = (is.to_there x below).0 in
     let size : length w.states.items ≡ length e.heads.items = sized in
     unmet_read ranks w edge.to state (omega arith) read ∙ ap (progress_of ranks w).unmet to_is
