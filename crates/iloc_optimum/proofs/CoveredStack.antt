@@ -15,10 +15,7 @@ Keeps w t = Within w.firsts.items w.lasts.items t
 -- issued by the first cycle, or after it
 pub split_keeps : (F L : List ℕ) (t : ℕ → ℕ) (i at next : ℕ) → i < length F → i < length L → at ≡ get_or F i 0 → next ≤ at + 1
     → Within F L t → Within F (set L i at) t ⊎ Within (set F i next) L t
-split_keeps F L t i at next firsts lasts is most w = elim (cases_lt at (t i)) [
-  | inl later ↦ inr (raised F L t i next firsts (omega arith) w)
-  | inr now ↦ inl (lowered F L t i at lasts (omega arith) w)
-]
+split_keeps F L t i at next firsts lasts is most w = grind (arith, cases_lt, raised, lowered)
 
 one_of_front : (ws : List Windows) (w : Windows) (t : ℕ → ℕ) → InOne (ws ++ w ∷ []) t → InOne ws t ⊎ Keeps w t
 one_of_front [] w t (inl here) = inr here
@@ -52,29 +49,15 @@ sized_more kinds (v ∷ ws) w all one = (all.0, sized_more kinds ws w all.1 one)
 pub covered_without : (edges : List Edge) (kinds : List Kind) (root : Windows) (ws : List Windows) (w : Windows)
     → ((t : ℕ → ℕ) → IsTiming edges kinds t → Keeps w t → ⊥) → IsCovered edges kinds root (ws ++ w ∷ [])
     → IsCovered edges kinds root ws
-covered_without edges kinds root ws w none covered = record {
-  sized = sized_front kinds ws w covered.sized;
-  all = λ t timing within. elim (one_of_front ws w t (covered.all t timing within)) [
-    | inl there ↦ there
-    | inr last ↦ absurd (none t timing last)
-  ];
-}
+covered_without edges kinds root ws w none covered = grind (arith, sized_front, one_of_front)
 
 -- and two take their place where every schedule within them is within one of the two
 pub covered_by : (edges : List Edge) (kinds : List Kind) (root : Windows) (ws : List Windows) (w late early : Windows)
     → ((t : ℕ → ℕ) → IsTiming edges kinds t → Keeps w t → Keeps early t ⊎ Keeps late t)
     → AreSized kinds late → AreSized kinds early → IsCovered edges kinds root (ws ++ w ∷ [])
     → IsCovered edges kinds root ((ws ++ late ∷ []) ++ early ∷ [])
-covered_by edges kinds root ws w late early two late_sized early_sized covered = record {
-  sized = sized_more kinds (ws ++ late ∷ []) early (sized_more kinds ws late (sized_front kinds ws w covered.sized) late_sized) early_sized;
-  all = λ t timing within. elim (one_of_front ws w t (covered.all t timing within)) [
-    | inl there ↦ in_front (ws ++ late ∷ []) early t (in_front ws late t there)
-    | inr last ↦ elim (two t timing last) [
-      | inl now ↦ in_last (ws ++ late ∷ []) early t now
-      | inr later ↦ in_front (ws ++ late ∷ []) early t (in_last ws late t later)
-    ]
-  ];
-}
+covered_by edges kinds root ws w late early two late_sized early_sized covered =
+    grind (arith, sized_more, sized_front, one_of_front, in_front, in_last)
 
 pub not_false : (b : Bool) → IsTrue b → b ≡ false → ⊥
 not_false true h e = cc

@@ -1,17 +1,13 @@
 -- The best schedule and the bound while they are improved: `Optimizer::optimize`.
-use Rattle.std.proofs.Common.{◌≡◌, ◌∙◌, ℕ, ◌+◌, ◌<◌, ◌≤◌, List, [], ◌∷◌, ◌++◌, length, get_or, suc, take, map, sym, ap, ap₂, subst, ◌⊎◌, inl, inr, arith}
+use Rattle.std.proofs.Common.{◌≡◌, ◌∙◌, ℕ, ◌+◌, ◌<◌, ◌≤◌, List, [], ◌∷◌, ◌++◌, length, get_or, suc, take, map, sym, ap, subst, ◌⊎◌, inl, inr, arith}
 use Rattle.iloc_ops.specs.declared.op.Op.{Op}
-use Rattle.iloc_meaning.specs.Trace.{op_at}
 use Rattle.iloc_timed.specs.declared.kind.Kind.{Kind}
 use Rattle.iloc_timed.specs.declared.latencies.Latencies.{Latencies}
 use Rattle.iloc_timed.specs.declared.row.Row.{Row}
 use Rattle.iloc_timed.specs.Cycles.{cycles}
 use Rattle.iloc_timed.specs.Kinds.{kind}
-use Rattle.iloc_timed.specs.Latency.{latency}
-use Rattle.iloc_timed.specs.Rows.{issue_cycle}
 use Rattle.iloc_timed.specs.Schedule.{Table}
 use Rattle.iloc_timed.proofs.WholeRuns.{short_latency}
-use Rattle.std.specs.List.{range_with_len}
 use Rattle.std.proofs.lemmas.List.{take_all, take_more}
 use Rattle.iloc_sched.specs.declared.cycle.calendar.TheConstants.{LONGEST_DELAY}
 use Rattle.iloc_sched.specs.declared.edges.Edge.{Edge}
@@ -40,43 +36,22 @@ use Rattle.iloc_optimum.specs.Steps.Improving.{IsShortened}
 
 -- any schedule ends within the longest latency after its rows
 pub cycles_within : (lat : Latencies) (ops : List Op) (rows : List Row) → cycles lat ops rows ≤ length rows + LONGEST_DELAY
-cycles_within lat ops rows = elim (fold_max_reached 0 (map ends (range_with_len 0 (length ops)))) [
-  | inl none ↦ let is : cycles lat ops rows ≡ 0 = none in omega arith
-  | inr there ↦
-      let found = from_map ends (range_with_len 0 (length ops)) (cycles lat ops rows) there in
-      let is : ends found.0 ≡ cycles lat ops rows = found.2 in
-      let issued : issue_cycle rows found.0 ≤ length rows = issue_cycle_within rows found.0 in
-      let short : latency lat (op_at ops found.0) ≤ LONGEST_DELAY = short_latency lat (kind (op_at ops found.0)) in
-      omega arith
-]
-  where
-    ends : ℕ → ℕ
-    ends i = issue_cycle rows i + latency lat (op_at ops i)
+cycles_within lat ops rows = grind (arith, fold_max_reached, from_map, issue_cycle_within, short_latency)
 
 -- the greedy schedule by a heuristic is as short as any
 as_short : (lat : Latencies) (block : List Op) (h : Heuristic) (s other : Table)
     → IsTheSchedule (priorities_by h lat) lat block other → cycles_of lat s ≤ cycles_of lat other
     → IsAsShortAs h lat block s
-as_short lat block h s other the few t greedy =
-    let same : (t.ops ≡ other.ops) × (t.rows ≡ other.rows) = the.only t.ops t.rows greedy in
-    let count : cycles_of lat t ≡ cycles_of lat other = ap₂ (λ os rs. cycles lat os rs) same.0 same.1 in
-    omega arith
+as_short lat block h s other the few t greedy = grind arith
 
 pub one_lawful : (lat : Latencies) (block : List Op) (old new other : Table) → IsLawful lat block other.ops other.rows
     → (new ≡ old) ⊎ (new ≡ other) → IsLawful lat block old.ops old.rows → IsLawful lat block new.ops new.rows
-one_lawful lat block old new other lawful one was = elim one [
-  | inl same ↦ subst (λ (s : Table). IsLawful lat block s.ops s.rows) (sym same) was
-  | inr same ↦ subst (λ (s : Table). IsLawful lat block s.ops s.rows) (sym same) lawful
-]
+one_lawful lat block old new other lawful one was = grind arith
 
 pub shortened : (lat : Latencies) (block : List Op) (h : Heuristic) (old new other : Table)
     → IsTheSchedule (priorities_by h lat) lat block other → (new ≡ old) ⊎ (new ≡ other)
     → cycles_of lat new ≤ cycles_of lat old → cycles_of lat new ≤ cycles_of lat other → IsShortened lat block h old new
-shortened lat block h old new other the one fewer few = record {
-  lawful = one_lawful lat block old new other the.greedy.lawful one;
-  fewer = fewer;
-  order = as_short lat block h new other the few;
-}
+shortened lat block h old new other the one fewer few = grind (arith, one_lawful, as_short)
 
 -- a lawful schedule, as short as those that are greedy by the first n of these heuristics
 pub record IsBestOf (lat : Latencies) (block : List Op) (heuristics : List Heuristic) (n : ℕ) (s : Table) : Type 0 where
@@ -85,13 +60,7 @@ pub record IsBestOf (lat : Latencies) (block : List Op) (heuristics : List Heuri
 
 pub best_of_one : (lat : Latencies) (block : List Op) (h : Heuristic) (others : List Heuristic) (s : Table)
     → IsTheSchedule (priorities_by h lat) lat block s → IsBestOf lat block (h ∷ others) 1 s
-best_of_one lat block h others s the = record {
-  lawful = the.greedy.lawful;
-  orders = λ k there. elim there [
-    | inl same ↦ subst (λ x. IsAsShortAs x lat block s) same (as_short lat block h s s the (omega arith))
-    | inr none ↦ absurd none
-  ];
-}
+best_of_one lat block h others s the = grind (arith, as_short)
 
 pub best_of_more : (lat : Latencies) (block : List Op) (first : Heuristic) (others : List Heuristic) (i : ℕ) (d : Heuristic) (old new : Table)
     → i < length others → IsBestOf lat block (first ∷ others) (i + 1) old
@@ -151,10 +120,4 @@ with_schedule lat block o s was lawful fewer = record {
 -- a higher bound
 pub with_bound : (lat : Latencies) (block : List Op) (o : Optimum) (n : ℕ) → IsOptimumOf lat block o
     → IsBound lat block n → o.bound ≤ n → IsOptimumOf lat block (record { schedule = o.schedule; bound = n })
-with_bound lat block o n was bound more = record {
-  lawful = was.lawful;
-  outcome = was.outcome;
-  orders = was.orders;
-  bound = bound;
-  least = (let low = was.least in omega arith);
-}
+with_bound lat block o n was bound more = grind arith

@@ -1,6 +1,6 @@
 -- The cycles of issue in a lawful schedule are a timing within the first windows: `laws::lawful_schedules_are_timings`,
 -- `laws::nothing_left_raises_the_bound`.
-use Rattle.std.proofs.Common.{◌≡◌, ◌∙◌, ℕ, zero, suc, ◌+◌, ◌-◌, ◌*◌, ◌<◌, ◌≤◌, Bool, ◌&&◌, List, length, map, replicate, get_or, sym, ap, subst, inl, inr, arith}
+use Rattle.std.proofs.Common.{◌≡◌, ◌∙◌, ℕ, zero, suc, ◌+◌, ◌-◌, ◌*◌, ◌<◌, ◌≤◌, ◌&&◌, List, length, map, replicate, get_or, sym, ap, subst, inl, inr, arith}
 use Rattle.std.specs.Prelude.{count_by}
 use Rattle.std.specs.List.{range_with_len}
 use Rattle.std.proofs.lemmas.List.{length-map, get_or-map}
@@ -16,7 +16,6 @@ use Rattle.iloc_timed.specs.Cycles.{cycles}
 use Rattle.iloc_timed.specs.Kinds.{kind, is_load}
 use Rattle.iloc_timed.specs.Rows.{issue_cycle}
 use Rattle.iloc_sched.specs.declared.lower_bound.share.Share.{Share}
-use Rattle.iloc_sched.specs.declared.lower_bound.share.Share.TheVariants.{Memory, Products, Outputs, All as AllOf}
 use Rattle.iloc_sched.specs.Delays.{IsDelayPair}
 use Rattle.iloc_sched.specs.Lawful.{IsLawful}
 use Rattle.iloc_sched.specs.LowerBound.Least.{tails, tail}
@@ -28,16 +27,12 @@ use Rattle.iloc_sched.proofs.Bounds.TailBound.{Fits, crowd_of, tail_within}
 use Rattle.iloc_sched.proofs.PriorityValues.Tails.{length-tails}
 use Rattle.iloc_sched.specs.declared.edges.Edge.{Edge}
 use Rattle.iloc_optimum.specs.declared.windows.Windows.{Windows}
-use Rattle.iloc_optimum.specs.Bound.{IsBound}
 use Rattle.iloc_optimum.specs.Laws.{AreDelayPairs, LawfulSchedulesAreTimings, NothingLeftRaisesTheBound, ReachedBoundsAreOptimal}
 use Rattle.iloc_optimum.specs.Timing.{Within, IsTiming, Crowd, belongs, between}
 use Rattle.iloc_optimum.proofs.FullCycles.{count_grows}
 
 holds_of : (s : Share) (ops : List Op) → Holds (shares s) (width s) ops
-holds_of Memory ops = holds_memory ops
-holds_of Products ops = holds_products ops
-holds_of Outputs ops = holds_outputs ops
-holds_of AllOf ops = holds_all ops
+holds_of s ops = grind (arith, holds_memory, holds_products, holds_outputs, holds_all)
 
 -- the share of an operation by the kinds of all is that by its own kind
 same_share : (ops : List Op) (s : Share) (i : ℕ) → belongs (map kind ops) s i ≡ shares s (kind (op_at ops i))
@@ -46,17 +41,7 @@ same_share ops s i = ap (shares s) (lists.get_or-map kind ops i Nop)
 crowd_by_kinds : (ops : List Op) (s : Share) (t : ℕ → ℕ)
     → ((a c : ℕ) → count_by (λ i. shares s (kind (op_at ops i)) && between a c (t i)) (range_with_len 0 (length ops)) ≤ width s * (c - a))
     → Crowd (width s) (belongs (map kind ops) s) (length (map kind ops)) t
-crowd_by_kinds ops s t crowd a c =
-    let p : ℕ → Bool = λ i. belongs (map kind ops) s i && between a c (t i) in
-    let q : ℕ → Bool = λ i. shares s (kind (op_at ops i)) && between a c (t i) in
-    let fewer : count_by p (range_with_len 0 (length ops)) ≤ count_by q (range_with_len 0 (length ops)) =
-    count_grows p q 0 (length ops) (λ i low high passes.
-    let parts = and_parts (belongs (map kind ops) s i) (between a c (t i)) passes in
-    and_from (shares s (kind (op_at ops i))) (between a c (t i)) (sym (same_share ops s i) ∙ parts.0) parts.1) in
-    let most : count_by q (range_with_len 0 (length ops)) ≤ width s * (c - a) = crowd a c in
-    let both_most : count_by p (range_with_len 0 (length ops)) ≤ width s * (c - a) = omega arith in
-    let size : length (map kind ops) ≡ length ops = length-map ops kind in
-    subst (λ n. count_by p (range_with_len 0 n) ≤ width s * (c - a)) (sym size) both_most
+crowd_by_kinds ops s t crowd a c = grind (arith, count_grows, and_parts, and_from, same_share, length-map)
 
 pub timings : LawfulSchedulesAreTimings
 timings lat block ops rows edges lawful pairs = record {
@@ -112,7 +97,4 @@ bound_raised lat block limit edges w pairs left none ops rows lawful =
     ]
 
 pub reached : ReachedBoundsAreOptimal
-reached lat block ops rows n lawful bound is = record {
-  lawful = lawful;
-  fewest = subst (IsBound lat block) (sym is) bound;
-}
+reached lat block ops rows n lawful bound is = grind arith

@@ -1,5 +1,5 @@
 -- A narrower window, where no operation is issued outside it.
-use Rattle.std.proofs.Common.{ℕ, ◌+◌, ◌≤◌, ◌<◌, List, length, get_or, set, get_or-set_other, get_or-set_same, sym, subst, arith}
+use Rattle.std.proofs.Common.{ℕ, ◌+◌, ◌≤◌, ◌<◌, List, length, set, get_or-set_other, get_or-set_same, arith}
 use Rattle.std.specs.Prelude.{slice_index_or}
 use Rattle.std.proofs.lemmas.List.{length-set}
 use Rattle.std.proofs.lemmas.List.Elements.{All-get_or}
@@ -10,21 +10,11 @@ use Rattle.iloc_optimum.specs.Timing.{Within, WaitsFor, LeadsBetween}
 
 pub raised : (firsts lasts : List ℕ) (t : ℕ → ℕ) (k v : ℕ) → k < length firsts → v ≤ t k → Within firsts lasts t
     → Within (set firsts k v) lasts t
-raised firsts lasts t k v there low w = record {
-  from = λ i below. let under : i < length firsts = omega (arith, length-set firsts k v) in by_eq i k
-      (λ e. subst (λ j. get_or (set firsts k v) j 0 ≤ t j) (sym e) (rw get_or-set_same low))
-      (λ ne. rw get_or-set_other (w.from i under));
-  to = w.to;
-}
+raised firsts lasts t k v there low w = grind (arith, length-set, by_eq, get_or-set_same, get_or-set_other)
 
 pub lowered : (firsts lasts : List ℕ) (t : ℕ → ℕ) (k v : ℕ) → k < length lasts → t k ≤ v → Within firsts lasts t
     → Within firsts (set lasts k v) t
-lowered firsts lasts t k v there low w = record {
-  from = w.from;
-  to = λ i below. let under : i < length lasts = omega (arith, length-set lasts k v) in by_eq i k
-      (λ e. subst (λ j. t j ≤ get_or (set lasts k v) j 0) (sym e) (rw get_or-set_same low))
-      (λ ne. rw get_or-set_other (w.to i under));
-}
+lowered firsts lasts t k v there low w = grind (arith, length-set, by_eq, get_or-set_same, get_or-set_other)
 
 abbrev pub edge_at : List Edge → ℕ → Edge
 edge_at edges x = slice_index_or edges x no_edge

@@ -12,13 +12,7 @@ use Rattle.iloc_optimum.proofs.crowds.keep_out.Goals.{then-belongs, else-belongs
 
 -- The windows while the full cycles are taken from them.
 kept_other : (kinds : List Kind) (F L F' L' : List ℕ) (i : ℕ) → IsKept kinds F L F' L' i → IsKept kinds F L F' L' (i + 1)
-kept_other kinds F L F' L' i kept = record {
-  same_firsts = kept.same_firsts;
-  same_lasts = kept.same_lasts;
-  later_firsts = λ k above. kept.later_firsts k (omega arith);
-  later_lasts = λ k above. kept.later_lasts k (omega arith);
-  within = kept.within;
-}
+kept_other kinds F L F' L' i kept = grind arith
 
 kept_more : (kinds : List Kind) (F L F' L' : List ℕ) (s : Share) (a e i v w : ℕ) → length F ≡ length kinds → length L ≡ length kinds
     → width s * (e + 1 - a) ≤ count_inside kinds F L s a e (length kinds) → i < length kinds → belongs kinds s i ≡ true

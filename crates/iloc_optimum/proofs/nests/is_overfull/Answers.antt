@@ -1,4 +1,4 @@
-use Rattle.std.proofs.Common.{◌≡◌, ◌∙◌, ◌+◌, ◌-◌, ◌*◌, ◌<◌, ◌≤◌, length, ap, arith, ℕ, zero, suc, Bool, true, false, cond, ◌&&◌, List, refl, ◌⊎◌, inl, inr}
+use Rattle.std.proofs.Common.{◌≡◌, ◌∙◌, ◌+◌, ◌-◌, ◌*◌, ◌<◌, ◌≤◌, length, ap, arith, ℕ, zero, suc, Bool, true, cond, ◌&&◌, List, refl, ◌⊎◌}
 use Rattle.iloc_sched.specs.declared.lower_bound.share.Share.TheVariants.{All}
 use Rattle.iloc_sched.specs.LowerBound.Shares.{width}
 use Rattle.iloc_optimum.specs.Steps.Inside.{count_inside, is_inside}
@@ -22,19 +22,7 @@ by_four : (p q u v w x : ℕ → Bool) (a n : ℕ)
     → count_by p (range_with_len a n) + count_by q (range_with_len a n)
     ≤ count_by u (range_with_len a n) + count_by v (range_with_len a n) + count_by w (range_with_len a n) + count_by x (range_with_len a n)
 by_four p q u v w x a zero each = omega arith
-by_four p q u v w x a (suc n) each =
-    let rest : count_by p (range_with_len (a + 1) n) + count_by q (range_with_len (a + 1) n)
-    ≤ count_by u (range_with_len (a + 1) n) + count_by v (range_with_len (a + 1) n) + count_by w (range_with_len (a + 1) n)
-    + count_by x (range_with_len (a + 1) n) =
-    by_four p q u v w x (a + 1) n (λ i low high. each i (omega arith) (omega arith)) in
-    let first : one (p a) + one (q a) ≤ one (u a) + one (v a) + one (w a) + one (x a) = each a (omega arith) (omega arith) in
-    let ps = count_by-cons p a (range_with_len (a + 1) n) in
-    let qs = count_by-cons q a (range_with_len (a + 1) n) in
-    let us = count_by-cons u a (range_with_len (a + 1) n) in
-    let vs = count_by-cons v a (range_with_len (a + 1) n) in
-    let ws = count_by-cons w a (range_with_len (a + 1) n) in
-    let xs = count_by-cons x a (range_with_len (a + 1) n) in
-    omega arith
+by_four p q u v w x a (suc n) each = grind (arith, count_by-cons, by_four p q u v w x (a + 1) n)
 
 at_one : (b : Bool) → b ≡ true → one b ≡ 1
 at_one b is = ap (λ c. cond {A = ℕ} c 1 0) is
@@ -42,33 +30,14 @@ at_one b is = ap (λ c. cond {A = ℕ} c 1 0) is
 -- a window in both counts for two, one in either for one
 of_one : (p q u v w x : Bool) → (q ≡ true → u ≡ true) → (q ≡ true → p ≡ true → x ≡ true)
     → (p ≡ true → (u ≡ true) ⊎ (v ≡ true) ⊎ (w ≡ true)) → one p + one q ≤ one u + one v + one w + one x
-of_one false false u v w x all both some = omega arith
-of_one true true u v w x all both some =
-    let first : one u ≡ 1 = at_one u (all refl) in
-    let second : one x ≡ 1 = at_one x (both refl refl) in
-    omega arith
-of_one false true u v w x all both some = let first : one u ≡ 1 = at_one u (all refl) in omega arith
-of_one true false u v w x all both some = elim (some refl) [
-  | inl is ↦ (let first : one u ≡ 1 = at_one u is in omega arith)
-  | inr other ↦ elim other [
-    | inl is ↦ (let first : one v ≡ 1 = at_one v is in omega arith)
-    | inr is ↦ (let first : one w ≡ 1 = at_one w is in omega arith)
-  ]
-]
+of_one p q u v w x all both some = grind (arith, at_one)
 
 module _ (kinds : List Kind) (firsts lasts : List ℕ) (s : Share) (a e b f : ℕ) (t : ℕ → ℕ) where
   -- where an operation with its window from a to e is issued: from b to f, before that or after it
   placed : (i : ℕ) → belongs kinds s i ≡ true → a ≤ t i → t i ≤ e
       → ((belongs kinds All i && between b (f + 1) (t i)) ≡ true)
       ⊎ ((belongs kinds s i && between a b (t i)) ≡ true) ⊎ ((belongs kinds s i && between (f + 1) (e + 1) (t i)) ≡ true)
-  placed i member low high = elim (cases_lt (t i) b) [
-    | inl early ↦ inr (inl (and_from (belongs kinds s i) (between a b (t i)) member (in_between a b (t i) low early)))
-    | inr late ↦ elim (cases_lt f (t i)) [
-      | inl after ↦ inr (inr (and_from (belongs kinds s i) (between (f + 1) (e + 1) (t i)) member
-          (in_between (f + 1) (e + 1) (t i) (omega arith) (omega arith))))
-      | inr before ↦ inl (and_from true (between b (f + 1) (t i)) refl (in_between b (f + 1) (t i) late (omega arith)))
-    ]
-  ]
+  placed i member low high = grind (arith, cases_lt, and_from, in_between)
 
   each_placed : length firsts ≡ length kinds → length lasts ≡ length kinds → Within firsts lasts t → (i : ℕ) → i < length kinds
       → one (is_inside kinds firsts lasts s a e i) + one (is_inside kinds firsts lasts All b f i)

@@ -1,7 +1,6 @@
-use Rattle.std.proofs.Common.{◌≡◌, ◌∙◌, ◌≤◌, ◌+◌, ◌-◌, length, sym, ap, subst, arith}
+use Rattle.std.proofs.lemmas.Grind.{common_steps}
+use Rattle.std.proofs.Common.{◌≡◌, ◌≤◌, ◌+◌, sym, subst, arith}
 use Rattle.std.proofs.lemmas.List.{length-map, length-replicate}
-use Rattle.iloc_timed.specs.Kinds.{kind}
-use Rattle.iloc_sched.specs.LowerBound.Least.{tails}
 use Rattle.iloc_sched.proofs.PriorityValues.Tails.{length-tails}
 use Rattle.iloc_optimum.specs.Bound.{IsBound}
 use Rattle.iloc_optimum.specs.Found.{IsFound}
@@ -11,13 +10,7 @@ use Rattle.iloc_optimum.proofs.Improvements.{one_lawful, refuted, with_bound, wi
 use Rattle.iloc_optimum.proofs.optimizer.improve.Goals as goal
 
 pub search_windows-requires-clause-windows : goal.search_windows-requires-clause-windows
-search_windows-requires-clause-windows c =
-    let g = c.args.graph.now in
-    let size : length c.kinds.result.now ≡ length g.ops = ap length c.kinds.ensures.kinds ∙ length-map g.ops kind in (
-      ap length c.in_ok-windows.ensures.firsts ∙ (length-replicate (length g.ops) 0 ∙ sym size),
-      ap length c.in_ok-windows.ensures.lasts
-          ∙ (length-map (tails g.latencies g.ops) (λ tail. c.args.limit - tail) ∙ (length-tails g.latencies g.ops ∙ sym size)),
-    )
+search_windows-requires-clause-windows c = grind (arith, length-map, length-replicate, length-tails, common_steps)
 
 pub returns-in-Nothing-clause-known : goal.returns-in-Nothing-clause-known
 returns-in-Nothing-clause-known c =

@@ -1,14 +1,13 @@
-use Rattle.std.proofs.Common.{◌++◌, ◌∷◌, [], subst, sym, ◌∙◌, ap}
+use Rattle.std.proofs.lemmas.Grind.{common_steps}
+use Rattle.std.proofs.Common.{arith, ◌++◌, ◌∷◌, [], subst, sym, ◌∙◌, ap}
 use Rattle.iloc_optimum.specs.Timing.{AreSized}
-use Rattle.iloc_optimum.specs.Steps.Covered.{IsCovered, EachSized}
+use Rattle.iloc_optimum.specs.Steps.Covered.{IsCovered}
 use Rattle.iloc_optimum.proofs.CoveredStack.{sized_last, covered_without, covered_by, not_false}
 use Rattle.iloc_optimum.proofs.search.search_windows.Goals as goal
 use Rattle.iloc_optimum.proofs.search.search_windows.Goals.{then-branch+in-Some-first_open+in_ok-late+in_ok-push-2+in_ok-push-3, else-branch}
 
 pub narrow-requires-clause-windows : goal.narrow-requires-clause-windows
-narrow-requires-clause-windows c =
-    sized_last c.args.kinds.now c.pop.new.self.items c.in-Some.windows
-    (subst (λ ws. EachSized c.args.kinds.now ws) c.in-Some.ensures.items c.loop.invariant.sized)
+narrow-requires-clause-windows c = grind (arith, sized_last, common_steps)
 
 pub loop-preserved : goal.loop-preserved
 loop-preserved c =
