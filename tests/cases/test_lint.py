@@ -7,6 +7,20 @@ from limits import MOST_BLOCKS, MOST_BYTES, MOST_OPERATIONS
 MOST_LISTED = 1000
 # Of each line of lint.tsv a line of text, what is said of it, and how many bytes of it can be read.
 WRONG = [(line.encode("latin-1"), what, int(at)) for line, what, at in rows_of(f"{TOP}/tests/cases/lint.tsv")]
+MARKED = "the text begins with a byte-order mark: save it without one"
+UTF_16 = "the text is in UTF-16: save it as UTF-8"
+NO_OPERATION = 'expected an operation or "//", found '
+# Lines by which a text's encoding shows where they are the first: what is said of them there, what elsewhere, and how many
+# bytes can be read.
+ENCODED = [
+    (b"\xef\xbb\xbfnop", MARKED, NO_OPERATION + "a byte-order mark", 0),
+    (b"\xff\xfen\0o\0p\0", UTF_16, NO_OPERATION + "byte 0xFF", 0),
+    (b"\xfe\xff\0n\0o\0p", UTF_16, NO_OPERATION + "byte 0xFE", 0),
+    (b"\0n\0o\0p", UTF_16, NO_OPERATION + "byte 0x00", 0),
+    (b"n\0o\0p\0", UTF_16, 'no such opcode "n": byte 0x00 follows it', 1),
+    (b"\0}", UTF_16, NO_OPERATION + "byte 0x00", 0),
+    (b"}\0", UTF_16, NO_OPERATION + '"}"', 0),
+]
 ALONE = b"hint: each operation has a label, so each is a block of its own\n"
 HINTS = [
     (b"loadI 4 => r1\nstore r1 => r1\n", b""),
@@ -58,6 +72,9 @@ def cases():
     lines = [it[0] for it in WRONG]
     entries = b"".join(entry(2 * k + 2, *it) for k, it in enumerate(WRONG))
     yield Lint("all of them", b"nop\n" + b"\nnop\n".join(lines) + b"\n", entries + totals(1, len(lines), len(lines)))
+    for line, first, other, at in ENCODED:
+        yield Lint(f"first {line}", line, entry(1, line, first, at) + totals(0, 0, 1))
+        yield Lint(f"second {line}", b"nop\n" + line, entry(2, line, other, at) + totals(1, 1, 1))
     for given, hints in HINTS:
         blocks = max(1, given.count(b":"))
         operations = len([it for it in given.split(b"\n") if it])

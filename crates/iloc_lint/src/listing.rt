@@ -98,7 +98,7 @@ fn push_entry(alloc: Global, text: &mut Vec<u8>, refused: &Refused<'_>) -> Resul
     let line = refused.line;
     match refused.fault {
         ReadFault::BadLine(number) => {
-            let what = wording(alloc, line)?;
+            let what = wording(alloc, number, line)?;
             push_line_entry(text, number, &what, line, place_of(line))
         }
         ReadFault::NumberTooLarge(number) => {

@@ -4,7 +4,7 @@ ghost use Rattle.std.specs.Prelude.{◌≤◌, ◌<◌, length};
 use crate::place::{Part, Place, blanks_at, label_at, operands_at, place_of, word_at};
 use crate::shown::push_shown;
 use iloc_ops::{NoMemory, OPCODES, Opcode};
-use iloc_text::is_word_byte;
+use iloc_text::{is_blank, is_word_byte};
 use std::alloc::Global;
 
 /// Opcodes of the book and of other machines that this language doesn't have.
@@ -16,6 +16,9 @@ const FOREIGN: [&[u8]; 31] = [
 
 /// What is said of a number that is too large.
 pub const ABOVE_LIMIT: &[u8] = b"a number above 2147483647";
+
+/// The digits of a byte's number.
+const HEX_DIGITS: [u8; 16] = *b"0123456789ABCDEF";
 
 /// The longest part of a word that is shown.
 const MOST_QUOTED: usize = 24;
@@ -72,6 +75,13 @@ fn word_start(line: &[u8], at: usize) -> usize
     start
 }
 
+/// Appends a byte that can't be printed, by its number.
+fn push_byte(what: &mut Vec<u8>, byte: u8) -> Result<(), NoMemory> {
+    what.extend_from_slice(b"byte 0x")?;
+    what.push(HEX_DIGITS[usize::from(byte / 16)])?;
+    Ok(what.push(HEX_DIGITS[usize::from(byte % 16)])?)
+}
+
 /// Appends what is found at a place: a word, an arrow, a byte, or the end of the line.
 fn push_found(what: &mut Vec<u8>, line: &[u8], at: usize) -> Result<(), NoMemory>
     requires { at ≤ length line.now }
@@ -86,7 +96,9 @@ fn push_found(what: &mut Vec<u8>, line: &[u8], at: usize) -> Result<(), NoMemory
     match (word_at(rest), rest) {
         (_, []) => Ok(what.extend_from_slice(b"the end of the line")?),
         (0, [b'=', b'>', ..]) => push_quoted(what, b"=>"),
-        (0, [first, ..]) => push_quoted(what, &[*first]),
+        (0, [0xef, 0xbb, 0xbf, ..]) => Ok(what.extend_from_slice(b"a byte-order mark")?),
+        (0, [first, ..]) if first.is_ascii_graphic() => push_quoted(what, &[*first]),
+        (0, [first, ..]) => push_byte(what, *first),
         (count, _) => push_quoted(what, &rest[..count]),
     }
 }
@@ -113,8 +125,8 @@ fn is_begun(place: &Place, before: u8) -> bool {
     }
 }
 
-/// What is wrong with a word that is no opcode.
-fn push_no_opcode(what: &mut Vec<u8>, word: &[u8], rest: &[u8]) -> Result<(), NoMemory> {
+/// What is wrong with a word that is no opcode, and what follows it.
+fn push_no_opcode(what: &mut Vec<u8>, word: &[u8], after: &[u8]) -> Result<(), NoMemory> {
     if FOREIGN.iter().any(|foreign| *foreign == word) {
         push_shown(what, word)?;
         what.extend_from_slice(b" isn't an operation of this language")?;
@@ -122,7 +134,15 @@ fn push_no_opcode(what: &mut Vec<u8>, word: &[u8], rest: &[u8]) -> Result<(), No
     }
     what.extend_from_slice(b"no such opcode ")?;
     push_quoted(what, word)?;
-    if let Some(opcode) = meant_by(word) {
+    let rest = &after[blanks_at(after)..];
+    if let [byte, ..] = after
+        && !byte.is_ascii_graphic()
+        && !is_blank(*byte)
+    {
+        what.extend_from_slice(b": ")?;
+        push_byte(what, *byte)?;
+        what.extend_from_slice(b" follows it")?;
+    } else if let Some(opcode) = meant_by(word) {
         what.extend_from_slice(b": ")?;
         what.extend_from_slice(opcode.text())?;
         what.extend_from_slice(b"?")?;
@@ -170,23 +190,29 @@ fn push_operands(
     push_found(what, line, at)
 }
 
-/// What is wrong with the encoding of the text, if the line shows it.
-fn encoding_of(line: &[u8]) -> Option<&'static [u8]> {
-    match line {
+/// What is wrong with the encoding of a text, if its first line shows it. UTF-16 without a mark shows by two characters of
+/// ASCII, or by one that is the whole line: of each two bytes one is 0.
+fn encoding_of(first: &[u8]) -> Option<&'static [u8]> {
+    match first {
         [0xef, 0xbb, 0xbf, ..] => {
             Some(b"the text begins with a byte-order mark: save it without one")
         }
-        [0xff, 0xfe, ..] | [0xfe, 0xff, ..] | [0, ..] | [_, 0, ..] => {
-            Some(b"the text is in UTF-16: save it as UTF-8")
-        }
+        [0xff, 0xfe, ..]
+        | [0xfe, 0xff, ..]
+        | [0, 1..=127]
+        | [0, 1..=127, 0, ..]
+        | [1..=127, 0]
+        | [1..=127, 0, 1..=127, 0, ..] => Some(b"the text is in UTF-16: save it as UTF-8"),
         _ => None,
     }
 }
 
-/// What is wrong with a line that has no reading, in words.
-pub fn wording(alloc: Global, line: &[u8]) -> Result<Vec<u8>, NoMemory> {
+/// What is wrong with the line of this number that has no reading, in words.
+pub fn wording(alloc: Global, number: u32, line: &[u8]) -> Result<Vec<u8>, NoMemory> {
     let mut what = Vec::new(alloc);
-    if let Some(encoding) = encoding_of(line) {
+    if number == 1
+        && let Some(encoding) = encoding_of(line)
+    {
         what.extend_from_slice(encoding)?;
         return Ok(what);
     }
@@ -200,8 +226,7 @@ pub fn wording(alloc: Global, line: &[u8]) -> Result<Vec<u8>, NoMemory> {
     } else if let Some(opcode) = opcode_of(word) {
         push_operands(&mut what, opcode, line, start + count)?;
     } else {
-        let rest = &line[start + count..];
-        push_no_opcode(&mut what, word, &rest[blanks_at(rest)..])?;
+        push_no_opcode(&mut what, word, &line[start + count..])?;
     }
     Ok(what)
 }
