@@ -112,54 +112,30 @@ struct Shape {
     third: Lead,
 }
 
-const NOTHING: Shape = Shape {
-    count: 0,
-    register: false,
-    second: ARROW_REGISTER,
-    third: ARROW_REGISTER,
-};
+macro_rules! shape {
+    ($count:literal, $register:literal, $second:expr, $third:expr) => {
+        Shape {
+            count: $count,
+            register: $register,
+            second: $second,
+            third: $third,
+        }
+    };
+}
 
-const CONSTANT: Shape = Shape {
-    count: 1,
-    register: false,
-    second: ARROW_REGISTER,
-    third: ARROW_REGISTER,
-};
+const NOTHING: Shape = shape!(0, false, ARROW_REGISTER, ARROW_REGISTER);
 
-const IMMEDIATE: Shape = Shape {
-    count: 2,
-    register: false,
-    second: ARROW_REGISTER,
-    third: ARROW_REGISTER,
-};
+const CONSTANT: Shape = shape!(1, false, ARROW_REGISTER, ARROW_REGISTER);
 
-const COPIED: Shape = Shape {
-    count: 2,
-    register: true,
-    second: ARROW_REGISTER,
-    third: ARROW_REGISTER,
-};
+const IMMEDIATE: Shape = shape!(2, false, ARROW_REGISTER, ARROW_REGISTER);
 
-const SOURCES: Shape = Shape {
-    count: 3,
-    register: true,
-    second: COMMA_REGISTER,
-    third: ARROW_REGISTER,
-};
+const COPIED: Shape = shape!(2, true, ARROW_REGISTER, ARROW_REGISTER);
 
-const WITH_CONSTANT: Shape = Shape {
-    count: 3,
-    register: true,
-    second: COMMA_CONSTANT,
-    third: ARROW_REGISTER,
-};
+const SOURCES: Shape = shape!(3, true, COMMA_REGISTER, ARROW_REGISTER);
 
-const STORED_AT: Shape = Shape {
-    count: 3,
-    register: true,
-    second: ARROW_REGISTER,
-    third: COMMA_CONSTANT,
-};
+const WITH_CONSTANT: Shape = shape!(3, true, COMMA_CONSTANT, ARROW_REGISTER);
+
+const STORED_AT: Shape = shape!(3, true, ARROW_REGISTER, COMMA_CONSTANT);
 
 /// The operands of the opcodes, in the order of their declaration.
 const SHAPES: &[Shape; 17] = &[
@@ -192,7 +168,7 @@ fn shape_of(opcode: Opcode) -> &'static Shape
 
 /// Eight bytes from a place on, the first of them the lowest.
 #[inline(always)]
-fn word_from(bytes: &[u8], at: usize) -> u64
+pub fn word_from(bytes: &[u8], at: usize) -> u64
     requires { at + 8 ≤ length bytes.now }
     ensures { result ≡ number_l 256 (get_or bytes.now at 0 ∷ get_or bytes.now (at + 1) 0 ∷ get_or bytes.now (at + 2) 0
         ∷ get_or bytes.now (at + 3) 0 ∷ get_or bytes.now (at + 4) 0 ∷ get_or bytes.now (at + 5) 0
