@@ -1,5 +1,6 @@
 -- Layouts, and how opcodes and operations are spelled.
-use Rattle.std.proofs.Common.{◌≡◌, ◌≤◌, ◌<◌, get_or, append-nil, refl, arith}
+use Rattle.std.proofs.Common.{◌≡◌, ◌≤◌, ◌<◌, length, get_or, append-nil, refl, arith}
+use Rattle.std.specs.List.{AllByRecursion}
 use denote.Enum.Declared.{tag_of}
 use Rattle.iloc_ops.specs.contracts.forms.Opcode.{the_type}
 use Rattle.iloc_ops.specs.declared.forms.Opcode.{Opcode}
@@ -26,3 +27,8 @@ pub word_is_short : (o : Opcode) (other : Layout)
     → (0 < (get_or LAYOUTS (tag_of the_type o) other).opcode.length) × ((get_or LAYOUTS (tag_of the_type o) other).opcode.length ≤ 7)
 word_is_short O.Nop other = (omega arith, omega arith)
 word_is_short _ other = (omega arith, omega arith)
+
+pub word_is_of_bytes : (o : Opcode) (other : Layout) → (length (get_or LAYOUTS (tag_of the_type o) other).opcode.bytes ≡ 8)
+    × AllByRecursion (λ b. b < 256) (get_or LAYOUTS (tag_of the_type o) other).opcode.bytes
+word_is_of_bytes O.Nop other = (refl, (omega arith, (omega arith, (omega arith, (omega arith, (omega arith, (omega arith, (omega arith, (omega arith, tt)))))))))
+word_is_of_bytes _ other = (refl, (omega arith, (omega arith, (omega arith, (omega arith, (omega arith, (omega arith, (omega arith, (omega arith, tt)))))))))

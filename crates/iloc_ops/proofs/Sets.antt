@@ -38,7 +38,7 @@ drop_sets xs i a b c d e f g h k =
     )
 
 -- the elements of eight
-eight : (xs rest : List ℕ) → length xs ≡ 8 → get_or xs 0 0 ∷ get_or xs 1 0 ∷ get_or xs 2 0 ∷ get_or xs 3 0 ∷ get_or xs 4 0
+pub eight : (xs rest : List ℕ) → length xs ≡ 8 → get_or xs 0 0 ∷ get_or xs 1 0 ∷ get_or xs 2 0 ∷ get_or xs 3 0 ∷ get_or xs 4 0
     ∷ get_or xs 5 0 ∷ get_or xs 6 0 ∷ get_or xs 7 0 ∷ rest ≡ xs ++ rest
 eight [] rest k = absurd (omega (arith, k))
 eight (a ∷ []) rest k = absurd (omega (arith, k))

@@ -1,5 +1,6 @@
 //! The table of forms: the opcode and the operands of each operation, and the operation of an opcode and numbers.
 ghost use Rattle.std.specs.Prelude.{◌≡◌, ◌≤◌, ◌<◌, length, get_or};
+ghost use Rattle.std.specs.List.{AllByRecursion};
 ghost use Rattle.iloc_ops.specs.Forms.{opcode, operands, opcode_text, op_of};
 ghost use Rattle.iloc_ops.specs.Operands.{operands_in};
 ghost use Rattle.iloc_ops.specs.Spelling.{word_text};
@@ -77,6 +78,7 @@ impl Opcode {
     pub fn word(self) -> &'static Word
         ensures text { word_text result.now ≡ opcode_text self }
         ensures short { (0 < result.now.length) × (result.now.length ≤ 7) }
+        ensures bytes { (length result.now.bytes ≡ 8) × AllByRecursion (λ b. b < 256) result.now.bytes }
     {
         &LAYOUTS[self as usize].opcode
     }

@@ -1,9 +1,7 @@
 -- The opcodes that are read.
-use Rattle.std.specs.Prelude.{ℕ, ◌*◌, ◌-◌, ◌^◌, List, [], Option, find, length}
-use Rattle.std.specs.Simd.Lanes.{number_l}
+use Rattle.std.specs.Prelude.{ℕ, List, [], Option, find}
 use Rattle.std.specs.Str.{bytes_eq}
 use Rattle.iloc_ops.specs.declared.forms.Opcode.{Opcode}
-use Rattle.iloc_text.specs.declared.line.opcode.Front.{Front}
 use Rattle.iloc_ops.specs.Forms.{Operand, opcodes, opcode_text, operands, op_of}
 
 -- the opcode that is written so
@@ -13,7 +11,3 @@ opcode_of word = find (λ o. bytes_eq (opcode_text o) word) opcodes
 -- the operands of the opcode, with 0 for each number
 abbrev pub operands_of : Opcode → List Operand
 operands_of o = operands (op_of o [])
-
--- the text of the opcode as a number
-abbrev pub front_of : Opcode → Front
-front_of o = record { word = number_l 256 (opcode_text o); mask = 2 ^ (8 * length (opcode_text o)) - 1; length = length (opcode_text o) }

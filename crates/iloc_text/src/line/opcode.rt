@@ -2,8 +2,9 @@
 ghost use Rattle.std.specs.Prelude.{◌≡◌, ◌≤◌, ◌++◌, IfSome, length, drop};
 ghost use Rattle.iloc_ops.specs.Forms.{opcode_text};
 ghost use Rattle.iloc_ops.specs.Operands.{operands_in};
-ghost use Rattle.iloc_text.specs.Steps.Opcodes.{opcode_of, operands_of, front_of};
+ghost use Rattle.iloc_text.specs.Steps.Opcodes.{opcode_of, operands_of};
 
+use crate::line::fast_path::word_from;
 use iloc_ops::{OPCODES, Opcode, Operands, form_of, op_of};
 
 /// The operands of an opcode, with 0 for each number.
@@ -19,110 +20,6 @@ pub fn opcode_of(word: &[u8]) -> Option<Opcode>
     ensures { result ≡ opcode_of word.now }
 {
     OPCODES.iter().copied().find(|opcode| opcode.text() == word)
-}
-
-/// The bytes of a text, the first of them the lowest, all bits of as many, and how many they are.
-struct Front {
-    word: u64,
-    mask: u64,
-    length: usize,
-}
-
-/// The texts of the opcodes, in the order of their declaration.
-const FRONTS: &[Front; 17] = &[
-    Front {
-        word: 0x64616f6c,
-        mask: 0xffffffff,
-        length: 4,
-    },
-    Front {
-        word: 0x4964616f6c,
-        mask: 0xffffffffff,
-        length: 5,
-    },
-    Front {
-        word: 0x65726f7473,
-        mask: 0xffffffffff,
-        length: 5,
-    },
-    Front {
-        word: 0x646461,
-        mask: 0xffffff,
-        length: 3,
-    },
-    Front {
-        word: 0x627573,
-        mask: 0xffffff,
-        length: 3,
-    },
-    Front {
-        word: 0x746c756d,
-        mask: 0xffffffff,
-        length: 4,
-    },
-    Front {
-        word: 0x74666968736c,
-        mask: 0xffffffffffff,
-        length: 6,
-    },
-    Front {
-        word: 0x746669687372,
-        mask: 0xffffffffffff,
-        length: 6,
-    },
-    Front {
-        word: 0x74757074756f,
-        mask: 0xffffffffffff,
-        length: 6,
-    },
-    Front {
-        word: 0x706f6e,
-        mask: 0xffffff,
-        length: 3,
-    },
-    Front {
-        word: 0x49646461,
-        mask: 0xffffffff,
-        length: 4,
-    },
-    Front {
-        word: 0x49627573,
-        mask: 0xffffffff,
-        length: 4,
-    },
-    Front {
-        word: 0x49746c756d,
-        mask: 0xffffffffff,
-        length: 5,
-    },
-    Front {
-        word: 0x4974666968736c,
-        mask: 0xffffffffffffff,
-        length: 7,
-    },
-    Front {
-        word: 0x49746669687372,
-        mask: 0xffffffffffffff,
-        length: 7,
-    },
-    Front {
-        word: 0x494164616f6c,
-        mask: 0xffffffffffff,
-        length: 6,
-    },
-    Front {
-        word: 0x494165726f7473,
-        mask: 0xffffffffffffff,
-        length: 7,
-    },
-];
-
-/// The text of an opcode.
-#[inline(always)]
-fn front_of(opcode: Opcode) -> &'static Front
-    ensures { result.now ≡ front_of opcode }
-{
-    &FRONTS[opcode as usize]
 }
 
 /// The opcodes by their places in `opcode_by_letters`.
@@ -181,13 +78,13 @@ pub fn opcode_at(bytes: &[u8]) -> Option<(Opcode, usize)>
     ensures is { IfSome result (λ found. bytes.now ≡ opcode_text found.0 ++ drop found.1 bytes.now) }
     ensures near { IfSome result (λ found. found.1 ≤ 7) }
 {
-    let front = u64::from_le_bytes([
-        bytes[0], bytes[1], bytes[2], bytes[3], bytes[4], bytes[5], bytes[6], bytes[7],
-    ]);
+    let front = word_from(bytes, 0);
     let opcode = opcode_by_letters(front);
-    let text = front_of(opcode);
-    if front & text.mask == text.word {
-        Some((opcode, text.length))
+    let word = opcode.word();
+    // So many bits of both aren't of the text: the highest of the front, and the lowest of the word.
+    let others = 64 - 8 * word.length;
+    if front << others >> others == word_from(&word.bytes, 0) >> others {
+        Some((opcode, word.length))
     } else {
         None
     }

@@ -1,5 +1,4 @@
-use Rattle.std.proofs.Common.{◌∙◌, ◌≢◌, ◌+◌, ◌-◌, ◌++◌, Err, IfErr, OnOk, length, take, drop, ap, arith, length-drop, sym, subst, take-append-drop}
-use Rattle.std.proofs.lemmas.List.{take_all}
+use Rattle.std.proofs.Common.{◌∙◌, ◌≢◌, ◌+◌, ◌++◌, Err, IfErr, OnOk, take, drop, ap, sym, subst, take-append-drop}
 use Rattle.std.proofs.lemmas.Result.{err_from_is_err_and}
 use Rattle.iloc_text.specs.declared.fault.ReadFault.TheVariants.{NoMemory as no_memory}
 use Rattle.iloc_text.specs.Steps.TextReads.{GoesOn, HasFault}
