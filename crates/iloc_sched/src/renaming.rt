@@ -150,35 +150,23 @@ impl Names {
             }
             Operands::Copied(source, dest) => {
                 let (source, dest) = self.of_copied(source, dest)?;
-                (
-                    op_of(opcode, &[source.0, dest.0]),
-                    Uses::One(source),
-                    Some(dest),
-                )
+                let numbers = [source.0, dest.0];
+                (op_of(opcode, &numbers), Uses::One(source), Some(dest))
             }
             Operands::WithConstant(left, value, dest) => {
                 let (left, dest) = self.of_copied(left, dest)?;
-                (
-                    op_of(opcode, &[left.0, value, dest.0]),
-                    Uses::One(left),
-                    Some(dest),
-                )
+                let numbers = [left.0, value, dest.0];
+                (op_of(opcode, &numbers), Uses::One(left), Some(dest))
             }
             Operands::Stored(value, addr) => {
                 let (value, addr) = self.of_stored(value, addr)?;
-                (
-                    op_of(opcode, &[value.0, addr.0]),
-                    Uses::Two(value, addr),
-                    None,
-                )
+                let numbers = [value.0, addr.0];
+                (op_of(opcode, &numbers), Uses::Two(value, addr), None)
             }
             Operands::StoredAt(value, addr, offset) => {
                 let (value, addr) = self.of_stored(value, addr)?;
-                (
-                    op_of(opcode, &[value.0, addr.0, offset]),
-                    Uses::Two(value, addr),
-                    None,
-                )
+                let numbers = [value.0, addr.0, offset];
+                (op_of(opcode, &numbers), Uses::Two(value, addr), None)
             }
             Operands::Sources(left, right, dest) => {
                 let (left, right, dest) = self.of_sources(left, right, dest)?;
