@@ -2,6 +2,7 @@
 pub mod UnmetEdges
 pub mod EdgeWalk
 pub mod WalkInTables
+pub mod EdgeOrNone
 pub mod TableReads
 pub mod BucketOfCycle
 pub mod FirstStates

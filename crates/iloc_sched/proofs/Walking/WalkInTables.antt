@@ -1,5 +1,5 @@
 -- The same walk in the tables of the code, step by step; for `Waiting::issue`, `pass`.
-use Rattle.std.proofs.Common.{◌≡◌, ◌≢◌, ℕ, ◌+◌, ◌%◌, ◌<◌, List, length, max, set, get_or, Option, Some, None, refl, sym, ◌∙◌, ap, subst, arith}
+use Rattle.std.proofs.Common.{◌≡◌, ◌≢◌, ℕ, ◌+◌, ◌%◌, ◌<◌, ◌≤◌, List, length, max, set, get_or, Option, Some, None, inl, inr, refl, sym, ◌∙◌, ap, subst, arith}
 use Rattle.std.proofs.lemmas.List.{get_or-set_same, get_or-set_other}
 use Rattle.iloc_sched.specs.declared.edges.Edge.{Edge}
 use Rattle.iloc_sched.specs.declared.edges.Edges.{Edges}
@@ -7,7 +7,7 @@ use Rattle.iloc_sched.specs.declared.cycle.waiting.OperationState.{OperationStat
 use Rattle.iloc_sched.specs.declared.cycle.waiting.Waiting.{Waiting}
 use Rattle.iloc_sched.specs.declared.cycle.calendar.Calendar.{Calendar}
 use Rattle.iloc_sched.specs.Steps.Graph.{Graph, IsLast, IsGraph}
-use Rattle.iloc_sched.specs.Steps.Cycle.Progress.{Progress, Waits, CanIssue, IsFrom, KeepsPlaces}
+use Rattle.iloc_sched.specs.Steps.Cycle.Progress.{Progress, Waits, Walks, CanIssue, KeepsPlaces}
 use Rattle.iloc_sched.specs.Steps.Views.{edge_at, graph_of, issued_list, unmet_list, earliest_list, progress_of, bucket_of, IsSized}
 use Rattle.iloc_sched.proofs.Walking.EdgeWalk.{begins, some_unmet, moves, Enters}
 use Rattle.iloc_sched.proofs.Walking.TableReads.{issued_size, unmet_size, earliest_size, earliest_read}
@@ -79,16 +79,36 @@ module _ (ranks : List ℕ) (e : Edges) (w : Waiting) (x cycle : ℕ) (is : IsGr
       greatest ∙ ap (λ d. max state.earliest (cycle + d)) (ap (λ (d : Edge). d.delay) edge_is)
       ∙ ap (λ u. max u (cycle + (graph_of e).delay x)) early
 
-from_last : (graph : Graph) (i : ℕ) (head : Option ℕ) → IsLast (λ x. graph.from x ≡ i) graph.count head
-    → IsFrom graph i head
-from_last graph i head is = grind arith
+-- where no edge is left, nothing is known of the source of one
+no_source : (graph : Graph) (w : Progress) (f i j : ℕ) → Waits graph w f i None → Waits graph w f j None
+no_source graph w f i j waits = record {
+  is_unmet = waits.is_unmet;
+  unmet = waits.unmet;
+  ahead = λ x there from up. absurd up;
+  stuck = λ x there yes. elim (waits.stuck x there yes) [
+    | inl none ↦ inl none
+    | inr loose ↦ absurd loose.1
+  ];
+  past = waits.past;
+  reached = waits.reached;
+  complete = waits.complete;
+  times = waits.times;
+  waits = waits.waits;
+  only = waits.only;
+}
 
--- the edge before x out of the same operation
-pub from_previous : (graph : Graph) (i x : ℕ) (previous : Option ℕ) → x < graph.count → graph.from x ≡ i
-    → IsLast (λ y. graph.from y ≡ graph.from x) x previous → IsFrom graph i previous
-from_previous graph i x previous there from_i is = grind arith
+-- the last of the edges below n out of an operation that is issued is the next
+pub walks_from : (graph : Graph) (w : Progress) (i c n : ℕ) (at : Option ℕ) → IsLast (λ x. graph.from x ≡ i) n at → n ≤ graph.count
+    → w.issued i ≡ Some c → Waits graph w (c + 1) i at → Walks graph w c at
+walks_from graph w i c n None last most issued waits = no_source graph w (c + 1) i 0 waits
+walks_from graph w i c n (Some x) last most issued waits =
+    let below : x < n = last.0 in (
+      omega arith,
+      ap w.issued last.1 ∙ issued,
+      subst (λ k. Waits graph w (c + 1) k (Some x)) (sym last.1) waits,
+    )
 
-abbrev progress_by : List ℕ → List (Option ℕ) → List ℕ → List ℕ → Calendar → Progress
+abbrev pub progress_by : List ℕ → List (Option ℕ) → List ℕ → List ℕ → Calendar → Progress
 progress_by ranks issued unmet earliest calendar = record {
   issued = λ j. get_or issued j None;
   unmet = λ j. get_or unmet j 0;
@@ -101,22 +121,22 @@ pub started : (ranks : List ℕ) (e : Edges) (w v : Waiting) (i cycle : ℕ) →
     → Waits (graph_of e) (progress_of ranks w) (cycle + 1) 0 None → CanIssue (graph_of e) (progress_of ranks w) (cycle + 1) i
     → issued_list v ≡ set (issued_list w) i (Some cycle) → unmet_list v ≡ unmet_list w
     → earliest_list v ≡ earliest_list w → v.calendar ≡ w.calendar
-    → Waits (graph_of e) (progress_of ranks v) (cycle + 1) i ((graph_of e).head i)
-    × IsFrom (graph_of e) i ((graph_of e).head i)
+    → Walks (graph_of e) (progress_of ranks v) cycle ((graph_of e).head i)
 started ranks e w v i cycle is sized waits can issued unmet earliest calendar =
     let size : length (issued_list w) ≡ length e.heads.items = issued_size e w sized in
     let there : i < length e.heads.items = can.there in
+    let now : get_or (issued_list v) i None ≡ Some cycle =
+    ap (λ xs. get_or xs i None) issued ∙ get_or-set_same (issued_list w) i (Some cycle) None (omega arith) in
     let begun : Waits (graph_of e) (progress_by ranks (issued_list v) (unmet_list w) (earliest_list w) w.calendar) (cycle + 1) i
     ((graph_of e).head i) =
     begins (graph_of e) (progress_of ranks w) (cycle + 1) i cycle (λ j. get_or (issued_list v) j None) is waits can
-    (omega arith)
-    (ap (λ xs. get_or xs i None) issued ∙ get_or-set_same (issued_list w) i (Some cycle) None (omega arith))
-    (λ k apart. ap (λ xs. get_or xs k None) issued ∙ get_or-set_other (issued_list w) i k (Some cycle) None apart) in (
-      subst (λ xs. Waits (graph_of e) (progress_by ranks (issued_list v) xs (earliest_list v) v.calendar) (cycle + 1) i
-          ((graph_of e).head i)) (sym unmet)
-          (grind arith),
-      from_last (graph_of e) i ((graph_of e).head i) (is.heads i there),
-    )
+    (omega arith) now
+    (λ k apart. ap (λ xs. get_or xs k None) issued ∙ get_or-set_other (issued_list w) i k (Some cycle) None apart) in
+    walks_from (graph_of e) (progress_of ranks v) i cycle (length e.edges.items) ((graph_of e).head i) (is.heads i there)
+    (omega arith) now
+    (subst (λ xs. Waits (graph_of e) (progress_by ranks (issued_list v) xs (earliest_list v) v.calendar) (cycle + 1) i
+    ((graph_of e).head i)) (sym unmet)
+    (grind arith))
 
 -- the same places, since the same tables
 pub places_as_before : (ranks : List ℕ) (w v : Waiting) → unmet_list v ≡ unmet_list w → earliest_list v ≡ earliest_list w

@@ -82,6 +82,12 @@ impl Calendar {
         Ok(())
     }
 
+    /// Whether one word a set is enough.
+    #[inline(always)]
+    pub fn is_short(&self) -> bool {
+        self.blocks == 0
+    }
+
     /// Takes a rank out of what is ready.
     #[inline(always)]
     fn remove(&mut self, rank: u32)

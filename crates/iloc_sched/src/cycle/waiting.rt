@@ -34,7 +34,7 @@ pub struct Waiting {
 
 impl Waiting {
     ghost use Rattle.std.specs.Prelude.{None, Some};
-    ghost use Rattle.iloc_sched.specs.Steps.Cycle.Progress.{Waits, CanIssue, KeepsPlaces};
+    ghost use Rattle.iloc_sched.specs.Steps.Cycle.Progress.{Waits, Walks, CanIssue, KeepsPlaces, previous_of};
     ghost use Rattle.iloc_sched.specs.Steps.Views.{graph_of, issued_list, unmet_list, earliest_list, progress_of, IsSized};
     ghost use Rattle.iloc_sched.specs.Steps.Cycle.SoFar.{IsCalendar, waiting_count};
 
@@ -108,38 +108,40 @@ impl Waiting {
         self.states[i].issued = Some(cycle);
     }
 
-    /// Edge x is over, since its source was issued at this cycle: its target has one less to wait for. Answers the edge
-    /// before x out of the same source.
-    fn pass(&mut self, plan: &Plan, x: u32, cycle: u32) -> Option<u32>
+    /// Passes an edge whose source was issued at this cycle: its target has one less to wait for. For `None` it reads edge 0 in
+    /// its place, and changes nothing. Answers the edge before it out of the same source.
+    #[inline(always)]
+    fn pass(&mut self, plan: &Plan, at: Option<u32>, cycle: u32) -> Option<u32>
         requires small { cycle + LONGEST_DELAY + 1 < 2 ^ 32 }
         requires plan { IsPlan plan.now }
-        requires there { x < length plan.now.tables.now.edges.edges.items }
+        requires some { 0 < length plan.now.tables.now.edges.edges.items }
         requires sized { IsSized plan.now.tables.now.edges self.old }
         requires calendar { IsCalendar plan.now self.old.calendar }
-        requires issued { (progress_of plan.now.ranks.now self.old).issued ((graph_of plan.now.tables.now.edges).from x) ≡ Some cycle }
-        requires waits { Waits (graph_of plan.now.tables.now.edges) (progress_of plan.now.ranks.now self.old) (cycle + 1)
-            ((graph_of plan.now.tables.now.edges).from x) (Some x) }
-        ensures previous { result ≡ (graph_of plan.now.tables.now.edges).previous x }
-        ensures waits { Waits (graph_of plan.now.tables.now.edges) (progress_of plan.now.ranks.now self.new) (cycle + 1)
-            ((graph_of plan.now.tables.now.edges).from x) result }
+        requires walks { Walks (graph_of plan.now.tables.now.edges) (progress_of plan.now.ranks.now self.old) cycle at }
+        ensures previous { result ≡ previous_of (graph_of plan.now.tables.now.edges) at }
+        ensures walks { Walks (graph_of plan.now.tables.now.edges) (progress_of plan.now.ranks.now self.new) cycle result }
         ensures keeps { KeepsPlaces (progress_of plan.now.ranks.now self.old) (progress_of plan.now.ranks.now self.new) }
         ensures issued { issued_list self.new ≡ issued_list self.old }
         ensures sized { IsSized plan.now.tables.now.edges self.new }
         ensures calendar { IsCalendar plan.now self.new.calendar }
         ensures ready { (r : ℕ) → has self.new.calendar 32 r ≡ has self.old.calendar 32 r }
     {
-        let edge = plan.tables.edges.get(x as usize);
+        let some = at.is_some();
+        let edge = plan.tables.edges.get(at.unwrap_or(0) as usize);
         let target = edge.to as usize;
         let state = self.states[target];
-        let unmet = state.unmet - 1;
-        let earliest = state.earliest.max(cycle + edge.delay);
+        let unmet = state.unmet - u32::from(some);
+        let until = if some { cycle + edge.delay } else { 0 };
+        let earliest = state.earliest.max(until);
         self.change(target, unmet, earliest);
         self.calendar
-            .put_if(unmet == 0, plan.ranks[target], earliest);
+            .put_if(some && unmet == 0, plan.ranks[target], earliest);
         edge.previous
     }
 
-    /// Issues operation i at this cycle.
+    /// Issues operation i at this cycle. In a short block the first step along its edges isn't tested, since whether an operation
+    /// has an edge out of it is seldom predicted: a test costs 0.5 mispredicted branches for each operation of a block of ten, and
+    /// the step takes 30 instructions. In blocks of a hundred it costs 0.2.
     #[inline(always)]
     pub fn issue(&mut self, plan: &Plan, i: usize, cycle: u32)
         requires small { cycle + LONGEST_DELAY + 1 < 2 ^ 32 }
@@ -157,8 +159,11 @@ impl Waiting {
     {
         self.mark(i, cycle);
         let mut at = plan.tables.edges.last_from(i);
-        while let Some(x) = at {
-            at = self.pass(plan, x, cycle);
+        if self.calendar.is_short() && plan.tables.edges.edge_count() > 0 {
+            at = self.pass(plan, at, cycle);
+        }
+        while at.is_some() {
+            at = self.pass(plan, at, cycle);
         }
     }
 }

@@ -50,10 +50,16 @@ pub record MatchesRows (n : ℕ) (rows : List Row) (issued : ℕ → Option ℕ)
   pub done : (j t : ℕ) → j < n → issued j ≡ Some t → (issue_cycle rows j ≡ t) × (t < length rows)
   pub waiting : (j : ℕ) → j < n → issued j ≡ None → length rows ≤ issue_cycle rows j
 
--- the edges out of i are gone through, and `at` is the next
-abbrev pub IsFrom : Graph → ℕ → Option ℕ → Type 0
-IsFrom graph i None = Unit {0}
-IsFrom graph i (Some x) = (x < graph.count) × (graph.from x ≡ i)
+-- the edges out of an operation that is issued at cycle c are gone through, and `at` is the next, if there is one
+abbrev pub Walks : Graph → Progress → ℕ → Option ℕ → Type 0
+Walks graph w c None = Waits graph w (c + 1) 0 None
+Walks graph w c (Some x) =
+    (x < graph.count) × (w.issued (graph.from x) ≡ Some c) × Waits graph w (c + 1) (graph.from x) (Some x)
+
+-- the edge before it, if there is one
+abbrev pub previous_of : Graph → Option ℕ → Option ℕ
+previous_of graph None = None
+previous_of graph (Some x) = graph.previous x
 
 -- an operation that waits for nothing more keeps its place
 abbrev pub KeepsPlaces : Progress → Progress → Type 0

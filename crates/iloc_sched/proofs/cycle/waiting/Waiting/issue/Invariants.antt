@@ -1,14 +1,13 @@
-use Rattle.std.proofs.Common.{ℕ, ◌≡◌, ◌+◌, slice_set, Some}
+use Rattle.std.proofs.Common.{ℕ, ◌≡◌, slice_set, Some}
 use Rattle.iloc_sched.specs.Steps.Cycle.Calendar.{has}
-use Rattle.iloc_sched.specs.Steps.Cycle.Progress.{Waits, KeepsPlaces, IsFrom, edges_left}
+use Rattle.iloc_sched.specs.Steps.Cycle.Progress.{Walks, KeepsPlaces, edges_left}
 use Rattle.iloc_sched.specs.Steps.Cycle.SoFar.{IsCalendar}
 use Rattle.iloc_sched.specs.Steps.Views.{graph_of, issued_list, progress_of, IsSized}
 use Rattle.iloc_sched.proofs.cycle.waiting.Waiting.issue.Given as goal
 
 abbrev pub invariant-loop-at : goal.invariant-loop-at
 invariant-loop-at l = record {
-  waits : Waits (graph_of l.plan.tables.now.edges) (progress_of l.plan.ranks.now l.self) (l.cycle + 1) l.i l.at;
-  from : IsFrom (graph_of l.plan.tables.now.edges) l.i l.at;
+  walks : Walks (graph_of l.plan.tables.now.edges) (progress_of l.plan.ranks.now l.self) l.cycle l.at;
   issued : issued_list l.self ≡ slice_set (issued_list l.fn.self) l.i (Some l.cycle);
   keeps : KeepsPlaces (progress_of l.plan.ranks.now l.fn.self) (progress_of l.plan.ranks.now l.self);
   sized : IsSized l.plan.tables.now.edges l.self;
