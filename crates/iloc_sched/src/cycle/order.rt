@@ -1,5 +1,5 @@
 //! Operations by their ranks: their places in the order of choice.
-ghost use Rattle.std.specs.Prelude.{ℕ, ◌<◌, ◌≤◌, length, slice_index, OnOk};
+ghost use Rattle.std.specs.Prelude.{◌≤◌, length, OnOk};
 
 use crate::cycle::counting::{Counting, lengthen};
 use crate::cycle::keys::{place_by_keys, sort_keys};
@@ -18,17 +18,6 @@ pub struct Order {
     pub ranks: Vec<u32>,
     counting: Counting,
     keys: Vec<u64>,
-}
-
-/// A number above all priorities.
-fn end_of(priorities: &[u32]) -> usize
-    ensures { (i : ℕ) → i < length priorities.now → slice_index priorities.now i < result }
-{
-    let mut most = 0;
-    for i in 0..priorities.len() {
-        most = priorities[i].max(most);
-    }
-    most as usize + 1
 }
 
 impl Order {
@@ -52,14 +41,16 @@ impl Order {
         let count = priorities.len();
         lengthen(&mut self.by_rank, count)?;
         lengthen(&mut self.ranks, count)?;
-        let end = end_of(priorities);
-        if end <= COUNTED * count {
-            self.counting
-                .place(&mut self.by_rank, &mut self.ranks, priorities, end)?;
-        } else {
-            sort_keys(&mut self.keys, priorities)?;
-            place_by_keys(&mut self.by_rank, &mut self.ranks, priorities, &self.keys);
+        if self.counting.place(
+            &mut self.by_rank,
+            &mut self.ranks,
+            priorities,
+            COUNTED * count,
+        )? {
+            return Ok(());
         }
+        sort_keys(&mut self.keys, priorities)?;
+        place_by_keys(&mut self.by_rank, &mut self.ranks, priorities, &self.keys);
         Ok(())
     }
 }
