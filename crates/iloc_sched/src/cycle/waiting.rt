@@ -140,8 +140,8 @@ impl Waiting {
     }
 
     /// Issues operation i at this cycle. In a short block the first step along its edges isn't tested, since whether an operation
-    /// has an edge out of it is seldom predicted: a test costs 0.5 mispredicted branches for each operation of a block of ten, and
-    /// the step takes 30 instructions. In blocks of a hundred it costs 0.2.
+    /// has an edge out of it is seldom predicted: in blocks of ten operations a test costs 0.2 to 0.5 mispredicted branches for
+    /// each, and the step 35 instructions. In blocks of a hundred it costs 0.2.
     #[inline(always)]
     pub fn issue(&mut self, plan: &Plan, i: usize, cycle: u32)
         requires small { cycle + LONGEST_DELAY + 1 < 2 ^ 32 }
