@@ -1,41 +1,42 @@
--- Eight elements that are set, from the last to the first.
-use Rattle.std.proofs.Common.{◌≡◌, ◌+◌, ◌-◌, ◌≤◌, ◌<◌, ℕ, List, [], ◌∷◌, ◌++◌, ◌∙◌, drop, length, set, get_or, refl, arith, length-set}
+-- Elements that are set, from the last to the first, and the elements of eight.
+use Rattle.std.proofs.Common.{◌≡◌, ◌+◌, ◌≤◌, ℕ, zero, suc, List, [], ◌∷◌, ◌++◌, ◌∙◌, drop, length, set, get_or, refl, subst, arith, length-set}
 use Rattle.std.proofs.lemmas.Grind.{drop-set_at}
-use Rattle.std.proofs.lemmas.List.{drop-drop, drop-append-le}
+use Rattle.std.proofs.lemmas.List.{drop-drop, drop-append-le, drop_more, drop_all}
 
--- one more before those that are set
-one : (xs : List ℕ) (i n y : ℕ) → n ≡ i + 1 → i < length xs → drop i (set xs i y) ≡ y ∷ drop n xs
-one xs i n y e h = rw e (drop-set_at xs i i y (λ j. i) h)
+-- the list where, from `at` and k on, n elements of the other one from k on are set
+abbrev sets : List ℕ → ℕ → List ℕ → ℕ → ℕ → List ℕ
+sets xs at bs k zero = xs
+sets xs at bs k (suc n) = set (sets xs at bs (k + 1) n) (at + k) (get_or bs k 0)
+
+length-sets : (xs : List ℕ) (at : ℕ) (bs : List ℕ) (k n : ℕ) → length (sets xs at bs k n) ≡ length xs
+length-sets xs at bs k zero = refl
+length-sets xs at bs k (suc n) = length-set (sets xs at bs (k + 1) n) (at + k) (get_or bs k 0) ∙ length-sets xs at bs (k + 1) n
 
 -- what is set is what the list has then
-drop_sets : (xs : List ℕ) (i a b c d e f g h : ℕ) → i + 8 ≤ length xs
-    → drop i (set (set (set (set (set (set (set (set xs (i + 7) h) (i + 6) g) (i + 5) f) (i + 4) e) (i + 3) d) (i + 2) c) (i + 1) b) i a)
-    ≡ a ∷ b ∷ c ∷ d ∷ e ∷ f ∷ g ∷ h ∷ drop (i + 8) xs
-drop_sets xs i a b c d e f g h k =
-    let x7 = set xs (i + 7) h in
-    let x6 = set x7 (i + 6) g in
-    let x5 = set x6 (i + 5) f in
-    let x4 = set x5 (i + 4) e in
-    let x3 = set x4 (i + 3) d in
-    let x2 = set x3 (i + 2) c in
-    let x1 = set x2 (i + 1) b in
-    let l7 = length-set xs (i + 7) h in
-    let l6 = length-set x7 (i + 6) g in
-    let l5 = length-set x6 (i + 5) f in
-    let l4 = length-set x5 (i + 4) e in
-    let l3 = length-set x4 (i + 3) d in
-    let l2 = length-set x3 (i + 2) c in
-    let l1 = length-set x2 (i + 1) b in
+drop-sets : (xs : List ℕ) (at : ℕ) (bs : List ℕ) (k n : ℕ) → k + n ≡ length bs → at + length bs ≤ length xs
+    → drop (at + k) (sets xs at bs k n) ≡ drop k bs ++ drop (at + length bs) xs
+drop-sets xs at bs k zero all h =
+    let e : at + k ≡ at + length bs = omega arith in
+    rw (e, drop_all k bs (omega arith))
+drop-sets xs at bs k (suc n) all h =
+    let ys = sets xs at bs (k + 1) n in
+    let l = length-sets xs at bs (k + 1) n in
+    let e : at + k + 1 ≡ at + (k + 1) = omega arith in
     rw (
-      one x1 i (i + 1) a (omega arith) (omega arith),
-      one x2 (i + 1) (i + 2) b (omega arith) (omega arith),
-      one x3 (i + 2) (i + 3) c (omega arith) (omega arith),
-      one x4 (i + 3) (i + 4) d (omega arith) (omega arith),
-      one x5 (i + 4) (i + 5) e (omega arith) (omega arith),
-      one x6 (i + 5) (i + 6) f (omega arith) (omega arith),
-      one x7 (i + 6) (i + 7) g (omega arith) (omega arith),
-      one xs (i + 7) (i + 8) h (omega arith) (omega arith),
+      drop-set_at ys (at + k) (at + k) (get_or bs k 0) refl (omega arith),
+      e,
+      drop-sets xs at bs (k + 1) n (omega arith) h,
+      drop_more bs k 0 (omega arith),
     )
+
+-- where all elements of a list are set before a place, those from one of them on are what the list has then
+pub last_of_sets : (bs xs : List ℕ) (at end skipped n : ℕ) → at + length bs ≡ end → end ≤ length xs → 1 + n ≡ length bs → skipped ≤ length bs
+    → drop (at + skipped) (set (sets xs at bs 1 n) at (get_or bs 0 0)) ≡ drop skipped bs ++ drop end xs
+last_of_sets bs xs at end skipped n e h all few =
+    let first : at + 0 ≡ at = omega arith in
+    let s = drop-sets xs at bs 0 (suc n) (omega arith) (omega arith) in
+    rw (← e, ← drop-drop skipped at _, subst (λ i. drop i (set (sets xs at bs 1 n) i (get_or bs 0 0)) ≡ bs ++ drop (at + length bs) xs) first s)
+    (drop-append-le skipped bs _ few)
 
 -- the elements of eight
 pub eight : (xs rest : List ℕ) → length xs ≡ 8 → get_or xs 0 0 ∷ get_or xs 1 0 ∷ get_or xs 2 0 ∷ get_or xs 3 0 ∷ get_or xs 4 0
@@ -50,15 +51,3 @@ eight (a ∷ b ∷ c ∷ d ∷ e ∷ f ∷ []) rest k = absurd (omega (arith, k)
 eight (a ∷ b ∷ c ∷ d ∷ e ∷ f ∷ g ∷ []) rest k = absurd (omega (arith, k))
 eight (a ∷ b ∷ c ∷ d ∷ e ∷ f ∷ g ∷ h ∷ []) rest k = refl
 eight (a ∷ b ∷ c ∷ d ∷ e ∷ f ∷ g ∷ h ∷ i ∷ more) rest k = absurd (omega (arith, k))
-
--- where eight elements are set before a place, the last ones are theirs
-pub last_of_sets : (bs xs : List ℕ) (end count : ℕ) → 8 ≤ end → end ≤ length xs → length bs ≡ 8 → count ≤ 8
-    → drop (end - count) (set (set (set (set (set (set (set (set xs (end - 8 + 7) (get_or bs 7 0)) (end - 8 + 6) (get_or bs 6 0)) (end - 8 + 5) (get_or bs 5 0))
-    (end - 8 + 4) (get_or bs 4 0)) (end - 8 + 3) (get_or bs 3 0)) (end - 8 + 2) (get_or bs 2 0)) (end - 8 + 1) (get_or bs 1 0)) (end - 8) (get_or bs 0 0))
-    ≡ drop (8 - count) bs ++ drop end xs
-last_of_sets bs xs end count lo hi eight_long few =
-    let at = end - 8 in
-    let start : end - count ≡ at + (8 - count) = omega arith in
-    let back : at + 8 ≡ end = omega arith in
-    let all = drop_sets xs at _ _ _ _ _ _ _ _ (omega arith) ∙ eight bs (drop (at + 8) xs) eight_long in
-    rw (start, ← drop-drop (8 - count) at _, all, back) (drop-append-le (8 - count) bs (drop end xs) (omega arith))

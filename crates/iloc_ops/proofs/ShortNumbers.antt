@@ -1,7 +1,7 @@
 -- Numbers below 10,000 in decimal, as the code computes them: each of them is tried.
 use Rattle.std.proofs.Common.{◌≡◌, ◌+◌, ◌-◌, ◌*◌, ◌/◌, ◌%◌, ◌≤◌, ◌<◌, ◌^◌, ℕ, zero, suc, true, cond, List, [], ◌∷◌, ◌++◌, drop, length, nat_lt, refl, ◌∙◌, arith, rules}
 use Rattle.std.specs.Fmt.{decimal}
-use Rattle.std.specs.Int.{w64, to_le_bytes}
+use Rattle.std.specs.Int.{w32, to_le_bytes}
 use Rattle.std.specs.Int.Bits.{bit_and, bit_or}
 use Rattle.std.specs.Int.Count.{count_trailing_zeros}
 use Rattle.std.specs.Str.{bytes_eq}
@@ -24,7 +24,7 @@ abbrev digits : ℕ → ℕ
 digits n = halves n * 256 % 4294967296 - tens n * 2559
 
 abbrev text : ℕ → List ℕ
-text n = drop (8 - (4 - count_trailing_zeros 32 (bit_or (digits n) 16777216) / 8)) (to_le_bytes w64 ((digits n + 808464432) * 4294967296 % 18446744073709551616))
+text n = drop (count_trailing_zeros 32 (bit_or (digits n) 16777216) / 8) (to_le_bytes w32 (digits n + 808464432))
 
 -- in decimal, of at most so many digits
 abbrev spelled : ℕ → ℕ → List ℕ

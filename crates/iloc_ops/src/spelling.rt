@@ -1,9 +1,10 @@
 //! How operations and numbers are written.
-ghost use Rattle.std.specs.Prelude.{◌≡◌, [], ◌∷◌, ◌++◌, OnOk, OnErr, drop, vec_len, vec_capacity, length, slice_get, ◌+◌, ◌<◌, ◌≤◌};
+ghost use Rattle.std.specs.Prelude.{◌≡◌, [], ◌∷◌, ◌++◌, Any, IfNone, IfSome, IsSomeAnd, OnOk, OnErr, drop, vec_len, vec_capacity, length, slice_get, ◌+◌, ◌<◌, ◌≤◌};
 ghost use Rattle.iloc_ops.specs.Forms.{numbers};
 ghost use Rattle.iloc_ops.specs.Spelling.{spelling};
 ghost use Rattle.iloc_ops.specs.Steps.Laid.{IsShort, laid_out, operand_text};
 ghost use Rattle.iloc_ops.specs.declared.spelling.TheConstants.{LONGEST_OPERATION};
+ghost use Rattle.iloc_ops.specs.declared.spelling.digits.TheConstants.{SHORT};
 
 mod digits;
 mod layout;
@@ -11,8 +12,8 @@ mod layout;
 use crate::forms::{Operands, form_of};
 use crate::no_memory::NoMemory;
 use crate::op::Op;
-use digits::write_number;
-use itoa::{Buffer, Integer};
+use digits::{SHORT, write_short_number};
+use itoa::{Buffer, Integer, write_digits};
 pub(crate) use layout::LAYOUTS;
 use layout::{Layout, layout_of};
 pub use layout::{Word, write_word};
@@ -62,10 +63,45 @@ pub fn write_op(line: &mut [u8], end: usize, op: &Op) -> usize
     write_laid_out(line, end, op, layout_of(op))
 }
 
-/// Writes an operation as its layout has it. Inlined together with `layout_of` it jumps by the opcode, and mispredicts 0.2 to 0.3
-/// branches more for each operation.
+/// Writes an operation as its layout has it, and gives where it starts.
+///
+/// Inlined together with `layout_of` it jumps by the opcode, and mispredicts 0.2 to 0.3 branches more for each operation. Numbers of
+/// five digits and more are out of its way: if they were called for in it, it would save registers, 12 instructions for each operation.
 #[inline(never)]
 fn write_laid_out(line: &mut [u8], end: usize, op: &Op, layout: &Layout) -> usize
+    requires { (LONGEST_OPERATION ≤ end) × (end ≤ length line.old) × IsShort layout.now }
+    ensures space { (result ≤ end) × (end ≤ result + LONGEST_OPERATION) }
+    ensures length { length line.new ≡ length line.old }
+    ensures written { drop result line.new ≡ laid_out layout.now op.now ++ drop end line.old }
+{
+    match write_with_short_numbers(line, end, op, layout) {
+        Some(start) => start,
+        None => write_with_any_numbers(line, end, op, layout),
+    }
+}
+
+/// Writes an operation as its layout has it, if each of its numbers is short; `None` if one is not. The bytes after `end` stay.
+#[inline(always)]
+#[tactic(auto, using(crate::proofs::ShortOperands::any_at))]
+fn write_with_short_numbers(line: &mut [u8], end: usize, op: &Op, layout: &Layout) -> Option<usize>
+    requires { (LONGEST_OPERATION ≤ end) × (end ≤ length line.old) × IsShort layout.now }
+    ensures space { IfSome result (λ start. (start ≤ end) × (end ≤ start + LONGEST_OPERATION)) }
+    ensures length { length line.new ≡ length line.old }
+    ensures written { IfSome result (λ start. drop start line.new ≡ laid_out layout.now op.now ++ drop end line.old) }
+    ensures kept { IfNone result (drop end line.new ≡ drop end line.old) }
+    ensures long { IfNone result (Any (λ n. SHORT ≤ n) (numbers op.now)) }
+{
+    let [first, second, third] = numbers(op);
+    let end = write_short_operand(line, end, &layout.third, third)?;
+    let end = write_short_operand(line, end, &layout.second, second)?;
+    let end = write_short_operand(line, end, &layout.first, first)?;
+    Some(write_word(line, end, &layout.opcode))
+}
+
+/// Writes an operation as its layout has it, whatever its numbers are.
+#[cold]
+#[inline(never)]
+fn write_with_any_numbers(line: &mut [u8], end: usize, op: &Op, layout: &Layout) -> usize
     requires { (LONGEST_OPERATION ≤ end) × (end ≤ length line.old) × IsShort layout.now }
     ensures space { (result ≤ end) × (end ≤ result + LONGEST_OPERATION) }
     ensures length { length line.new ≡ length line.old }
@@ -95,8 +131,35 @@ fn numbers(op: &Op) -> [Option<u32>; 3]
     }
 }
 
+/// Writes `lead` and the number, if there is one, so that they end at `end`, and gives where they start; `None`, with nothing written,
+/// if the number is not short.
+#[inline(always)]
+fn write_short_operand(
+    line: &mut [u8],
+    end: usize,
+    lead: &Word,
+    number: Option<u32>,
+) -> Option<usize>
+    requires { (12 ≤ end) × (end ≤ length line.old) × (lead.now.length ≤ 8) }
+    ensures space { IfSome result (λ start. (start ≤ end) × (end ≤ start + 12)) }
+    ensures length { length line.new ≡ length line.old }
+    ensures written { IfSome result (λ start. drop start line.new ≡ operand_text lead.now number ++ drop end line.old) }
+    ensures kept { IfNone result (line.new ≡ line.old) }
+    ensures long { IfNone result (IsSomeAnd number (λ n. SHORT ≤ n)) }
+{
+    let Some(number) = number else {
+        return Some(end);
+    };
+    if number >= SHORT {
+        return None;
+    }
+    let end = write_short_number(line, end, number);
+    Some(write_word(line, end, lead))
+}
+
 /// Writes `lead` and the number, if there is one, so that they end at `end`, and gives where they start.
 #[inline(always)]
+#[tactic(auto, using(crate::proofs::ShortNumbers::decimal_is_short))]
 fn write_operand(line: &mut [u8], end: usize, lead: &Word, number: Option<u32>) -> usize
     requires { (18 ≤ end) × (end ≤ length line.old) × (lead.now.length ≤ 8) }
     ensures space { (result ≤ end) × (end ≤ result + 18) }
@@ -105,7 +168,7 @@ fn write_operand(line: &mut [u8], end: usize, lead: &Word, number: Option<u32>) 
 {
     match number {
         Some(number) => {
-            let end = write_number(line, end, number);
+            let end = write_digits(u64::from(number), line, end);
             write_word(line, end, lead)
         }
         None => end,

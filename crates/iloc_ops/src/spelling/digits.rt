@@ -1,47 +1,37 @@
-//! How numbers are written, those below 10,000 without a branch on how many digits they have.
+//! How numbers below 10,000 are written, without a branch on how many digits they have.
 ghost use Rattle.std.specs.Prelude.{◌≡◌, ◌≤◌, ◌<◌, ◌+◌, ◌++◌, drop, length};
 ghost use Rattle.std.specs.Fmt.{decimal};
-ghost use Rattle.iloc_ops.specs.Spelling.{word_text};
+ghost use Rattle.iloc_ops.specs.declared.spelling.digits.TheConstants.{SHORT};
 
-use super::layout::{Word, write_word};
-use itoa::write_digits;
+/// Numbers below it are short: they have at most four digits.
+pub(super) const SHORT: u32 = 10_000;
 
-/// Writes the number so that it ends at `end`, and gives where it starts.
-#[inline(always)]
-pub(super) fn write_number(line: &mut [u8], end: usize, number: u32) -> usize
-    requires { (10 ≤ end) × (end ≤ length line.old) }
-    ensures space { (result ≤ end) × (end ≤ result + 10) }
-    ensures length { length line.new ≡ length line.old }
-    ensures written { drop result line.new ≡ decimal number ++ drop end line.old }
-{
-    if number >= 10_000 {
-        return write_long(line, end, number);
-    }
-    write_word(line, end, &short_number(number))
-}
-
-/// Writes any number so that it ends at `end`, and gives where it starts.
-#[cold]
-#[inline(never)]
-#[tactic(auto, using(crate::proofs::ShortNumbers::decimal_is_short))]
-fn write_long(line: &mut [u8], end: usize, number: u32) -> usize
-    requires { (10 ≤ end) × (end ≤ length line.old) }
-    ensures space { (result ≤ end) × (end ≤ result + 10) }
-    ensures length { length line.new ≡ length line.old }
-    ensures written { drop result line.new ≡ decimal number ++ drop end line.old }
-{
-    write_digits(u64::from(number), line, end)
-}
-
-/// A number below 10,000 in decimal.
+/// Writes a short number so that it ends at `end`, and gives where it starts.
 ///
-/// Its four digits are computed side by side, zeros first. With `write_digits` 0.6 to 1.2 branches more are mispredicted for each
-/// operation, which is 1 to 9 ns of the 195 that `schedule` takes for it.
+/// With `write_digits` 0.6 to 1.2 branches more are mispredicted for each operation, which is 1 to 9 ns of the 195 that `schedule`
+/// takes for it.
 #[inline(always)]
-fn short_number(number: u32) -> Word
-    requires { number < 10000 }
-    ensures text { word_text result ≡ decimal number }
-    ensures short { result.length ≤ 8 }
+pub(super) fn write_short_number(line: &mut [u8], end: usize, number: u32) -> usize
+    requires { (4 ≤ end) × (end ≤ length line.old) × (number < SHORT) }
+    ensures space { (result ≤ end) × (end ≤ result + 4) }
+    ensures length { length line.new ≡ length line.old }
+    ensures written { drop result line.new ≡ decimal number ++ drop end line.old }
+{
+    let (digits, zeros) = four_digits(number);
+    let start = end - 4;
+    line[start + 3] = digits[3];
+    line[start + 2] = digits[2];
+    line[start + 1] = digits[1];
+    line[start] = digits[0];
+    start + zeros
+}
+
+/// The four digits of a short number, zeros first, and where the number starts among them. They are computed side by side.
+#[inline(always)]
+fn four_digits(number: u32) -> ([u8; 4], usize)
+    requires { number < SHORT }
+    ensures text { drop result.1 result.0 ≡ decimal number }
+    ensures few { result.1 ≤ 4 }
 {
     // Products in place of quotients, which are the same below 10,000: by 100, and then of both halves by 10 at once.
     let hundreds = (number * 5243) >> 19;
@@ -49,8 +39,5 @@ fn short_number(number: u32) -> Word
     let tens = ((halves * 103) >> 10) & 0x000f_000f;
     let digits = (halves << 8) - tens * (10 * 256 - 1);
     let zeros = (digits | 0x0100_0000).trailing_zeros() / 8;
-    Word {
-        bytes: (u64::from(digits + 0x3030_3030) << 32).to_le_bytes(),
-        length: 4 - zeros as usize,
-    }
+    ((digits + 0x3030_3030).to_le_bytes(), zeros as usize)
 }

@@ -1,7 +1,10 @@
+use Rattle.std.proofs.Common.{◌≡◌, ◌+◌, ◌-◌, arith}
 use Rattle.iloc_ops.proofs.Sets.{last_of_sets}
 use Rattle.iloc_ops.proofs.spelling.layout.write_last.Goals as goal
 
 pub returns-clause-written : goal.returns-clause-written
 returns-clause-written c =
-    let r = c.requires in
-    last_of_sets c.args.bytes.now c.args.line.now c.args.end c.args.count r.0 r.1 r.2 r.3
+    let start : c.args.end - c.args.count ≡ c.args.end - 8 + (8 - c.args.count) = omega arith in
+    rw start
+    (last_of_sets c.args.bytes.now c.args.line.now (c.args.end - 8) c.args.end (8 - c.args.count) 7 (omega arith) c.requires.1 (omega arith)
+    (omega arith))
