@@ -3,8 +3,8 @@
 ghost use Rattle.std.specs.Prelude.{◌≡◌, ◌<◌, ◌≤◌, ◌+◌, ◌++◌, ℕ, List, [], ◌∷◌, true, nat_lt, Some, IfSome, length, get_or, drop};
 ghost use Rattle.std.specs.Simd.Lanes.{number_l};
 ghost use Rattle.iloc_text.specs.declared.line.scan.TheConstants.{ABOVE_LIMIT};
-ghost use Rattle.iloc_text.specs.Steps.FastPath.{operand_of, first_operand, lead_of, shape_of};
-ghost use Rattle.iloc_text.specs.Steps.Scan.{after_blanks, some_blanks_at, comma_at, arrow_at, register_at, number_at, operand_at, called_at, is_within_limit};
+ghost use Rattle.iloc_text.specs.Steps.FastPath.{operand_of, lead_of, shape_of};
+ghost use Rattle.iloc_text.specs.Steps.Scan.{some_blanks_at, comma_at, arrow_at, register_at, number_at, operand_at, called_at, is_within_limit};
 
 use crate::line::numbers::fast_number_at;
 use crate::line::scan::{arrow_at, comma_at, some_blanks_at};
@@ -27,8 +27,7 @@ fn place_of(bytes: &[u8], rest: &[u8], most: usize) -> usize
 }
 
 /// The place after all blanks at a place; 0 if there are none, or too many.
-#[cold]
-#[inline(never)]
+#[inline(always)]
 fn place_behind_blanks(bytes: &[u8], at: usize) -> usize
     requires { at ≤ length bytes.now }
     ensures is { 0 < result → some_blanks_at (drop at bytes.now) ≡ Some (drop result bytes.now) }
@@ -66,25 +65,46 @@ fn place_behind_arrow(bytes: &[u8], at: usize) -> usize
     }
 }
 
-/// What precedes the second or the third number of an operation.
+/// What precedes a number of an operation.
 #[derive(Clone, Copy)]
 enum Kind {
+    BlankRegister,
+    BlankConstant,
     CommaRegister,
     CommaConstant,
     ArrowRegister,
 }
 
-/// What mostly precedes a number: the bytes of `word`, whose bits are those of `mask`.
+/// What mostly precedes a number: the bytes of `word`, or of `tabbed` where a tab stands for a blank, whose bits are those of
+/// `mask`.
 struct Lead {
     kind: Kind,
     word: u64,
+    tabbed: u64,
     mask: u64,
     length: usize,
 }
 
+const BLANK_REGISTER: Lead = Lead {
+    kind: Kind::BlankRegister,
+    word: 0x7220,
+    tabbed: 0x7209,
+    mask: 0xffff,
+    length: 2,
+};
+
+const BLANK_CONSTANT: Lead = Lead {
+    kind: Kind::BlankConstant,
+    word: 0x20,
+    tabbed: 0x09,
+    mask: 0xff,
+    length: 1,
+};
+
 const COMMA_REGISTER: Lead = Lead {
     kind: Kind::CommaRegister,
     word: 0x72_202c,
+    tabbed: 0x72_092c,
     mask: 0xff_ffff,
     length: 3,
 };
@@ -92,6 +112,7 @@ const COMMA_REGISTER: Lead = Lead {
 const COMMA_CONSTANT: Lead = Lead {
     kind: Kind::CommaConstant,
     word: 0x202c,
+    tabbed: 0x092c,
     mask: 0xffff,
     length: 2,
 };
@@ -99,43 +120,43 @@ const COMMA_CONSTANT: Lead = Lead {
 const ARROW_REGISTER: Lead = Lead {
     kind: Kind::ArrowRegister,
     word: 0x72_203e_3d20,
+    tabbed: 0x72_203e_3d09,
     mask: 0xff_ffff_ffff,
     length: 5,
 };
 
-/// The operands of an opcode: how many there are, whether the first one is a register, and what precedes the others, if
-/// there are others.
+/// The operands of an opcode: how many there are, and what precedes each of them.
 struct Shape {
     count: u8,
-    register: bool,
+    first: Lead,
     second: Lead,
     third: Lead,
 }
 
 macro_rules! shape {
-    ($count:literal, $register:literal, $second:expr, $third:expr) => {
+    ($count:literal, $first:expr, $second:expr, $third:expr) => {
         Shape {
             count: $count,
-            register: $register,
+            first: $first,
             second: $second,
             third: $third,
         }
     };
 }
 
-const NOTHING: Shape = shape!(0, false, ARROW_REGISTER, ARROW_REGISTER);
+const NOTHING: Shape = shape!(0, BLANK_CONSTANT, ARROW_REGISTER, ARROW_REGISTER);
 
-const CONSTANT: Shape = shape!(1, false, ARROW_REGISTER, ARROW_REGISTER);
+const CONSTANT: Shape = shape!(1, BLANK_CONSTANT, ARROW_REGISTER, ARROW_REGISTER);
 
-const IMMEDIATE: Shape = shape!(2, false, ARROW_REGISTER, ARROW_REGISTER);
+const IMMEDIATE: Shape = shape!(2, BLANK_CONSTANT, ARROW_REGISTER, ARROW_REGISTER);
 
-const COPIED: Shape = shape!(2, true, ARROW_REGISTER, ARROW_REGISTER);
+const COPIED: Shape = shape!(2, BLANK_REGISTER, ARROW_REGISTER, ARROW_REGISTER);
 
-const SOURCES: Shape = shape!(3, true, COMMA_REGISTER, ARROW_REGISTER);
+const SOURCES: Shape = shape!(3, BLANK_REGISTER, COMMA_REGISTER, ARROW_REGISTER);
 
-const WITH_CONSTANT: Shape = shape!(3, true, COMMA_CONSTANT, ARROW_REGISTER);
+const WITH_CONSTANT: Shape = shape!(3, BLANK_REGISTER, COMMA_CONSTANT, ARROW_REGISTER);
 
-const STORED_AT: Shape = shape!(3, true, ARROW_REGISTER, COMMA_CONSTANT);
+const STORED_AT: Shape = shape!(3, BLANK_REGISTER, ARROW_REGISTER, COMMA_CONSTANT);
 
 /// The operands of the opcodes, in the order of their declaration.
 const SHAPES: &[Shape; 17] = &[
@@ -205,6 +226,11 @@ fn place_behind(kind: Kind, bytes: &[u8], at: usize) -> usize
     ensures near { result ≤ at + MOST_PASSED + 1 }
 {
     match kind {
+        Kind::BlankConstant => place_behind_blanks(bytes, at),
+        Kind::BlankRegister => match place_behind_blanks(bytes, at) {
+            0 => 0,
+            place => place_behind_letter(bytes, place),
+        },
         Kind::CommaConstant => place_behind_comma(bytes, at),
         Kind::CommaRegister => match place_behind_comma(bytes, at) {
             0 => 0,
@@ -238,46 +264,14 @@ fn operand_from(lead: &Lead, bytes: &[u8], at: usize) -> Option<(u32, usize)>
     ensures small { IfSome result (λ found. nat_lt found.0 ABOVE_LIMIT ≡ true) }
     ensures near { IfSome result (λ found. found.1 ≤ at + MOST_PASSED + 11) }
 {
-    if word_from(bytes, at) & lead.mask == lead.word {
+    let front = word_from(bytes, at) & lead.mask;
+    if front == lead.word || front == lead.tabbed {
         return number_from(bytes, at + lead.length);
     }
     match place_behind(lead.kind, bytes, at) {
         0 => None,
         place => number_from(bytes, place),
     }
-}
-
-/// The place after blanks at a place; 0 if there are none, or too many.
-#[inline(always)]
-fn first_place(bytes: &[u8], at: usize) -> usize
-    requires { at < length bytes.now }
-    ensures is { 0 < result → some_blanks_at (drop at bytes.now) ≡ Some (after_blanks (drop result bytes.now)) }
-    ensures near { result ≤ at + MOST_PASSED }
-{
-    if bytes[at] == b' ' || bytes[at] == b'\t' {
-        at + 1
-    } else {
-        place_behind_blanks(bytes, at)
-    }
-}
-
-/// Blanks at a place, and the first number, which is that of a register or a constant.
-#[inline(always)]
-fn first_from(register: bool, bytes: &[u8], at: usize) -> Option<(u32, usize)>
-    requires { at + MOST_PASSED + 9 ≤ length bytes.now }
-    ensures is { IfSome result (λ found. operand_at (first_operand register) (drop at bytes.now) ≡ Some (found.0, drop found.1 bytes.now)) }
-    ensures small { IfSome result (λ found. nat_lt found.0 ABOVE_LIMIT ≡ true) }
-    ensures near { IfSome result (λ found. found.1 ≤ at + MOST_PASSED + 11) }
-{
-    let place = first_place(bytes, at);
-    if place == 0 {
-        return None;
-    }
-    let letter = bytes[place] == b'r';
-    if letter != register {
-        return None;
-    }
-    number_from(bytes, place + usize::from(letter))
 }
 
 /// The operation of an opcode and of the operands at a place, and the place after these.
@@ -295,7 +289,7 @@ pub fn fast_called_at(opcode: Opcode, bytes: &[u8], start: usize) -> Option<(Op,
     if shape.count == 0 {
         return Some((op_of(opcode, &[0, 0, 0]), start));
     }
-    let (first, at) = first_from(shape.register, bytes, start)?;
+    let (first, at) = operand_from(&shape.first, bytes, start)?;
     if shape.count == 1 {
         return Some((op_of(opcode, &[first, 0, 0]), at));
     }

@@ -1,5 +1,5 @@
 use Rattle.std.proofs.Common.{refl, arith}
-use Rattle.iloc_text.proofs.FastPath.{called_none, called_one, called_two, called_three, few, second_lead, third_lead, small_op}
+use Rattle.iloc_text.proofs.FastPath.{called_none, called_one, called_two, called_three, few, first_lead, second_lead, third_lead, small_op}
 use Rattle.iloc_text.proofs.line.fast_path.fast_called_at.Goals as goal
 
 pub returns-then-shape-eq0-clause-is : goal.returns-then-shape-eq0-clause-is
@@ -19,7 +19,10 @@ returns-then-shape-eq1-clause-small c =
     rw c.op_of-then-shape-eq1.ensures (small_op c.args.opcode _ 0 0 c.in_ok-first.ensures.small refl refl)
 
 pub operand_from-requires-clause-lead : goal.operand_from-requires-clause-lead
-operand_from-requires-clause-lead c = second_lead c.args.opcode c.shape_of-shape.result.now c.shape_of-shape.ensures
+operand_from-requires-clause-lead c = first_lead c.args.opcode c.shape_of-shape.result.now c.shape_of-shape.ensures
+
+pub operand_from-requires-2-clause-lead : goal.operand_from-requires-2-clause-lead
+operand_from-requires-2-clause-lead c = second_lead c.args.opcode c.shape_of-shape.result.now c.shape_of-shape.ensures
 
 pub returns-then-shape-eq2-clause-is : goal.returns-then-shape-eq2-clause-is
 returns-then-shape-eq2-clause-is c =
@@ -31,8 +34,8 @@ returns-then-shape-eq2-clause-small c =
     rw c.op_of-then-shape-eq2.ensures
     (small_op c.args.opcode _ _ 0 c.in_ok-first.ensures.small c.in_ok-second.ensures.small refl)
 
-pub operand_from-requires-2-clause-lead : goal.operand_from-requires-2-clause-lead
-operand_from-requires-2-clause-lead c = third_lead c.args.opcode c.shape_of-shape.result.now c.shape_of-shape.ensures
+pub operand_from-requires-3-clause-lead : goal.operand_from-requires-3-clause-lead
+operand_from-requires-3-clause-lead c = third_lead c.args.opcode c.shape_of-shape.result.now c.shape_of-shape.ensures
 
 pub returns-clause-is : goal.returns-clause-is
 returns-clause-is c =
