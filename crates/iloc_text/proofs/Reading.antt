@@ -1,5 +1,5 @@
 -- What the reader has read, from line to line.
-use Rattle.std.proofs.Common.{◌≡◌, ◌≢◌, ◌∙◌, ℕ, ◌<◌, ◌≤◌, List, [], ◌∷◌, length, refl, sym, ap, subst, Option, Some, None, IfErr, Result, Ok, Err, IsUtf8, get_or, zero, suc, true, Bor, arith}
+use Rattle.std.proofs.Common.{◌≡◌, ◌≢◌, ◌∙◌, ℕ, ◌+◌, ◌<◌, ◌≤◌, List, [], ◌∷◌, length, refl, sym, ap, subst, Option, Some, None, IfErr, Result, Ok, Err, IsUtf8, get_or, zero, suc, true, Bor, arith}
 use Rattle.std.specs.List.{AllByRecursion}
 use Rattle.std.specs.Option.{ForSome}
 use Rattle.std.proofs.lemmas.Str.{IsUtf8-from_ascii}
@@ -16,7 +16,7 @@ use Rattle.iloc_text.specs.Steps.LineReads.{FirstIs, FirstLine}
 use Rattle.iloc_text.specs.Steps.Growth.{with_line, limited}
 use Rattle.iloc_text.specs.Files.{block_names, file_of, Denotes, IsRefused}
 use Rattle.iloc_text.proofs.Parts.{all-Before}
-use Rattle.iloc_text.specs.Steps.Verdicts.{verdict, answer_from, on_verdict, Answered}
+use Rattle.iloc_text.specs.Steps.Verdicts.{verdict, answer_from, on_verdict, Leaves}
 use Rattle.iloc_text.proofs.Answer.{answer, answer_short, reads_verdict, bad_verdict, large_verdict}
 use Rattle.iloc_text.proofs.Every.{Answers, answers}
 
@@ -49,38 +49,47 @@ pub answer_begins : (input : List ℕ) → length input ≤ MAX_INPUT → answer
 answer_begins input short = answer_short input short ∙ ap (λ bs. answer_from bs 1 (lines_of input)) nothing_read
 
 -- with these blocks on the lines before, the answer of the whole hangs on the line at hand
-answer_at : (whole : Result (List Block) ReadFault) (blocks : List Block) (n : ℕ) {rest : Option (Bor (List ℕ))}
-    {text : Bor (List ℕ)} {line : List ℕ} {more : List (List ℕ)} → whole ≡ answer_from blocks n (lines_left rest)
-    → rest ≡ Some text → lines_of text.now ≡ line ∷ more → whole ≡ on_verdict n more (verdict blocks line n)
-answer_at whole blocks n e some split = e ∙ ap (λ r. answer_from blocks n (lines_left r)) some
-    ∙ ap (answer_from blocks n) split
+answer_at : (whole : Result (List Block) ReadFault) (blocks : List Block) (n : ℕ) (text : List ℕ) {line : List ℕ}
+    {more : List (List ℕ)} → whole ≡ answer_from blocks n (lines_of text) → lines_of text ≡ line ∷ more
+    → whole ≡ on_verdict n more (verdict blocks line n)
+answer_at whole blocks n text e split = e ∙ ap (answer_from blocks n) split
 
-pub answer_read : (whole : Result (List Block) ReadFault) (blocks : List Block) (n : ℕ) {rest after : Option (Bor (List ℕ))}
-    {text : Bor (List ℕ)} (label : Option (List ℕ)) (op : Option Op)
-    → whole ≡ answer_from blocks n (lines_left rest) → rest ≡ Some text
-    → FirstIs (λ line. Reads line label op) text.now after
+pub answer_read : (whole : Result (List Block) ReadFault) (blocks : List Block) (n : ℕ) {text : List ℕ}
+    {after : Option (Bor (List ℕ))} (label : Option (List ℕ)) (op : Option Op)
+    → whole ≡ answer_from blocks n (lines_of text) → FirstIs (λ line. Reads line label op) text after
     → whole ≡ on_verdict n (lines_left after) (limited (with_line label op blocks) n)
-answer_read whole blocks n {rest} {after} label op e some first = answer_at whole blocks n e some first.split
+answer_read whole blocks n {text} {after} label op e first = answer_at whole blocks n text e first.split
     ∙ ap (on_verdict n (lines_left after)) (reads_verdict blocks first.line n label op first.is)
 
-pub bad_answer : (whole : Result (List Block) ReadFault) (blocks : List Block) (n : ℕ) {rest : Option (Bor (List ℕ))}
-    {text : Bor (List ℕ)} → whole ≡ answer_from blocks n (lines_left rest) → rest ≡ Some text
-    → FirstLine text.now (Err faults.Bad) → whole ≡ Err (BadLine n)
-bad_answer whole blocks n e some bad = answer_at whole blocks n e some bad.1.split
+pub bad_answer : (whole : Result (List Block) ReadFault) (blocks : List Block) (n : ℕ) {text : List ℕ}
+    → whole ≡ answer_from blocks n (lines_of text) → FirstLine text (Err faults.Bad) → whole ≡ Err (BadLine n)
+bad_answer whole blocks n {text} e bad = answer_at whole blocks n text e bad.1.split
     ∙ ap (on_verdict n (lines_left bad.0)) (bad_verdict blocks bad.1.line n bad.1.is)
 
-pub large_answer : (whole : Result (List Block) ReadFault) (blocks : List Block) (n : ℕ) {rest : Option (Bor (List ℕ))}
-    {text : Bor (List ℕ)} → whole ≡ answer_from blocks n (lines_left rest) → rest ≡ Some text
-    → FirstLine text.now (Err faults.NumberTooLarge) → whole ≡ Err (NumberTooLarge n)
-large_answer whole blocks n e some large = answer_at whole blocks n e some large.1.split
+pub large_answer : (whole : Result (List Block) ReadFault) (blocks : List Block) (n : ℕ) {text : List ℕ}
+    → whole ≡ answer_from blocks n (lines_of text) → FirstLine text (Err faults.NumberTooLarge)
+    → whole ≡ Err (NumberTooLarge n)
+large_answer whole blocks n {text} e large = answer_at whole blocks n text e large.1.split
     ∙ ap (on_verdict n (lines_left large.0)) (large_verdict blocks large.1.line n large.1.is.0 large.1.is.1)
 
+-- what is left of the lines that were left is left of the whole
+pub then_leaves : (count further : ℕ) (lines : List (List ℕ)) {Stand Later : List Block → Type 0}
+    {whole : Result (List Block) ReadFault} {rest : Option (Bor (List ℕ))} {text : Bor (List ℕ)}
+    → Leaves Stand whole count (lines_left rest) → rest ≡ Some text
+    → ((blocks : List Block) → Stand blocks
+    → Leaves Later (answer_from blocks (count + 1) (lines_of text.now)) further lines) → Leaves Later whole further lines
+then_leaves count further lines left some read =
+    let later = read left.0 left.1 in (
+      later.0,
+      later.1,
+      left.2 ∙ ap (λ rest. answer_from left.0 (count + 1) (lines_left rest)) some ∙ later.2,
+    )
+
 -- the fault that a call hands on
-pub err_answer : {A : Type 0} (Stand : List Block → Type 0) (whole : Result (List Block) ReadFault) (n : ℕ)
-    (more : List (List ℕ)) (v : Result (List Block) ReadFault) (fault : ReadFault) (r : Result A ReadFault)
-    → whole ≡ on_verdict n more v → (fault ≢ NoMemory → v ≡ Err fault) → r ≡ Err fault → Answered Stand whole r
-err_answer Stand whole n more v fault r e bad is = subst (Answered Stand whole) (sym is)
-    (λ memory. e ∙ ap (on_verdict n more) (bad memory))
+pub err_answer : (whole : Result (List Block) ReadFault) (n : ℕ) (more : List (List ℕ)) (v : Result (List Block) ReadFault)
+    (fault : ReadFault) → whole ≡ on_verdict n more v → (fault ≢ NoMemory → v ≡ Err fault) → fault ≢ NoMemory
+    → whole ≡ Err fault
+err_answer whole n more v fault e bad memory = e ∙ ap (on_verdict n more) (bad memory)
 
 -- the refusal of a text with this answer
 pub refused : (input : List ℕ) (whole : Result (List Block) ReadFault) (fault : ReadFault) → answer input ≡ whole

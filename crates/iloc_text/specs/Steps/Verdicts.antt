@@ -1,9 +1,11 @@
 -- The answer of lines: from line to line the blocks grow, or a line is refused.
 use Rattle.std.specs.Prelude.{◌≡◌, ◌≢◌, ℕ, ◌+◌, if◌then◌else◌, Option, Some, None, Result, Ok, Err, List, [], ◌∷◌}
+use Rattle.std.specs.Borrow.{Bor}
 use Rattle.iloc_ops.specs.declared.op.Op.{Op}
 use Rattle.iloc_ops.specs.declared.file.Block.{Block}
 use Rattle.iloc_text.specs.declared.fault.ReadFault.{ReadFault}
 use Rattle.iloc_text.specs.declared.fault.ReadFault.TheVariants.{BadLine, NumberTooLarge, NoMemory}
+use Rattle.iloc_text.specs.Lines.{lines_of}
 use Rattle.iloc_text.specs.Steps.Scan.{line_at, is_within}
 use Rattle.iloc_text.specs.Steps.Growth.{with_line, limited}
 
@@ -32,3 +34,12 @@ on_verdict n lines v = elim v as (λ _. Result (List Block) ReadFault)
 abbrev pub Answered : {A : Type 0} → (List Block → Type 0) → Result (List Block) ReadFault → Result A ReadFault → Type 0
 Answered Stand wanted (Ok done) = (blocks : List Block) × (wanted ≡ Ok blocks) × Stand blocks
 Answered Stand wanted (Err fault) = fault ≢ NoMemory → wanted ≡ Err fault
+
+-- After so many lines, these are left to read: `Stand` holds of the blocks so far, whose answer on these lines is the one wanted.
+abbrev pub Leaves : (List Block → Type 0) → Result (List Block) ReadFault → ℕ → List (List ℕ) → Type 0
+Leaves Stand wanted count lines = (blocks : List Block) × Stand blocks × (wanted ≡ answer_from blocks (count + 1) lines)
+
+-- What comes of reading the lines at the front of a text with this answer: the text behind them, and how many lines were read.
+abbrev pub FrontAnswered : (List Block → Type 0) → Result (List Block) ReadFault → Result (Bor (List ℕ) × ℕ) ReadFault → Type 0
+FrontAnswered Stand wanted (Ok left) = Leaves Stand wanted left.1 (lines_of left.0.now)
+FrontAnswered Stand wanted (Err fault) = fault ≢ NoMemory → wanted ≡ Err fault

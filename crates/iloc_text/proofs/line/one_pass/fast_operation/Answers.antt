@@ -5,13 +5,14 @@ use Rattle.iloc_text.specs.Steps.LineReads.{FirstIs}
 use Rattle.iloc_text.proofs.OnePass.{operation_first}
 use Rattle.iloc_text.proofs.line.one_pass.fast_operation.Goals as goal
 
-pub returns : goal.returns
-returns c =
+pub returns-then-after-behind : goal.returns-then-after-behind
+returns-then-after-behind c =
     let bytes = c.args.bytes.now in
     let at = c.in_ok-op.at in
     let rest = drop at bytes in
-    operation_first bytes (drop c.in_ok-opcode.start bytes) rest (Some c.in_ok-after.after) c.in_ok-opcode.opcode
+    let after = Some c.behind_operation-after.result in
+    operation_first bytes (drop c.in_ok-opcode.start bytes) rest after c.in_ok-opcode.opcode
     c.in_ok-op.op c.in_ok-opcode.ensures.is c.in_ok-op.ensures.is c.in_ok-op.ensures.small
-    (subst (λ text. FirstIs (Blanks ⋅ OptionalComment) text (Some c.in_ok-after.after))
+    (subst (λ text. FirstIs (Blanks ⋅ OptionalComment) text after)
     (take_all (length bytes - at) rest (omega (arith, length-drop at bytes)))
-    (subst (FirstIs (Blanks ⋅ OptionalComment) _) c.in_ok-after.was c.in_ok-behind_line_end.ensures))
+    (c.behind_operation-after.ensures c.if-after-behind.true))
