@@ -49,8 +49,8 @@ fn write_buffer<W: Write>(buffer: &mut Vec<u8>, writer: &mut W) -> Result<(), Wr
     Ok(())
 }
 
-/// Adds a text to the buffer, or writes both where it doesn't fit: the buffer never grows. After a failure a prefix of both
-/// was written.
+/// Adds a text to the buffer, which is written before where the text doesn't fit in what is left of it, and the text by itself where
+/// the whole buffer is too short: it never grows. After a failure a prefix of both was written.
 pub(crate) fn write_joined<W: Write>(
     text: &[u8],
     buffer: &mut Vec<u8>,
@@ -65,5 +65,8 @@ pub(crate) fn write_joined<W: Write>(
         return buffer.extend_from_slice(text).map_err(|_| WriteFailed);
     }
     write_buffer(buffer, writer)?;
+    if text.len() <= buffer.capacity() {
+        return buffer.extend_from_slice(text).map_err(|_| WriteFailed);
+    }
     write_bytes(writer, text)
 }
