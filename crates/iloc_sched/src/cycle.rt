@@ -7,6 +7,7 @@ ghost use Rattle.iloc_sched.specs.Steps.Views.{issued_list};
 pub mod calendar;
 pub mod class;
 pub mod counting;
+pub mod issued;
 pub mod keys;
 pub mod order;
 pub mod plan;

@@ -29,7 +29,7 @@ issued_other xs ys n c k is apart = ap (λ zs. get_or zs k None) is ∙ get_or-s
 -- what becomes ready at cycle c is ready
 pub released : (p : Plan) (w : Waiting) (k' : Calendar) (c : ℕ) → IsPlan p → IsUnderWay p w c
     → Releases w.calendar k' (c % 32) → KeepsRoom w.calendar k'
-    → IsUnderWay p (record { states = w.states; calendar = k' }) (c + 1)
+    → IsUnderWay p (record w { calendar = k' }) (c + 1)
 released p w k' c plan under releases keeps = record {
   sized = under.sized;
   calendar = calendar_released p plan w.calendar k' under.calendar (c % 32) (omega arith) releases keeps;
@@ -41,7 +41,7 @@ released p w k' c plan under releases keeps = record {
 
 -- the calendar has the same sets
 pub same_under_way : (p : Plan) (w : Waiting) (k : Calendar) (f : ℕ) → HasSameSets w.calendar k → IsUnderWay p w f
-    → IsUnderWay p (record { states = w.states; calendar = k }) f
+    → IsUnderWay p (record w { calendar = k }) f
 same_under_way p w k f same under = record {
   sized = under.sized;
   calendar = grind (arith, room_kept, same_has, same_room);
@@ -95,7 +95,7 @@ module _ (p : Plan) (w : Waiting) (k : Calendar) (c n : ℕ) (plan : IsPlan p) (
     (can : CanIssue (graph_of p.tables.now.edges) (progress_of p.ranks.now w) (c + 1) n)
     (takes : Puts w.calendar k 32 (rank_of p n) false) where
   abbrev left : Waiting
-  left = record { states = w.states; calendar = k }
+  left = record w { calendar = k }
 
   pub taken_calendar : KeepsRoom w.calendar k → IsCalendar p k
   taken_calendar keeps = calendar_put p plan w.calendar k under.calendar 32 n false (omega arith)

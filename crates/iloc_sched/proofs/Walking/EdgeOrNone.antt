@@ -78,7 +78,7 @@ module _ (p : Plan) (w : Waiting) (cycle : ℕ) (edge : Edge) (state : Operation
     target_there : (x : ℕ) → x < length p.tables.now.edges.edges.items → edge ≡ edge_at p.tables.now.edges x
         → edge.to < length w.states.items
     target_there x there is =
-        let size : length w.states.items ≡ length p.tables.now.edges.heads.items = sized in
+        let size : length w.states.items ≡ length p.tables.now.edges.heads.items = sized.0 in
         let to_is : edge.to ≡ (graph_in p).to x = ap (λ (d : Edge). d.to) is in
         let below : (graph_in p).to x < length p.tables.now.edges.heads.items =
         (plan.graph.is_graph.to_there x there).0 in

@@ -36,16 +36,13 @@ or_false b = grind arith
 
 -- the states of one more operation, of which it is noted what it keeps out in calendar m
 module _ (p : Plan) (w v : Waiting) (m : Calendar) (n : ℕ) (state : OperationState) (plan : IsPlan p) (there : n < length p.tables.now.ops.items)
-    (so_far : IsOpening p w n) (states : v.states.items ≡ w.states.items ++ state ∷ []) (fresh : state.issued ≡ None)
+    (so_far : IsOpening p w n) (states : v.states.items ≡ w.states.items ++ state ∷ []) (issued : issued_list v ≡ issued_list w)
     (unmet : state.unmet ≡ (graph_of p.tables.now.edges).start (n + 1) - (graph_of p.tables.now.edges).start n)
     (soon : state.earliest ≡ 0) (class : Class) (is : class ≡ class_at p.tables.now.ops.items n)
     (noted : Puts w.calendar m (33 + place_of class) (rank_of p n) (excludes class class || has w.calendar (33 + place_of class) (rank_of p n)))
     (room : KeepsRoom w.calendar m) where
   same_below : (s r : ℕ) → s ≤ 32 → has m s r ≡ has w.calendar s r
   same_below s r low = noted.others s r (omega (arith, place_small class)) (λ same _. absurd (omega arith))
-
-  issued_more : issued_list v ≡ replicate (n + 1) not_issued
-  issued_more = grind (arith, pushed, replicate_more)
 
   unmet_more : unmet_list v ≡ map (edges_into (graph_of p.tables.now.edges)) (range_with_len 0 (n + 1))
   unmet_more = ap unmet_in states ∙ pushed (λ (s : OperationState). s.unmet) w.states.items state
@@ -63,7 +60,7 @@ module _ (p : Plan) (w v : Waiting) (m : Calendar) (n : ℕ) (state : OperationS
       → ready ≡ eqb ((graph_of p.tables.now.edges).start n) ((graph_of p.tables.now.edges).start (n + 1))
       → Puts m v.calendar 0 (rank_of p n) (ready || has m 0 (rank_of p n)) → KeepsRoom m v.calendar → IsOpening p v (n + 1)
   opening_more ready at_end puts keeps = record {
-    issued = issued_more;
+    issued = issued ∙ so_far.issued;
     unmet = unmet_more;
     earliest = earliest_more;
     room = room_kept w.calendar v.calendar (length p.tables.now.ops.items) (room_trans w.calendar m v.calendar room keeps) so_far.room;
@@ -100,9 +97,11 @@ opened graph w is none unmet earliest roots others = record {
 }
 
 -- none is made
-pub opening_none : (p : Plan) (w : Waiting) → w.states.items ≡ [] → HasRoom w.calendar (length p.tables.now.ops.items)
+pub opening_none : (p : Plan) (w : Waiting) → w.states.items ≡ []
+    → issued_list w ≡ replicate (length p.tables.now.edges.heads.items) not_issued
+    → HasRoom w.calendar (length p.tables.now.ops.items)
     → ((s r : ℕ) → has w.calendar s r ≡ false) → IsOpening p w 0
-opening_none p w none room empty = grind (arith, true≢false)
+opening_none p w none issued room empty = grind (arith, true≢false)
 
 -- all states are made
 module _ (p : Plan) (w : Waiting) (plan : IsPlan p) (made : IsOpening p w (length p.tables.now.edges.heads.items)) where

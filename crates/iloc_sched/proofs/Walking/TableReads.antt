@@ -10,13 +10,13 @@ use Rattle.iloc_sched.specs.Steps.Views.{edge_at, graph_of, issued_list, unmet_l
 
 module _ (e : Edges) (w : Waiting) (sized : IsSized e w) where
   pub issued_size : length (issued_list w) ≡ length e.heads.items
-  issued_size = length-map w.states.items (λ (s : OperationState). s.issued) ∙ sized
+  issued_size = sized.1
 
   pub unmet_size : length (unmet_list w) ≡ length e.heads.items
-  unmet_size = length-map w.states.items (λ (s : OperationState). s.unmet) ∙ sized
+  unmet_size = length-map w.states.items (λ (s : OperationState). s.unmet) ∙ sized.0
 
   pub earliest_size : length (earliest_list w) ≡ length e.heads.items
-  earliest_size = length-map w.states.items (λ (s : OperationState). s.earliest) ∙ sized
+  earliest_size = length-map w.states.items (λ (s : OperationState). s.earliest) ∙ sized.0
 
 -- what is read of the state of operation j
 module _ (ranks : List ℕ) (w : Waiting) (j : ℕ) (state : OperationState) (below : j < length w.states.items)
@@ -33,5 +33,5 @@ pub target_read : (ranks : List ℕ) (e : Edges) (w : Waiting) (x : ℕ) (edge :
     → state.unmet ≡ (progress_of ranks w).unmet ((graph_of e).to x)
 target_read ranks e w x edge state is sized below edge_is read =
     let to_is : edge.to ≡ (graph_of e).to x = ap (λ (d : Edge). d.to) edge_is in
-    let size : length w.states.items ≡ length e.heads.items = sized in
+    let size : length w.states.items ≡ length e.heads.items = sized.0 in
     unmet_read ranks w edge.to state (omega arith) read ∙ ap (progress_of ranks w).unmet to_is

@@ -72,7 +72,7 @@ module _ (ranks : List ℕ) (e : Edges) (w : Waiting) (x cycle : ℕ) (is : IsGr
   earliest_after edge state t edge_is read greatest =
       let j : ℕ = (graph_of e).to x in
       let to_is : edge.to ≡ j = ap (λ (d : Edge). d.to) edge_is in
-      let size : length w.states.items ≡ length e.heads.items = sized in
+      let size : length w.states.items ≡ length e.heads.items = sized.0 in
       let inside : j < length e.heads.items = (is.to_there x there).0 in
       let early : state.earliest ≡ (progress_of ranks w).earliest j =
       earliest_read ranks w edge.to state (omega arith) read ∙ ap (progress_of ranks w).earliest to_is in

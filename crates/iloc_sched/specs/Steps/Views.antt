@@ -33,26 +33,23 @@ pub record IsEmptied (e : Edges) : Type 0 where
   pub starts : length e.starts.items ≡ 0
   pub heads : length e.heads.items ≡ 0
 
-abbrev pub issued_in : List OperationState → List (Option ℕ)
-issued_in states = map (λ (s : OperationState). s.issued) states
-
 abbrev pub unmet_in : List OperationState → List ℕ
 unmet_in states = map (λ (s : OperationState). s.unmet) states
 
 abbrev pub earliest_in : List OperationState → List ℕ
 earliest_in states = map (λ (s : OperationState). s.earliest) states
 
--- these states, and these operations in the buckets
-abbrev pub progress_with : List OperationState → (ℕ → ℕ → Bool) → Progress
-progress_with states bucket = record {
-  issued = λ j. slice_index_or (issued_in states) j None;
+-- these cycles of issue, these states, and these operations in the buckets
+abbrev pub progress_with : List (Option ℕ) → List OperationState → (ℕ → ℕ → Bool) → Progress
+progress_with issued states bucket = record {
+  issued = λ j. slice_index_or issued j None;
   unmet = λ j. slice_index (unmet_in states) j;
   earliest = λ j. slice_index (earliest_in states) j;
   bucket = bucket;
 }
 
 abbrev pub issued_list : Waiting → List (Option ℕ)
-issued_list w = issued_in w.states.items
+issued_list w = w.issued.cycles
 
 abbrev pub unmet_list : Waiting → List ℕ
 unmet_list w = unmet_in w.states.items
@@ -65,8 +62,8 @@ abbrev pub bucket_of : List ℕ → Calendar → ℕ → ℕ → Bool
 bucket_of ranks c b j = has c b (slice_index ranks j)
 
 abbrev pub progress_of : List ℕ → Waiting → Progress
-progress_of ranks w = progress_with w.states.items (bucket_of ranks w.calendar)
+progress_of ranks w = progress_with (issued_list w) w.states.items (bucket_of ranks w.calendar)
 
--- there is a state for each operation
+-- there is a state for each operation, and it is known of each when it was issued
 abbrev pub IsSized : Edges → Waiting → Type 0
-IsSized e w = length w.states.items ≡ length e.heads.items
+IsSized e w = (length w.states.items ≡ length e.heads.items) × (length (issued_list w) ≡ length e.heads.items)

@@ -9,6 +9,7 @@ ghost use Rattle.iloc_sched.specs.Steps.Cycle.SoFar.{IsPlan};
 
 use crate::cycle::calendar::{Calendar, LONGEST_DELAY};
 use crate::cycle::class::Class;
+use crate::cycle::issued::Issued;
 use crate::cycle::plan::Plan;
 use iloc_ops::NoMemory;
 use std::alloc::Global;
@@ -16,8 +17,6 @@ use std::alloc::Global;
 /// The state of an operation while a schedule is made.
 #[derive(Clone, Copy, Debug)]
 struct OperationState {
-    /// The cycle at which it was issued.
-    issued: Option<u32>,
     /// How many edges into it there are whose sources aren't issued.
     unmet: u32,
     /// The earliest cycle by all other edges into it.
@@ -28,6 +27,8 @@ struct OperationState {
 #[derive(Debug, Drop)]
 pub struct Waiting {
     states: Vec<OperationState>,
+    /// When each was issued, for the proofs alone.
+    issued: Issued,
     /// The operations that wait for no edge any more, by the cycle at which they become ready.
     pub calendar: Calendar,
 }
@@ -44,6 +45,7 @@ impl Waiting {
     {
         Waiting {
             states: Vec::new(alloc),
+            issued: Issued::none(0),
             calendar: Calendar::new(alloc),
         }
     }
@@ -65,11 +67,11 @@ impl Waiting {
         self.calendar.clear(count)?;
         self.states.clear();
         self.states.reserve(count)?;
+        self.issued = Issued::none(count);
         let mut place = edges.start(0);
         for j in 0..count {
             let end = edges.start(j + 1);
             self.states.push_reserved(OperationState {
-                issued: None,
                 unmet: end - place,
                 earliest: 0,
             });
@@ -94,18 +96,6 @@ impl Waiting {
         let state = &mut self.states[j];
         state.unmet = unmet;
         state.earliest = earliest;
-    }
-
-    /// Operation i is issued at this cycle.
-    fn mark(&mut self, i: usize, cycle: u32)
-        requires { i < length self.old.states.items }
-        ensures issued { issued_list self.new ≡ slice_set (issued_list self.old) i (Some cycle) }
-        ensures unmet { unmet_list self.new ≡ unmet_list self.old }
-        ensures earliest { earliest_list self.new ≡ earliest_list self.old }
-        ensures calendar { self.new.calendar ≡ self.old.calendar }
-        ensures size { length self.new.states.items ≡ length self.old.states.items }
-    {
-        self.states[i].issued = Some(cycle);
     }
 
     /// Passes an edge whose source was issued at this cycle: its target has one less to wait for. For `None` it reads edge 0 in
@@ -157,7 +147,7 @@ impl Waiting {
         ensures calendar { IsCalendar plan.now self.new.calendar }
         ensures ready { (r : ℕ) → has self.new.calendar 32 r ≡ has self.old.calendar 32 r }
     {
-        self.mark(i, cycle);
+        self.issued = self.issued.and(i, cycle);
         let mut at = plan.tables.edges.last_from(i);
         if self.calendar.is_short() && plan.tables.edges.edge_count() > 0 {
             at = self.pass(plan, at, cycle);

@@ -10,9 +10,10 @@ use Rattle.iloc_sched.specs.Steps.Cycle.SoFar.{rank_of, IsRanked, KeepsOut}
 abbrev pub not_issued : Option ℕ
 not_issued = None
 
--- the states of the operations before operation n are made, and who of them has no edge to wait for is in the first bucket
+-- nothing is issued, the states of the operations before operation n are made, and who of them has no edge to wait for is
+-- in the first bucket
 pub record IsOpening (p : Plan) (w : Waiting) (n : ℕ) : Type 0 where
-  pub issued : issued_list w ≡ replicate n not_issued
+  pub issued : issued_list w ≡ replicate (length p.tables.now.edges.heads.items) not_issued
   pub unmet : unmet_list w ≡ map (λ j. slice_index p.tables.now.edges.starts.items (j + 1) - slice_index p.tables.now.edges.starts.items j) (range_with_len 0 n)
   pub earliest : earliest_list w ≡ replicate n 0
   pub room : HasRoom w.calendar (length p.tables.now.ops.items)

@@ -1,10 +1,6 @@
 use Rattle.std.proofs.Common.{arith}
 use Rattle.std.proofs.lemmas.List.{map-set}
-use Rattle.std.proofs.Math.Seq.{map-set_same}
 use Rattle.iloc_sched.proofs.cycle.waiting.Waiting.change.Goals as goal
-
-pub returns-clause-issued : goal.returns-clause-issued
-returns-clause-issued c = grind (arith, map-set_same)
 
 pub returns-clause-unmet : goal.returns-clause-unmet
 returns-clause-unmet c = grind (arith, map-set)

@@ -1,4 +1,4 @@
-use Rattle.std.proofs.Common.{◌≡◌, ◌+◌, ◌-◌, ◌<◌, length, ap, None, nat_eq, refl, ◌∙◌, subst, arith}
+use Rattle.std.proofs.Common.{◌≡◌, ◌+◌, ◌-◌, ◌<◌, length, ap, nat_eq, refl, ◌∙◌, subst, arith}
 use Rattle.iloc_sched.specs.declared.cycle.waiting.OperationState.{OperationState}
 use Rattle.iloc_sched.specs.declared.cycle.waiting.Waiting.{Waiting}
 use Rattle.iloc_sched.specs.Steps.Cycle.Classes.{class_of}
@@ -52,14 +52,14 @@ loop-j-preserved c =
     let p = c.args.plan.now in
     let e = p.tables.now.edges in
     let j = c.loop-j.j in
-    let state : OperationState = record { issued = None; unmet = c.start-end.result - c.loop-j.place; earliest = 0 } in
+    let state : OperationState = record { unmet = c.start-end.result - c.loop-j.place; earliest = 0 } in
     let at = c.loop-j.invariant.place in
     let unmet : c.start-end.result - c.loop-j.place ≡ (graph_of e).start (j + 1) - (graph_of e).start j =
     ap (λ n. n - c.loop-j.place) c.start-end.ensures ∙ ap (λ n. (graph_of e).start (j + 1) - n) at in
     let ready : nat_eq c.loop-j.place c.start-end.result ≡ nat_eq ((graph_of e).start j) ((graph_of e).start (j + 1)) =
     ap (λ n. nat_eq n c.start-end.result) at ∙ ap (λ n. nat_eq ((graph_of e).start j) n) c.start-end.ensures in
     let k = c.of-class.result in
-    let v : Waiting = record { states = c.push_reserved.new.self; calendar = c.put_if.new.self } in
+    let v : Waiting = record { states = c.push_reserved.new.self; issued = c.loop-j.self.issued; calendar = c.put_if.new.self } in
     let below : j < length e.heads.items = omega (arith, c.op_count-count.ensures) in
     record {
       opening = opening_more p c.loop-j.self v c.keep_out.new.self j state c.requires.plan

@@ -38,7 +38,7 @@ pub returns-clause-walks : goal.returns-clause-walks
 returns-clause-walks c =
     let p = c.args.plan.now in
     let w = c.args.self.now in
-    let v : Waiting = record { states = c.change.new.self.states; calendar = c.put_if.new.self } in
+    let v : Waiting = record { states = c.change.new.self.states; issued = c.change.new.self.issued; calendar = c.put_if.new.self } in
     let t : ℕ = c.max-earliest.result in
     let j : ℕ = c.get-edge.result.to in
     walks_on p w c.args.cycle c.get-edge.result c.index-state.result.now c.requires.plan c.requires.sized c.index-state.ensures
@@ -50,7 +50,7 @@ returns-clause-walks c =
 
 pub returns-clause-keeps : goal.returns-clause-keeps
 returns-clause-keeps c =
-    let v : Waiting = record { states = c.change.new.self.states; calendar = c.put_if.new.self } in
+    let v : Waiting = record { states = c.change.new.self.states; issued = c.change.new.self.issued; calendar = c.put_if.new.self } in
     places_after c.args.plan.now c.args.self.now c.args.cycle c.get-edge.result c.index-state.result.now c.requires.plan
     c.requires.sized c.index-state.ensures v (c.index-state.result.now.unmet - c.from.result) c.max-earliest.result c.requires.some
     c.change.ensures.issued c.change.ensures.unmet c.change.ensures.earliest c.args.at c.requires.walks (edge_is c) (less c) (until c)

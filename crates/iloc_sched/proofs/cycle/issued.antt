@@ -1,0 +1,2 @@
+-- The walks of `src/cycle/issued.rt`.
+mod EmptyStruct
