@@ -68,8 +68,7 @@ impl Waiting {
         ensures under_way { IsUnderWay plan.now self.new (cycle + 1) }
         ensures issued { issued_list self.new ≡ issued_list self.old }
     {
-        let _plan = plan;
-        self.calendar.release(cycle);
+        self.calendar.release(plan.short, cycle);
     }
 
     /// Issues the first of the ready that can go beside an operation of a class. The rest keeps nothing out.
@@ -81,14 +80,16 @@ impl Waiting {
         ensures best { IsBest plan.now self.old beside result }
         ensures issues { IssuesAny plan.now self.old self.new cycle result }
     {
-        let rank = self.calendar.take_first(beside)?;
+        let rank = self.calendar.take_first(plan.short, beside)?;
         let number = plan.order[rank as usize];
         self.issue(plan, number as usize, cycle);
         let kind = plan.kind_of(number);
         Some(Choice { number, kind })
     }
 
-    /// Makes the row of one more cycle. Answers how many operations it issues.
+    /// Makes the row of one more cycle. Answers how many operations it issues. It is put into its caller's loop, so that the compiler
+    /// can make two loops of it (`Plan::short`).
+    #[inline(always)]
     pub fn step(&mut self, plan: &Plan, rows: &mut Vec<Row>) -> Result<usize, NoMemory>
         requires small { length rows.old.items + LONGEST_DELAY + 1 < 2 ^ 32 }
         requires plan { IsPlan plan.now }

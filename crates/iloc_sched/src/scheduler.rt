@@ -10,7 +10,7 @@ ghost use Rattle.iloc_sched.specs.Renaming.{renamed};
 ghost use Rattle.iloc_sched.specs.Scheduled.{IsTheSchedule};
 ghost use Rattle.iloc_sched.specs.Steps.Cycle.SoFar.{IsPlan};
 
-use crate::cycle::calendar::LONGEST_DELAY;
+use crate::cycle::calendar::{LONGEST_DELAY, SHORT};
 use crate::cycle::order::Order;
 use crate::cycle::plan::Plan;
 use crate::cycle::waiting::Waiting;
@@ -64,6 +64,7 @@ impl Scheduler {
             priorities: ranks,
             order: &self.order.by_rank,
             ranks: &self.order.ranks,
+            short: ranks.len() < SHORT,
         };
         fill_rows(&plan, &mut self.waiting, &mut self.rows)?;
         self.ops.clear();
@@ -103,9 +104,15 @@ fn fill_rows(plan: &Plan, waiting: &mut Waiting, rows: &mut Vec<Row>) -> Result<
 {
     waiting.open(plan)?;
     rows.clear();
+    // The same plan, but the compiler doesn't know from where the flag comes, and keeps it: computed from a length, it is computed
+    // at each test, and an operation of a block of ten takes 10 instructions more.
+    let known = Plan {
+        short: waiting.calendar.is_short(),
+        ..*plan
+    };
     let mut left = plan.tables.ops.len();
     while left > 0 {
-        left -= waiting.step(plan, rows)?;
+        left -= waiting.step(&known, rows)?;
     }
     Ok(())
 }

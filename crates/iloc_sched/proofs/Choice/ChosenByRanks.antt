@@ -5,7 +5,6 @@ use Rattle.std.proofs.lemmas.Bool.Decides.{nat_tests}
 use Rattle.std.specs.Prelude.{filter}
 use Rattle.iloc_meaning.specs.Trace.{op_at}
 use Rattle.iloc_timed.specs.declared.kind.Kind.{Kind}
-use Rattle.iloc_timed.specs.declared.kind.Kind.TheVariants as K
 use Rattle.iloc_timed.specs.declared.row.Row.{Row}
 use Rattle.iloc_timed.specs.Kinds.{kind, is_memory}
 use Rattle.iloc_timed.specs.Rows.{is_some_kind, kind_in}
@@ -34,6 +33,9 @@ beside_by_class a b = grind arith
 
 apart_numbers : (a b : ℕ) → a ≢ b → not (a == b) ≡ true
 apart_numbers a b apart = grind (arith, nat_tests)
+
+numbers_apart : (a b : ℕ) → not (a == b) ≡ true → b ≡ a → ⊥
+numbers_apart a b apart same = grind (arith, nat_tests)
 
 abbrev row_one : Choice → Option Choice → Row
 row_one a b = record { zero = number_of b; one = Some a.number }
@@ -113,7 +115,12 @@ module _ (p : Plan) (w : Waiting) (rows : List Row) (plan : IsPlan p)
     -- who is ready and can go beside a is open in what is left
     left_open : (j : ℕ) → In (filter beside all_ready) j → IsOpen p w1 (class_of a.kind) j
     left_open j held =
-        grind (arith, and_parts, from_filter, nat_tests, not-true, open_beside, opens, ready_queued, ready_there)
+        let parts = from_filter beside all_ready j held in
+        let both = and_parts _ _ parts.1 in
+        let there = ready_there j parts.0 in
+        opens p w1 (length rows + 1) issues.under_way (class_of a.kind) j there
+        (issues.ready j there (numbers_apart a.number j both.0) ∙ ready_queued j parts.0)
+        (not-true _ (sym (open_beside j) ∙ both.1))
 
     -- who is open in it is ready and can go beside a
     open_left : (j : ℕ) → IsOpen p w1 (class_of a.kind) j → In (filter beside all_ready) j

@@ -15,7 +15,7 @@ use Rattle.iloc_sched.specs.Steps.Cycle.Progress.{Waits, CanIssue, KeepsPlaces}
 use Rattle.iloc_sched.specs.Steps.Views.{graph_of, issued_list, progress_of, bucket_of, IsSized}
 use Rattle.iloc_sched.specs.Steps.Cycle.SoFar.{rank_of, IsRanked, IsPlan, IsCalendar, IsUnderWay, IsBest, Issues}
 use Rattle.iloc_sched.proofs.Choice.EnteringReady.{queued_with_due, queued_after}
-use Rattle.iloc_sched.proofs.Ranks.Calendars.{ranks_apart, same_has, same_room, room_kept, calendar_put, calendar_released}
+use Rattle.iloc_sched.proofs.Ranks.Calendars.{ranks_apart, same_has, same_room, room_kept, short_kept, calendar_put, calendar_released}
 use Rattle.iloc_sched.proofs.Walking.TableReads.{issued_size}
 use Rattle.iloc_sched.proofs.Walking.BucketOfCycle.{empties, same_buckets}
 
@@ -44,7 +44,7 @@ pub same_under_way : (p : Plan) (w : Waiting) (k : Calendar) (f : ℕ) → HasSa
     → IsUnderWay p (record w { calendar = k }) f
 same_under_way p w k f same under = record {
   sized = under.sized;
-  calendar = grind (arith, room_kept, same_has, same_room);
+  calendar = grind (arith, room_kept, same_has, same_room, short_kept);
   waits = grind (arith, same_buckets, same_has);
   queued = record {
     ready = λ j can. same_has w.calendar k same 32 (rank_of p j)

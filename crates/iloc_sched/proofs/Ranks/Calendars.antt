@@ -3,7 +3,6 @@ use Rattle.std.proofs.Common.{◌≡◌, ◌≢◌, ℕ, ◌+◌, ◌<◌, ◌�
 use Rattle.std.proofs.lemmas.Bool.{true≢false, or_cases}
 use Rattle.iloc_sched.specs.declared.cycle.calendar.Calendar.{Calendar}
 use Rattle.iloc_sched.specs.declared.cycle.class.Class.{Class}
-use Rattle.iloc_sched.specs.declared.cycle.class.Class.TheVariants as C
 use Rattle.iloc_sched.specs.declared.cycle.plan.Plan.{Plan}
 use Rattle.iloc_sched.specs.Steps.Cycle.Calendar.{has, IsWithin, HasRoom, KeepsRoom, HasSameSets, Puts, Releases}
 use Rattle.iloc_sched.specs.Steps.Cycle.Classes.{place_of, excludes}
@@ -41,6 +40,9 @@ room_none c n room = record { ranks = λ r low. absurd (omega arith); first = ro
 pub room_trans : (a b c : Calendar) → KeepsRoom a b → KeepsRoom b c → KeepsRoom a c
 room_trans a b c first second = record { words = second.words ∙ first.words; blocks = second.blocks ∙ first.blocks }
 
+pub short_kept : (c c' : Calendar) (short : Bool) → KeepsRoom c c' → short ≡ eqb c.blocks 0 → short ≡ eqb c'.blocks 0
+short_kept c c' short keeps is = is ∙ ap (λ n. eqb n 0) (sym keeps.blocks)
+
 -- the sets are the same
 pub same_has : (c c' : Calendar) → HasSameSets c c' → (s r : ℕ) → has c' s r ≡ has c s r
 same_has c c' same s r = ap (λ ws. eqb (rank_bit ws s r) 1) same.words
@@ -67,10 +69,11 @@ module _ (p : Plan) (plan : IsPlan p) where
           (λ _ same. (j, there, sym same))
           (λ other. is.ranked t r t_low (sym (puts.others t r (omega arith) other) ∙ held));
       kept = kept_put p c c' (length p.tables.now.ops.items) s (rank_of p j) b low puts is.kept;
+      short = short_kept c c' p.short keeps is.short;
     }
 
     pub calendar_released : (b : ℕ) → b < 32 → Releases c c' b → KeepsRoom c c' → IsCalendar p c'
-    calendar_released b low released keeps = grind (arith, or_cases, place_small, room_kept, true≢false)
+    calendar_released b low released keeps = grind (arith, or_cases, place_small, room_kept, short_kept, true≢false)
 
   -- operation j goes into bucket b if it has come to its last edge
   pub puts_enters : (c c' : Calendar) (b j : ℕ) (ready : Bool) (at_end : Type 0) → b < 32 → j < length p.tables.now.ops.items

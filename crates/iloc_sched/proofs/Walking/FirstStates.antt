@@ -19,7 +19,7 @@ use Rattle.iloc_sched.specs.Steps.Views.{graph_of, unmet_in, issued_list, unmet_
 use Rattle.iloc_sched.specs.Steps.Cycle.SoFar.{class_at, rank_of, IsPlan, IsCalendar, IsSoFar}
 use Rattle.iloc_sched.specs.Steps.Cycle.Opening.{not_issued, IsOpening}
 use Rattle.iloc_sched.proofs.Basics.Cases.{by_eq, not_both}
-use Rattle.iloc_sched.proofs.Ranks.Calendars.{place_small, room_kept, room_trans, ranks_apart, kept_put, keeps_out_more}
+use Rattle.iloc_sched.proofs.Ranks.Calendars.{place_small, room_kept, room_trans, short_kept, ranks_apart, kept_put, keeps_out_more}
 use Rattle.iloc_sched.proofs.Ranks.Cells.{by_both, read_replicate}
 use Rattle.iloc_sched.proofs.Walking.UnmetEdges.{not_true, count_all}
 
@@ -66,6 +66,7 @@ module _ (p : Plan) (w v : Waiting) (m : Calendar) (n : ℕ) (state : OperationS
     room = room_kept w.calendar v.calendar (length p.tables.now.ops.items) (room_trans w.calendar m v.calendar room keeps) so_far.room;
     kept = kept_put p m v.calendar (n + 1) 0 (rank_of p n) _ (omega arith) puts
         (keeps_out_more p plan w.calendar m n class there so_far.kept is noted);
+    short = short_kept w.calendar v.calendar p.short (room_trans w.calendar m v.calendar room keeps) so_far.short;
     roots = λ j below. by_eq j n
         (λ same. ap (λ k. has v.calendar 0 (rank_of p k)) same ∙ puts.here ∙ ap (λ b. ready || b) new_rank ∙ or_false ready ∙ at_end
         ∙ ap (λ k. eqb ((graph_of p.tables.now.edges).start k) ((graph_of p.tables.now.edges).start (k + 1))) (sym same))
@@ -100,8 +101,8 @@ opened graph w is none unmet earliest roots others = record {
 pub opening_none : (p : Plan) (w : Waiting) → w.states.items ≡ []
     → issued_list w ≡ replicate (length p.tables.now.edges.heads.items) not_issued
     → HasRoom w.calendar (length p.tables.now.ops.items)
-    → ((s r : ℕ) → has w.calendar s r ≡ false) → IsOpening p w 0
-opening_none p w none issued room empty = grind (arith, true≢false)
+    → ((s r : ℕ) → has w.calendar s r ≡ false) → p.short ≡ eqb w.calendar.blocks 0 → IsOpening p w 0
+opening_none p w none issued room empty short = grind (arith, true≢false)
 
 -- all states are made
 module _ (p : Plan) (w : Waiting) (plan : IsPlan p) (made : IsOpening p w (length p.tables.now.edges.heads.items)) where

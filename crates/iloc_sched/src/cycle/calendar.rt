@@ -3,7 +3,7 @@
 //! A rank is an operation's place in the order of choice, so the first of a set is its lowest bit, and no branch goes by how
 //! priorities compare: in blocks of a hundred operations heaps take 40 instructions and 3 mispredicted branches more for each
 //! operation, with ranking. Sets stand side by side: words w of all sets follow each other.
-ghost use Rattle.std.specs.Prelude.{ℕ, ◌≡◌, ◌≢◌, ◌+◌, ◌*◌, ◌/◌, ◌%◌, ◌<◌, ◌≤◌, length, OnOk};
+ghost use Rattle.std.specs.Prelude.{ℕ, ◌≡◌, ◌≢◌, ◌==◌, ◌+◌, ◌*◌, ◌/◌, ◌%◌, ◌<◌, ◌≤◌, nat_lt, length, OnOk};
 ghost use Rattle.iloc_sched.specs.Steps.Cycle.RankSets.{IsSummary, IsFirstWithin};
 
 use crate::cycle::class::Class;
@@ -25,6 +25,9 @@ pub const READY: usize = BUCKETS;
 
 // After it there is a set for each class: what an operation of the class keeps out of its row.
 pub const KEPT_OUT: usize = READY + 1;
+
+/// For fewer operations one word a set is enough.
+pub const SHORT: usize = 64;
 
 /// How many sets there are.
 pub const SETS: usize = KEPT_OUT + 4;
@@ -72,8 +75,9 @@ impl Calendar {
         requires { count ≤ MAX_OPS }
         ensures empty { OnOk result ((s r : ℕ) → has self.new s r ≡ false) }
         ensures room { OnOk result (HasRoom self.new count) }
+        ensures short { OnOk result ((self.new.blocks == 0) ≡ nat_lt count SHORT) }
     {
-        let blocks = if count < 64 { 0 } else { count / 4096 + 1 };
+        let blocks = if count < SHORT { 0 } else { count / 4096 + 1 };
         self.words.clear();
         self.blocks = 0;
         fill_zeros(&mut self.summary, blocks * SETS)?;
@@ -84,7 +88,9 @@ impl Calendar {
 
     /// Whether one word a set is enough.
     #[inline(always)]
-    pub fn is_short(&self) -> bool {
+    pub fn is_short(&self) -> bool
+        ensures { result ≡ (self.now.blocks == 0) }
+    {
         self.blocks == 0
     }
 
@@ -114,14 +120,15 @@ impl Calendar {
 
     /// Puts a rank into the bucket of a cycle, if it is ready then.
     #[inline(always)]
-    pub fn put_if(&mut self, ready: bool, rank: u32, cycle: u32)
-        requires { IsWithin self.old rank }
+    pub fn put_if(&mut self, short: bool, ready: bool, rank: u32, cycle: u32)
+        requires short { short ≡ (self.old.blocks == 0) }
+        requires within { IsWithin self.old rank }
         ensures puts { Puts self.old self.new (cycle % 32) rank (ready || has self.old (cycle % 32) rank) }
         ensures room { KeepsRoom self.old self.new }
     {
         let rank = rank as usize;
         let bucket = cycle as usize % BUCKETS;
-        if self.blocks == 0 {
+        if short {
             // A rank is its bit, and no word has to be found.
             add_if(&mut self.words, ready, bucket, rank % 64);
         } else {
@@ -130,18 +137,34 @@ impl Calendar {
         }
     }
 
+    /// A rank. Where there is one word it is its bit, and no word has to be found: that saves 4 instructions for each operation.
+    #[inline(always)]
+    fn bit_of(&self, short: bool, rank: u32) -> usize
+        requires short { short ≡ (self.now.blocks == 0) }
+        requires within { IsWithin self.now rank }
+        ensures { result ≡ rank }
+    {
+        if short {
+            rank as usize % 64
+        } else {
+            rank as usize
+        }
+    }
+
     /// Notes a rank of this class: an operation of the class keeps it out, but for the rest, which keeps nothing out.
     #[inline(always)]
-    pub fn keep_out(&mut self, class: Class, rank: u32)
-        requires { IsWithin self.old rank }
+    pub fn keep_out(&mut self, short: bool, class: Class, rank: u32)
+        requires short { short ≡ (self.old.blocks == 0) }
+        requires within { IsWithin self.old rank }
         ensures puts { Puts self.old self.new (33 + place_of class) rank (excludes class class || has self.old (33 + place_of class) rank) }
         ensures room { KeepsRoom self.old self.new }
     {
+        let rank = self.bit_of(short, rank);
         add_if(
             &mut self.words,
             class.is_limited(),
             KEPT_OUT + class.place(),
-            rank as usize,
+            rank,
         );
     }
 
@@ -185,13 +208,14 @@ impl Calendar {
 
     /// What is in the bucket of a cycle becomes ready.
     #[inline(always)]
-    pub fn release(&mut self, cycle: u32)
-        requires { HasRoom self.old 0 }
+    pub fn release(&mut self, short: bool, cycle: u32)
+        requires short { short ≡ (self.old.blocks == 0) }
+        requires room { HasRoom self.old 0 }
         ensures releases { Releases self.old self.new (cycle % 32) }
         ensures room { KeepsRoom self.old self.new }
     {
         let bucket = cycle as usize % BUCKETS;
-        if self.blocks == 0 {
+        if short {
             move_word(&mut self.words, 0, bucket);
         } else {
             self.release_blocks(bucket);
@@ -237,13 +261,14 @@ impl Calendar {
     /// serves both steps: with one for each, an operation of a block of fifteen has 0.14 mispredicted branches and 5
     /// instructions more.
     #[inline(always)]
-    pub fn take_first(&mut self, beside: Class) -> Option<u32>
+    pub fn take_first(&mut self, short: bool, beside: Class) -> Option<u32>
+        requires short { short ≡ (self.old.blocks == 0) }
         requires room { HasRoom self.old 0 }
         requires within { (r : ℕ) → offers self.old beside r ≡ true → IsWithin self.old r }
         ensures first { IsFirst (offers self.old beside) result }
         ensures takes { Takes self.old self.new result }
     {
-        if self.blocks == 0 {
+        if short {
             let rank = first_of_word(&self.words, 0, beside.place())?;
             self.remove(rank);
             Some(rank)

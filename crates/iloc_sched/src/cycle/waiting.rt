@@ -65,6 +65,7 @@ impl Waiting {
         let edges = &plan.tables.edges;
         let count = edges.op_count();
         self.calendar.clear(count)?;
+        let short = self.calendar.is_short();
         self.states.clear();
         self.states.reserve(count)?;
         self.issued = Issued::none(count);
@@ -77,8 +78,8 @@ impl Waiting {
             });
             let rank = plan.ranks[j];
             let class = Class::of(plan.kind_of(j as u32));
-            self.calendar.keep_out(class, rank);
-            self.calendar.put_if(place == end, rank, 0);
+            self.calendar.keep_out(short, class, rank);
+            self.calendar.put_if(short, place == end, rank, 0);
             place = end;
         }
         Ok(())
@@ -124,8 +125,7 @@ impl Waiting {
         let until = if some { cycle + edge.delay } else { 0 };
         let earliest = state.earliest.max(until);
         self.change(target, unmet, earliest);
-        self.calendar
-            .put_if(some && unmet == 0, plan.ranks[target], earliest);
+        self.calendar.put_if(plan.short, some && unmet == 0, plan.ranks[target], earliest);
         edge.previous
     }
 
@@ -149,7 +149,7 @@ impl Waiting {
     {
         self.issued = self.issued.and(i, cycle);
         let mut at = plan.tables.edges.last_from(i);
-        if self.calendar.is_short() && plan.tables.edges.edge_count() > 0 {
+        if plan.short && plan.tables.edges.edge_count() > 0 {
             at = self.pass(plan, at, cycle);
         }
         while at.is_some() {

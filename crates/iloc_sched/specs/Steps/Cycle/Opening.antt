@@ -18,6 +18,7 @@ pub record IsOpening (p : Plan) (w : Waiting) (n : ℕ) : Type 0 where
   pub earliest : earliest_list w ≡ replicate n 0
   pub room : HasRoom w.calendar (length p.tables.now.ops.items)
   pub kept : KeepsOut p n w.calendar
+  pub short : p.short ≡ (w.calendar.blocks == 0)
   pub roots : (j : ℕ) → j < n
       → has w.calendar 0 (rank_of p j) ≡ ((graph_of p.tables.now.edges).start j == (graph_of p.tables.now.edges).start (j + 1))
   pub only : (s r : ℕ) → s ≤ 32 → has w.calendar s r ≡ true → (s ≡ 0) × IsRanked p n r

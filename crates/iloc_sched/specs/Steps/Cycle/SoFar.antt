@@ -1,5 +1,5 @@
 -- What holds of a schedule that is being made.
-use Rattle.std.specs.Prelude.{ℕ, ◌+◌, ◌≡◌, ◌<◌, ◌≤◌, ◌||◌, List, length, map, slice_index, slice_index_or, slice_set, count_by, is_none, Option, Some, None, Bool, true, false, if◌then◌else◌}
+use Rattle.std.specs.Prelude.{ℕ, ◌+◌, ◌≡◌, ◌<◌, ◌≤◌, ◌==◌, ◌||◌, nat_lt, List, length, map, slice_index, slice_index_or, slice_set, count_by, is_none, Option, Some, None, Bool, true, false, if◌then◌else◌}
 use Rattle.iloc_meaning.specs.Trace.{op_at}
 use Rattle.iloc_ops.specs.declared.op.Op.{Op}
 use Rattle.iloc_timed.specs.declared.row.Row.{Row}
@@ -22,12 +22,13 @@ use Rattle.iloc_sched.specs.Steps.Views.{graph_of, issued_list, progress_of, IsS
 abbrev pub class_at : List Op → ℕ → Class
 class_at ops i = class_of (kind (op_at ops i))
 
--- a plan has the kinds and the edges of its operations, and by a priority for each their ranks
+-- a plan has the kinds and the edges of its operations, and by a priority for each their ranks; it knows whether they are few
 pub record IsPlan (p : Plan) : Type 0 where
   pub kinds : p.tables.now.kinds.items ≡ map kind p.tables.now.ops.items
   pub graph : IsGraphOf p.tables.now.latencies p.tables.now.ops.items (graph_of p.tables.now.edges)
   pub priorities : length p.priorities.now ≡ length p.tables.now.ops.items
   pub ranked : AreRanks p.priorities.now p.order.now p.ranks.now
+  pub short : p.short ≡ nat_lt (length p.tables.now.ops.items) 64
 
 -- the rank of operation j
 abbrev pub rank_of : Plan → ℕ → ℕ
@@ -42,11 +43,13 @@ pub record KeepsOut (p : Plan) (n : ℕ) (c : Calendar) : Type 0 where
   pub each : (k : Class) (j : ℕ) → j < n → has c (33 + place_of k) (rank_of p j) ≡ excludes k (class_at p.tables.now.ops.items j)
   pub only : (k : Class) (r : ℕ) → has c (33 + place_of k) r ≡ true → IsRanked p n r
 
--- buckets and what is ready have operations of the plan, and for each class what it keeps out is known
+-- buckets and what is ready have operations of the plan, and for each class what it keeps out is known; the plan knows whether
+-- one word a set is enough
 pub record IsCalendar (p : Plan) (c : Calendar) : Type 0 where
   pub room : HasRoom c (length p.tables.now.ops.items)
   pub ranked : (s r : ℕ) → s ≤ 32 → has c s r ≡ true → IsRanked p (length p.tables.now.ops.items) r
   pub kept : KeepsOut p (length p.tables.now.ops.items) c
+  pub short : p.short ≡ (c.blocks == 0)
 
 -- what is ready is just what can be issued
 pub record IsQueued (ranks : List ℕ) (graph : Graph) (w : Progress) (f : ℕ) (c : Calendar) : Type 0 where

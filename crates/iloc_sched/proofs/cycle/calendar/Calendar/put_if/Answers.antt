@@ -1,4 +1,5 @@
-use Rattle.std.proofs.Common.{◌≡◌, ◌*◌, ◌/◌, ◌+◌, ◌%◌, ◌<◌, ◌≤◌, sym, subst, ◌∙◌, arith}
+use Rattle.std.proofs.Common.{◌≡◌, ◌*◌, ◌/◌, ◌+◌, ◌%◌, ◌<◌, ◌≤◌, sym, subst, ◌∙◌, arith, eq-eqb}
+use Rattle.std.proofs.lemmas.Bool.{eqb-true, false≢true}
 use Rattle.std.specs.Vec.{with_items}
 use Rattle.iloc_sched.specs.Steps.Cycle.RankSets.{AddsBit}
 use Rattle.iloc_sched.proofs.Ranks.Sets.{puts_from, adds_back}
@@ -8,47 +9,47 @@ use Rattle.iloc_sched.proofs.cycle.calendar.Calendar.put_if.Goals as goal
 pub invariant_of-self : goal.invariant_of-self
 invariant_of-self c =
     let s = c.args.self.now in
-    let none = c.if-self-eq0.true in
+    let none : s.blocks ≡ 0 = eqb-true s.blocks 0 (sym c.requires.short ∙ c.if-short.true) in
     let adds = adds_back s.words c.deref_mut.result.now c.add_if.new.words c.deref_mut.ensures.value c.args.ready (c.args.cycle % 32) (c.args.rank % 64)
     c.add_if.ensures in
     record {
-      summarised = λ some. absurd (some (omega arith));
+      summarised = λ some. absurd (some none);
       sized = s.sized;
-      single = λ _. subst (λ n. n ≤ 37) (sym adds.size) (s.single (omega arith));
+      single = λ _. subst (λ n. n ≤ 37) (sym adds.size) (s.single none);
       few = s.few;
       whole = λ w. subst (λ n. w * 37 < n → w * 37 + 37 ≤ n) (sym adds.size) (s.whole w);
     }
 
-pub invariant_of-self-else-self-eq0 : goal.invariant_of-self-else-self-eq0
-invariant_of-self-else-self-eq0 c =
+pub invariant_of-self-else-short : goal.invariant_of-self-else-short
+invariant_of-self-else-short c =
     let s = c.args.self.now in
-    let below = adds_back s.words c.deref_mut-else-self-eq0.result.now c.add_if-else-self-eq0.new.words c.deref_mut-else-self-eq0.ensures.value
-    c.args.ready (c.args.cycle % 32) c.args.rank c.add_if-else-self-eq0.ensures in
-    let above = adds_back s.summary c.deref_mut-else-self-eq0-2.result.now c.add_if-else-self-eq0-2.new.words c.deref_mut-else-self-eq0-2.ensures.value
-    c.args.ready (c.args.cycle % 32) (c.args.rank / 64) c.add_if-else-self-eq0-2.ensures in
+    let below = adds_back s.words c.deref_mut-else-short.result.now c.add_if-else-short.new.words c.deref_mut-else-short.ensures.value
+    c.args.ready (c.args.cycle % 32) c.args.rank c.add_if-else-short.ensures in
+    let above = adds_back s.summary c.deref_mut-else-short-2.result.now c.add_if-else-short-2.new.words c.deref_mut-else-short-2.ensures.value
+    c.args.ready (c.args.cycle % 32) (c.args.rank / 64) c.add_if-else-short-2.ensures in
     record {
       summarised = λ some. IsSummary-added s.summary.items _ s.words.items _ (c.args.cycle % 32) c.args.rank (omega arith) (s.summarised some)
           c.args.ready below above;
       sized = above.size ∙ s.sized;
-      single = λ none. absurd (c.if-self-eq0.false none);
+      single = λ none. absurd (false≢true (sym c.if-short.false ∙ c.requires.short ∙ eq-eqb s.blocks 0 none));
       few = s.few;
       whole = λ w. subst (λ n. w * 37 < n → w * 37 + 37 ≤ n) (sym below.size) (s.whole w);
     }
 
 -- where there is one word a rank is its bit
-pub returns-then-self-eq0-clause-puts : goal.returns-then-self-eq0-clause-puts
-returns-then-self-eq0-clause-puts c =
+pub returns-then-short-clause-puts : goal.returns-then-short-clause-puts
+returns-then-short-clause-puts c =
     let s = c.args.self.now in
-    let word = c.requires.word in
-    let single = s.single (c.if-self-eq0.true) in
+    let word = c.requires.within.word in
+    let single = s.single (eqb-true s.blocks 0 (sym c.requires.short ∙ c.if-short.true)) in
     let is : c.args.rank % 64 ≡ c.args.rank = omega arith in
     puts_from s _ (c.args.cycle % 32) c.args.rank c.args.ready
     (subst (λ r. AddsBit s.words.items (with_items s.words c.add_if.new.words).items c.args.ready (c.args.cycle % 32) r) is
     (adds_back s.words c.deref_mut.result.now c.add_if.new.words c.deref_mut.ensures.value c.args.ready (c.args.cycle % 32) (c.args.rank % 64)
     c.add_if.ensures))
 
-pub returns-else-self-eq0-clause-puts : goal.returns-else-self-eq0-clause-puts
-returns-else-self-eq0-clause-puts c =
+pub returns-else-short-clause-puts : goal.returns-else-short-clause-puts
+returns-else-short-clause-puts c =
     puts_from c.args.self.now _ (c.args.cycle % 32) c.args.rank c.args.ready
-    (adds_back c.args.self.now.words c.deref_mut-else-self-eq0.result.now c.add_if-else-self-eq0.new.words c.deref_mut-else-self-eq0.ensures.value
-    c.args.ready (c.args.cycle % 32) c.args.rank c.add_if-else-self-eq0.ensures)
+    (adds_back c.args.self.now.words c.deref_mut-else-short.result.now c.add_if-else-short.new.words c.deref_mut-else-short.ensures.value
+    c.args.ready (c.args.cycle % 32) c.args.rank c.add_if-else-short.ensures)

@@ -68,6 +68,7 @@ loop-j-preserved c =
           c.keep_out.ensures.puts
           c.keep_out.ensures.room (nat_eq c.loop-j.place c.start-end.result) ready
           c.put_if.ensures.puts c.put_if.ensures.room;
+      short = c.loop-j.invariant.short;
       place = c.start-end.ensures;
       size = omega arith;
       capacity = omega arith;
