@@ -87,8 +87,8 @@ impl Waiting {
         Some(Choice { number, kind })
     }
 
-    /// Makes the row of one more cycle. Answers how many operations it issues. It is put into its caller's loop, so that the compiler
-    /// can make two loops of it (`Plan::short`).
+    /// Makes the row of one more cycle. Answers how many operations it issues. It stands in its caller's loop, where the compiler
+    /// sees that the plan's flag stays (`Plan::short`).
     #[inline(always)]
     pub fn step(&mut self, plan: &Plan, rows: &mut Vec<Row>) -> Result<usize, NoMemory>
         requires small { length rows.old.items + LONGEST_DELAY + 1 < 2 ^ 32 }

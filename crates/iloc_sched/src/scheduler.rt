@@ -104,8 +104,8 @@ fn fill_rows(plan: &Plan, waiting: &mut Waiting, rows: &mut Vec<Row>) -> Result<
 {
     waiting.open(plan)?;
     rows.clear();
-    // The same plan, but the compiler doesn't know from where the flag comes, and keeps it: computed from a length, it is computed
-    // at each test, and an operation of a block of ten takes 10 instructions more.
+    // The same plan. Its flag comes from the calendar, since one that is computed from a length is computed anew at each test: that
+    // takes 10 instructions more for an operation of a block of ten.
     let known = Plan {
         short: waiting.calendar.is_short(),
         ..*plan

@@ -15,8 +15,8 @@ pub struct Plan<'a> {
     /// By operation its rank.
     pub ranks: &'a [u32],
     /// Whether one word a set of the calendar is enough. Nothing is written beside it while a schedule is made, so the compiler
-    /// tests it once, and makes a loop for each answer: an operation of a block of ten takes 16 instructions less than if each
-    /// step asked the calendar, and one of a block of fifteen 6.
+    /// tests it once in a cycle: if each step asked the calendar, an operation of a block of ten would take 16 instructions more,
+    /// and one of a block of fifteen 6.
     pub short: bool,
 }
 
