@@ -75,8 +75,8 @@ enum Kind {
     ArrowRegister,
 }
 
-/// What mostly precedes a number: the bytes of `word`, or of `tabbed` where a tab stands for a blank, whose bits are those of
-/// `mask`.
+/// What mostly precedes a number: the bytes of `word`, or of `tabbed` with a tab for the first blank, whose bits are those of
+/// `mask`. Without `tabbed` a text with tabs after opcodes and before arrows takes `run` 40 % more instructions.
 struct Lead {
     kind: Kind,
     word: u64,
