@@ -76,7 +76,8 @@ fn push_words(text: &mut Vec<u8>, words: &[i32]) -> Result<(), NoMemory>
 }
 
 /// Appends what is listed of the block with this number, counted from 1, which emitted these words,
-/// or faulted where there are none. After a refusal a part of it may follow the text. It is no call of its own, as its head isn't.
+/// or faulted where there are none. After a refusal a part of it may follow the text. As a call of its own `run` executes 3
+/// instructions more for each operation of blocks of ten.
 #[inline(always)]
 pub(crate) fn push_outcome(
     text: &mut Vec<u8>,
