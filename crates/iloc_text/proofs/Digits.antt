@@ -1,14 +1,14 @@
 -- Up to four digits at the front, which are read at once, and the digits in a front of the bytes.
-use Rattle.std.proofs.Common.{◌≡◌, ◌∙◌, ◌≤◌, ◌<◌, ◌+◌, ◌-◌, ◌*◌, ◌==◌, ℕ, zero, suc, Bool, true, false, cond, ◌&&◌, if◌then◌else◌, List, [], ◌∷◌, ◌++◌, length, take, drop, length-drop, get_or, refl, sym, ap, ap₂, subst, ◌⊎◌, inl, inr, Option, Some, None, nat_lt, arith}
+use Rattle.std.proofs.Common.{◌≡◌, ◌∙◌, ◌≤◌, ◌<◌, ◌+◌, ◌-◌, ◌*◌, ◌%◌, ◌==◌, ℕ, zero, suc, Bool, true, false, cond, ◌&&◌, if◌then◌else◌, List, [], ◌∷◌, length, take, drop, length-drop, get_or, refl, sym, ap, ap₂, subst, ◌⊎◌, inl, inr, Option, Some, None, nat_lt, arith}
 use Rattle.std.specs.Char.{is_ascii_digit}
 use Rattle.std.specs.Int.{from_bool, w64, from_le_bytes}
-use Rattle.std.specs.Int.Bits.{bit_xor}
+use Rattle.std.specs.Int.Bits.{bit_and, bit_xor, and_zero_r}
 use Rattle.std.specs.List.{AllByRecursion}
 use Rattle.std.specs.Simd.Lanes.{number_l}
 use Rattle.std.proofs.lemmas.List.{length-take, take_all}
 use Rattle.std.proofs.lemmas.Bool.{agree_below_at, eqb-true, ltb-true}
-use Rattle.std.proofs.lemmas.Nat.{xor_of_8}
-use Rattle.iloc_text.specs.Steps.Digits.{digits_first, number_by}
+use Rattle.std.proofs.lemmas.Nat.{xor_of_8, and_comm, and_le_r, and_mask}
+use Rattle.iloc_text.specs.Steps.Digits.{digits_first, number_by, IsMask}
 use Rattle.iloc_text.specs.Steps.Scan.{capped, digits_after, number_at}
 use Rattle.iloc_text.proofs.Lanes.{Bytes, eight, xor_lanes}
 
@@ -169,14 +169,14 @@ by_count bytes p q r s value count =
     (AllByRecursion (λ x. x < 10) (take count (p ∷ q ∷ r ∷ s ∷ [])) → value ≡ number_by 0 (take count (p ∷ q ∷ r ∷ s ∷ [])))
     → number_at bytes ≡ Some (value, drop count bytes)
 
-pub short_is : (bytes : List ℕ) (p q r s t u v value count : ℕ) → 5 ≤ length bytes → DigitIn (get_or bytes 0 0) p
+pub short_is : (bytes : List ℕ) (p q r s t u v w value count : ℕ) → 5 ≤ length bytes → DigitIn (get_or bytes 0 0) p
     → DigitIn (get_or bytes 1 0) q → DigitIn (get_or bytes 2 0) r → DigitIn (get_or bytes 3 0) s → DigitIn (get_or bytes 4 0) t
-    → 1 ≤ count → count ≤ 4 → count ≡ digits_first (p ∷ q ∷ r ∷ s ∷ t ∷ u ∷ v ∷ []) → by_count bytes p q r s value count
-short_is bytes p q r s t u v value count long da db dc dd de some few same =
+    → 1 ≤ count → count ≤ 4 → count ≡ digits_first (p ∷ q ∷ r ∷ s ∷ t ∷ u ∷ v ∷ w ∷ []) → by_count bytes p q r s value count
+short_is bytes p q r s t u v w value count long da db dc dd de some few same =
     by (nat_lt p 10) (nat_lt q 10) (nat_lt r 10) (nat_lt s 10) (nat_lt t 10) refl refl refl refl refl same
   where
     more : ℕ
-    more = digits_first (u ∷ v ∷ [])
+    more = digits_first (u ∷ v ∷ w ∷ [])
 
     shape : (x y z : Bool) → Option (ℕ × List ℕ)
     shape x y z = Some (value_of p q r s x y z, drop (1 + from_bool x + from_bool (x && y) + from_bool ((x && y) && z)) bytes)
@@ -221,7 +221,7 @@ digit_xor c h = record {
 pub short_number : (bytes : List ℕ) (front digits count value : ℕ) → 8 ≤ length bytes → ((i : ℕ) → get_or bytes i 0 < 256)
     → front ≡ from_le_bytes w64 (get_or bytes 0 0 ∷ get_or bytes 1 0 ∷ get_or bytes 2 0 ∷ get_or bytes 3 0 ∷ get_or bytes 4 0 ∷ get_or bytes 5 0 ∷ get_or bytes 6 0 ∷ get_or bytes 7 0 ∷ [])
     → digits ≡ bit_xor front 3472328296227680304
-    → ((below : List ℕ) (top : ℕ) → Bytes below → length below ≡ 7 → top < 256 → digits ≡ number_l 256 (below ++ top ∷ []) → count ≡ digits_first below)
+    → ((lanes : List ℕ) → Bytes lanes → length lanes ≡ 8 → digits ≡ number_l 256 lanes → count ≡ digits_first lanes)
     → 1 ≤ count → count ≤ 4
     → ((a b c d rest : ℕ) → AllByRecursion (λ x. x < 10) (take count (a ∷ b ∷ c ∷ d ∷ [])) → Bytes (a ∷ b ∷ c ∷ d ∷ [])
     → digits ≡ number_l 256 (a ∷ b ∷ c ∷ d ∷ rest ∷ []) → value ≡ number_by 0 (take count (a ∷ b ∷ c ∷ d ∷ [])))
@@ -238,7 +238,26 @@ short_number bytes front digits count value long small is xored counted some few
     (eight (small 0) (small 1) (small 2) (small 3) (small 4) (small 5) (small 6) (small 7))
     (eight zero_digit zero_digit zero_digit zero_digit zero_digit zero_digit zero_digit zero_digit) in
     let rest = d 4 + 256 * (d 5 + 256 * (d 6 + 256 * d 7)) in
-    short_is bytes (d 0) (d 1) (d 2) (d 3) (d 4) (d 5) (d 6) value count (omega (arith, long)) (digit 0) (digit 1) (digit 2) (digit 3) (digit 4)
-    some few
-    (counted (d 0 ∷ d 1 ∷ d 2 ∷ d 3 ∷ d 4 ∷ d 5 ∷ d 6 ∷ []) (d 7) (lane 0, (lane 1, (lane 2, (lane 3, (lane 4, (lane 5, (lane 6, tt))))))) refl (lane 7) whole)
+    short_is bytes (d 0) (d 1) (d 2) (d 3) (d 4) (d 5) (d 6) (d 7) value count (omega (arith, long)) (digit 0) (digit 1) (digit 2)
+    (digit 3) (digit 4) some few
+    (counted (d 0 ∷ d 1 ∷ d 2 ∷ d 3 ∷ d 4 ∷ d 5 ∷ d 6 ∷ d 7 ∷ []) (eight (lane 0) (lane 1) (lane 2) (lane 3) (lane 4) (lane 5) (lane 6) (lane 7)) refl whole)
     (λ below. valued (d 0) (d 1) (d 2) (d 3) rest below (lane 0, (lane 1, (lane 2, (lane 3, tt)))) (whole ∙ omega arith))
+
+-- what a mask leaves of how many digits there are: nothing, or all where they are one to four
+abbrev pub Counted : ℕ → ℕ → Type 0
+Counted count mask = ((mask ≡ 0) × (bit_and count mask ≡ 0)) ⊎ ((bit_and count mask ≡ count) × (1 ≤ count) × (count ≤ 4))
+
+pub counted_by : (count mask : ℕ) → count ≤ 8 → IsMask mask → mask < 18446744073709551616
+    → bit_and ((count + 18446744073709551615) % 18446744073709551616) mask ≤ 3 → Counted count mask
+counted_by count mask few (inl none) fits e = inl (none, ap (bit_and count) none ∙ and_zero_r count)
+counted_by zero mask few (inr keeps) fits e =
+    let all : bit_and 18446744073709551615 mask ≡ mask = and_comm 18446744073709551615 mask ∙ and_mask mask 64 ∙ omega (arith, fits) in
+    absurd (omega (arith, e, all, keeps 15 (omega arith), and_le_r 15 mask))
+counted_by (suc n) mask few (inr keeps) fits e =
+    let less : (suc n + 18446744073709551615) % 18446744073709551616 ≡ n = omega (arith, few) in
+    let left = ap (λ k. bit_and k mask) less ∙ keeps n (omega (arith, few)) in
+    inr (keeps (suc n) (omega (arith, few)), omega arith, omega (arith, e, left))
+
+pub few_counted : (count mask : ℕ) → Counted count mask → bit_and count mask ≤ 4
+few_counted count mask (inl none) = omega (arith, none.1)
+few_counted count mask (inr all) = omega (arith, all.0, all.2)

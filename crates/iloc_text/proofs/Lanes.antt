@@ -1,8 +1,8 @@
 -- Bytes side by side in a number, the first of them the lowest, and the digits among them.
-use Rattle.std.proofs.Common.{◌≡◌, ◌∙◌, ◌≤◌, ◌<◌, ◌+◌, ◌-◌, ◌*◌, ◌/◌, ◌%◌, ◌^◌, ◌==◌, ℕ, zero, suc, Bool, true, false, cond, List, [], ◌∷◌, ◌++◌, length, take, refl, sym, ap, ap₂, nat_lt, arith}
+use Rattle.std.proofs.Common.{◌≡◌, ◌∙◌, ◌≤◌, ◌<◌, ◌+◌, ◌-◌, ◌*◌, ◌/◌, ◌%◌, ◌^◌, ◌==◌, ℕ, zero, suc, Bool, true, false, cond, List, [], ◌∷◌, length, take, refl, sym, ap, ap₂, nat_lt, arith}
 use Rattle.std.specs.List.{AllByRecursion}
 use Rattle.std.specs.Simd.Lanes.{number_l, zip2}
-use Rattle.std.specs.Int.Bits.{bit_and, bit_or, bit_xor, and_zero_r}
+use Rattle.std.specs.Int.Bits.{bit_and, bit_or, bit_xor}
 use Rattle.std.specs.Int.Count.{count_trailing_zeros}
 use Rattle.std.proofs.lemmas.Bool.{agree_below_at, eqb-true, ltb-true}
 use Rattle.std.proofs.lemmas.Nat.{and_block, or_block, xor_block, and_mod, or_mod, and_le_r, or_of_8, and_mask, mod-mul-add, div-mul-add, mod-pow-add}
@@ -96,60 +96,59 @@ byte_ends k n =
     ap₂ count_trailing_zeros long moved ∙ seven_even (suc k) (n * 2 + 1)
     ∙ ap (λ z. suc (suc (suc (suc (suc (suc (suc z))))))) (odd k n)
 
--- a number of as many equal bytes, below another one
-abbrev filled : ℕ → ℕ → List ℕ → ℕ
-filled each last [] = last
-filled each last (d ∷ ds) = each + 256 * filled each last ds
+-- a number of as many equal bytes
+abbrev filled : ℕ → List ℕ → ℕ
+filled each [] = 0
+filled each (d ∷ ds) = each + 256 * filled each ds
 
 -- the lowest byte of what is found, and the others
-lowest : (d n k m g : ℕ) → d < 256 → bit_and (bit_or (d + 256 * n + (118 + 256 * k)) (d + 256 * n)) (128 + 256 * m) + (0 + 256 * g)
-    ≡ flag d + 256 * (bit_and (bit_or (n + k + (d + 118) / 256) n) m + g)
-lowest d n k m g h =
+lowest : (d n k m : ℕ) → d < 256 → bit_and (bit_or (d + 256 * n + (118 + 256 * k)) (d + 256 * n)) (128 + 256 * m)
+    ≡ flag d + 256 * bit_and (bit_or (n + k + (d + 118) / 256) n) m
+lowest d n k m h =
     let high = n + k + (d + 118) / 256 in
     let low = (d + 118) % 256 in
     let small : low < 256 = omega arith in
     let summed : d + 256 * n + (118 + 256 * k) ≡ high * 2 ^ 8 + low = omega arith in
     let either = ap₂ bit_or summed (turned d n) ∙ or_block 8 high n low d small h in
-    let highest = ap₂ bit_and either (turned 128 m)
-    ∙ and_block 8 (bit_or high n) m (bit_or low d) 128 (or_of_8 low d small h) (omega arith) in
-    ap (λ x. x + (0 + 256 * g)) highest ∙ omega arith
+    ap₂ bit_and either (turned 128 m)
+    ∙ and_block 8 (bit_or high n) m (bit_or low d) 128 (or_of_8 low d small h) (omega arith) ∙ omega arith
 
-zeros_of : (ds : List ℕ) (top : ℕ) → Bytes ds
-    → count_trailing_zeros (8 * (length ds + 1)) (bit_and (bit_or (number_l 256 (ds ++ top ∷ []) + filled 118 118 ds) (number_l 256 (ds ++ top ∷ []))) (filled 128 0 ds) + filled 0 128 ds)
-    ≡ 8 * digits_first ds + 7
-zeros_of [] top h =
-    ap (λ x. count_trailing_zeros 8 (x + 128)) (and_zero_r (bit_or (number_l 256 (top ∷ []) + 118) (number_l 256 (top ∷ []))))
-    ∙ byte_ends 0 0
-zeros_of (d ∷ ds) top h = by (nat_lt d 10) refl (zeros_of ds top h.1)
+zeros_of : (ds : List ℕ) → Bytes ds
+    → count_trailing_zeros (8 * length ds) (bit_and (bit_or (number_l 256 ds + filled 118 ds) (number_l 256 ds)) (filled 128 ds)) / 8
+    ≡ digits_first ds
+unfolding count_trailing_zeros
+zeros_of [] h = refl
+zeros_of (d ∷ ds) h = by (nat_lt d 10) refl (zeros_of ds h.1)
   where
     n : ℕ
-    n = number_l 256 (ds ++ top ∷ [])
+    n = number_l 256 ds
 
     rest : ℕ → ℕ
-    rest carry = bit_and (bit_or (n + filled 118 118 ds + carry) n) (filled 128 0 ds) + filled 0 128 ds
+    rest carry = bit_and (bit_or (n + filled 118 ds + carry) n) (filled 128 ds)
 
-    long : 8 * (length (d ∷ ds) + 1) ≡ 8 + 8 * (length ds + 1)
+    long : 8 * length (d ∷ ds) ≡ 8 + 8 * length ds
     long = omega arith
 
-    whole : bit_and (bit_or (d + 256 * n + (118 + 256 * filled 118 118 ds)) (d + 256 * n)) (128 + 256 * filled 128 0 ds) + (0 + 256 * filled 0 128 ds)
+    whole : bit_and (bit_or (d + 256 * n + (118 + 256 * filled 118 ds)) (d + 256 * n)) (128 + 256 * filled 128 ds)
         ≡ flag d + 256 * rest ((d + 118) / 256)
-    whole = lowest d n (filled 118 118 ds) (filled 128 0 ds) (filled 0 128 ds) h.0
+    whole = lowest d n (filled 118 ds) (filled 128 ds) h.0
 
     by : (b : Bool) → nat_lt d 10 ≡ b
-        → count_trailing_zeros (8 * (length ds + 1)) (bit_and (bit_or (n + filled 118 118 ds) n) (filled 128 0 ds) + filled 0 128 ds) ≡ 8 * digits_first ds + 7
-        → count_trailing_zeros (8 * (length (d ∷ ds) + 1)) (bit_and (bit_or (d + 256 * n + (118 + 256 * filled 118 118 ds)) (d + 256 * n)) (128 + 256 * filled 128 0 ds) + (0 + 256 * filled 0 128 ds))
-        ≡ 8 * cond b (1 + digits_first ds) 0 + 7
+        → count_trailing_zeros (8 * length ds) (bit_and (bit_or (n + filled 118 ds) n) (filled 128 ds)) / 8 ≡ digits_first ds
+        → count_trailing_zeros (8 * length (d ∷ ds)) (bit_and (bit_or (d + 256 * n + (118 + 256 * filled 118 ds)) (d + 256 * n)) (128 + 256 * filled 128 ds)) / 8
+        ≡ cond b (1 + digits_first ds) 0
     by true e more =
         let none : (d + 118) / 256 ≡ 0 = omega (arith, ltb-true d 10 e) in
-        let same : n + filled 118 118 ds + (d + 118) / 256 ≡ n + filled 118 118 ds = omega (arith, none) in
-        let skipped : flag d + 256 * rest ((d + 118) / 256) ≡ 256 * (bit_and (bit_or (n + filled 118 118 ds) n) (filled 128 0 ds) + filled 0 128 ds) =
-        ap₂ (λ f x. f + 256 * (bit_and (bit_or x n) (filled 128 0 ds) + filled 0 128 ds)) (flag_is d h.0 ∙ ap (λ t. cond t 0 128) e) same ∙ omega arith in
-        ap₂ count_trailing_zeros long (whole ∙ skipped)
-        ∙ byte_skipped (8 * (length ds + 1)) (bit_and (bit_or (n + filled 118 118 ds) n) (filled 128 0 ds) + filled 0 128 ds)
-        ∙ ap (λ z. 8 + z) more ∙ omega arith
+        let same : n + filled 118 ds + (d + 118) / 256 ≡ n + filled 118 ds = omega (arith, none) in
+        let skipped : flag d + 256 * rest ((d + 118) / 256) ≡ 256 * bit_and (bit_or (n + filled 118 ds) n) (filled 128 ds) =
+        ap₂ (λ f x. f + 256 * bit_and (bit_or x n) (filled 128 ds)) (flag_is d h.0 ∙ ap (λ t. cond t 0 128) e) same ∙ omega arith in
+        let counted = ap₂ count_trailing_zeros long (whole ∙ skipped)
+        ∙ byte_skipped (8 * length ds) (bit_and (bit_or (n + filled 118 ds) n) (filled 128 ds)) in
+        ap (λ z. z / 8) counted ∙ omega arith ∙ ap (λ z. 1 + z) more
     by false e more =
-        ap₂ count_trailing_zeros long (whole ∙ ap (λ f. f + 256 * rest ((d + 118) / 256)) (flag_is d h.0 ∙ ap (λ t. cond t 0 128) e))
-        ∙ byte_ends (8 * (length ds + 1)) (rest ((d + 118) / 256))
+        let counted = ap₂ count_trailing_zeros long (whole ∙ ap (λ f. f + 256 * rest ((d + 118) / 256)) (flag_is d h.0 ∙ ap (λ t. cond t 0 128) e))
+        ∙ byte_ends (8 * length ds) (rest ((d + 118) / 256)) in
+        ap (λ z. z / 8) counted ∙ omega arith
 
 -- a sum that wraps beyond the bytes
 unwrapped : (a n m : ℕ) → n < 18446744073709551616 → m < 18446744073709551616
@@ -162,26 +161,27 @@ unwrapped a n m hn hm =
     let small : bit_and (bit_or a n) m % 2 ^ 64 ≡ bit_and (bit_or a n) m = omega (arith, and_le_r (bit_or a n) m, hm) in
     ap (λ x. bit_and x m) (sym either) ∙ sym both ∙ small
 
-pub digits_counted : (digits : ℕ) (below : List ℕ) (top : ℕ) → digits < 18446744073709551616 → Bytes below → length below ≡ 7
-    → digits ≡ number_l 256 (below ++ top ∷ [])
-    → count_trailing_zeros 64 (bit_and (bit_or ((digits + 8536140394893047414) % 18446744073709551616) digits) 36170086419038336 + 9223372036854775808) / 8 ≡ digits_first below
-digits_counted digits (p ∷ q ∷ r ∷ s ∷ t ∷ u ∷ v ∷ []) top fits h long e =
-    let found = ap (λ x. count_trailing_zeros 64 (x + 9223372036854775808)) (unwrapped (digits + 8536140394893047414) digits 36170086419038336 fits (omega arith))
-    ∙ ap (λ n. count_trailing_zeros 64 (bit_and (bit_or (n + 8536140394893047414) n) 36170086419038336 + 9223372036854775808)) e
-    ∙ zeros_of (p ∷ q ∷ r ∷ s ∷ t ∷ u ∷ v ∷ []) top h in
-    ap (λ n. n / 8) found ∙ omega arith
-digits_counted digits [] top fits h long e = absurd (omega (arith, long))
-digits_counted digits (p ∷ []) top fits h long e = absurd (omega (arith, long))
-digits_counted digits (p ∷ q ∷ []) top fits h long e = absurd (omega (arith, long))
-digits_counted digits (p ∷ q ∷ r ∷ []) top fits h long e = absurd (omega (arith, long))
-digits_counted digits (p ∷ q ∷ r ∷ s ∷ []) top fits h long e = absurd (omega (arith, long))
-digits_counted digits (p ∷ q ∷ r ∷ s ∷ t ∷ []) top fits h long e = absurd (omega (arith, long))
-digits_counted digits (p ∷ q ∷ r ∷ s ∷ t ∷ u ∷ []) top fits h long e = absurd (omega (arith, long))
-digits_counted digits (p ∷ q ∷ r ∷ s ∷ t ∷ u ∷ v ∷ w ∷ more) top fits h long e = absurd (omega (arith, long))
+pub digits_counted : (digits : ℕ) (bytes : List ℕ) → digits < 18446744073709551616 → Bytes bytes → length bytes ≡ 8
+    → digits ≡ number_l 256 bytes
+    → count_trailing_zeros 64 (bit_and (bit_or ((digits + 8536140394893047414) % 18446744073709551616) digits) 9259542123273814144) / 8
+    ≡ digits_first bytes
+digits_counted digits (p ∷ q ∷ r ∷ s ∷ t ∷ u ∷ v ∷ w ∷ []) fits h long e =
+    ap (λ x. count_trailing_zeros 64 x / 8) (unwrapped (digits + 8536140394893047414) digits 9259542123273814144 fits (omega arith)
+    ∙ ap (λ n. bit_and (bit_or (n + 8536140394893047414) n) 9259542123273814144) e)
+    ∙ zeros_of (p ∷ q ∷ r ∷ s ∷ t ∷ u ∷ v ∷ w ∷ []) h
+digits_counted digits [] fits h long e = absurd (omega (arith, long))
+digits_counted digits (p ∷ []) fits h long e = absurd (omega (arith, long))
+digits_counted digits (p ∷ q ∷ []) fits h long e = absurd (omega (arith, long))
+digits_counted digits (p ∷ q ∷ r ∷ []) fits h long e = absurd (omega (arith, long))
+digits_counted digits (p ∷ q ∷ r ∷ s ∷ []) fits h long e = absurd (omega (arith, long))
+digits_counted digits (p ∷ q ∷ r ∷ s ∷ t ∷ []) fits h long e = absurd (omega (arith, long))
+digits_counted digits (p ∷ q ∷ r ∷ s ∷ t ∷ u ∷ []) fits h long e = absurd (omega (arith, long))
+digits_counted digits (p ∷ q ∷ r ∷ s ∷ t ∷ u ∷ v ∷ []) fits h long e = absurd (omega (arith, long))
+digits_counted digits (p ∷ q ∷ r ∷ s ∷ t ∷ u ∷ v ∷ w ∷ x ∷ more) fits h long e = absurd (omega (arith, long))
 
 -- The number of up to four digits
 
-abbrev summed : ℕ → ℕ
+abbrev pub summed : ℕ → ℕ
 summed n = bit_and (n * 2561 % 4294967296 / 256) 255 * 100 + n * 2561 % 4294967296 / 16777216
 
 four : (x y z w : ℕ) → x < 10 → y < 10 → z < 10 → w < 10
@@ -215,7 +215,7 @@ kept digits a b c d rest h e =
 pub digits_valued : (digits count a b c d rest : ℕ) → 1 ≤ count → count ≤ 4
     → AllByRecursion (λ x. x < 10) (take count (a ∷ b ∷ c ∷ d ∷ [])) → Bytes (a ∷ b ∷ c ∷ d ∷ [])
     → digits ≡ number_l 256 (a ∷ b ∷ c ∷ d ∷ rest ∷ [])
-    → summed (bit_and digits 4294967295 * 2 ^ (32 - 8 * count) % 4294967296) ≡ number_by 0 (take count (a ∷ b ∷ c ∷ d ∷ []))
+    → summed (bit_and digits 4294967295 * 2 ^ ((32 - 8 * count) % 32) % 4294967296) ≡ number_by 0 (take count (a ∷ b ∷ c ∷ d ∷ []))
 digits_valued digits zero a b c d rest some few h small e = absurd (omega (arith, some))
 digits_valued digits (suc zero) a b c d rest some few h small e =
     let moved : (a + 256 * (b + 256 * (c + 256 * d))) * 16777216 ≡ (b + 256 * (c + 256 * d)) * 4294967296 + (0 + 256 * (0 + 256 * (0 + 256 * a))) = omega arith in

@@ -13,6 +13,7 @@ pub mod operand;
 pub mod operation;
 pub mod scan;
 pub mod schedule_line;
+pub mod shape;
 
 use crate::line::operation::optional_operation_at;
 use crate::line::scan::{ABOVE_LIMIT, after_blanks, word_at};

@@ -1,26 +1,30 @@
--- How operands are read on the fast path.
-use Rattle.std.specs.Prelude.{ℕ, ◌*◌, ◌-◌, ◌^◌, List, [], ◌∷◌, take, length}
+-- How operations are read on the fast path.
+use Rattle.std.specs.Prelude.{ℕ, ◌≡◌, ◌*◌, ◌-◌, ◌^◌, ◌++◌, Option, Some, None, option_to_list, List, [], ◌∷◌, length}
 use Rattle.std.specs.Simd.Lanes.{number_l}
 use Rattle.iloc_ops.specs.declared.forms.Opcode.{Opcode}
 use Rattle.iloc_ops.specs.declared.forms.Opcode.TheVariants.{Load, LoadI, Store, Add, Sub, Mult, Lshift, Rshift, Output, Nop, StoreAI}
-use Rattle.iloc_ops.specs.Forms.{Operand, ◌▹◌}
+use Rattle.iloc_ops.specs.Forms.{Operand, ◌▹◌, opcode_text}
 use Rattle.iloc_ops.specs.Forms.Lead.{space, comma, arrow}
 use Rattle.iloc_ops.specs.Forms.Value.{Use, Constant}
-use Rattle.iloc_text.specs.declared.line.fast_path.Kind.{Kind}
-use Rattle.iloc_text.specs.declared.line.fast_path.Kind.TheVariants.{BlankRegister, BlankConstant, CommaRegister, CommaConstant, ArrowRegister}
-use Rattle.iloc_text.specs.declared.line.fast_path.Lead.{Lead}
-use Rattle.iloc_text.specs.declared.line.fast_path.Shape.{Shape}
+use Rattle.iloc_text.specs.declared.line.shape.Kind.{Kind}
+use Rattle.iloc_text.specs.declared.line.shape.Kind.TheVariants.{Nothing, BlankRegister, BlankConstant, CommaRegister, CommaConstant, ArrowRegister}
+use Rattle.iloc_text.specs.declared.line.shape.Lead.{Lead}
+use Rattle.iloc_text.specs.declared.line.shape.Shape.{Shape}
+use Rattle.iloc_text.specs.Steps.Digits.{Keeps}
+use Rattle.iloc_text.specs.Steps.Scan.{operand_at}
 
 -- what is read after it, with 0 for the number
-abbrev pub operand_of : Kind → Operand
-operand_of BlankRegister = space ▹ Use (record { 0 = 0 })
-operand_of BlankConstant = space ▹ Constant 0
-operand_of CommaRegister = comma ▹ Use (record { 0 = 0 })
-operand_of CommaConstant = comma ▹ Constant 0
-operand_of ArrowRegister = arrow ▹ Use (record { 0 = 0 })
+abbrev pub operand_of : Kind → Option Operand
+operand_of Nothing = None
+operand_of BlankRegister = Some (space ▹ Use (record { 0 = 0 }))
+operand_of BlankConstant = Some (space ▹ Constant 0)
+operand_of CommaRegister = Some (comma ▹ Use (record { 0 = 0 }))
+operand_of CommaConstant = Some (comma ▹ Constant 0)
+operand_of ArrowRegister = Some (arrow ▹ Use (record { 0 = 0 }))
 
 -- how it is mostly written, with this byte for the first blank
 abbrev pub written : Kind → ℕ → List ℕ
+written Nothing blank = []
 written BlankRegister blank = blank ∷ 114 ∷ []
 written BlankConstant blank = blank ∷ []
 written CommaRegister blank = 44 ∷ blank ∷ 114 ∷ []
@@ -36,24 +40,43 @@ lead_of k = record {
   length = length (written k 32);
 }
 
-abbrev pub shaped : ℕ → Kind → Kind → Kind → Shape
-shaped count first second third =
-    record { count = count; first = lead_of first; second = lead_of second; third = lead_of third }
+abbrev pub shaped : List ℕ → Kind → Kind → Kind → Shape
+shaped text first second third = record {
+  word = number_l 256 text;
+  mask = 2 ^ (8 * length text) - 1;
+  length = length text;
+  first = lead_of first;
+  second = lead_of second;
+  third = lead_of third;
+}
 
 abbrev pub shape_of : Opcode → Shape
-shape_of Load = shaped 2 BlankRegister ArrowRegister ArrowRegister
-shape_of LoadI = shaped 2 BlankConstant ArrowRegister ArrowRegister
-shape_of Store = shaped 2 BlankRegister ArrowRegister ArrowRegister
-shape_of Add = shaped 3 BlankRegister CommaRegister ArrowRegister
-shape_of Sub = shaped 3 BlankRegister CommaRegister ArrowRegister
-shape_of Mult = shaped 3 BlankRegister CommaRegister ArrowRegister
-shape_of Lshift = shaped 3 BlankRegister CommaRegister ArrowRegister
-shape_of Rshift = shaped 3 BlankRegister CommaRegister ArrowRegister
-shape_of Output = shaped 1 BlankConstant ArrowRegister ArrowRegister
-shape_of Nop = shaped 0 BlankConstant ArrowRegister ArrowRegister
-shape_of StoreAI = shaped 3 BlankRegister ArrowRegister CommaConstant
-shape_of _ = shaped 3 BlankRegister CommaConstant ArrowRegister
+shape_of Load = shaped (opcode_text Load) BlankRegister ArrowRegister Nothing
+shape_of LoadI = shaped (opcode_text LoadI) BlankConstant ArrowRegister Nothing
+shape_of Store = shaped (opcode_text Store) BlankRegister ArrowRegister Nothing
+shape_of Add = shaped (opcode_text Add) BlankRegister CommaRegister ArrowRegister
+shape_of Sub = shaped (opcode_text Sub) BlankRegister CommaRegister ArrowRegister
+shape_of Mult = shaped (opcode_text Mult) BlankRegister CommaRegister ArrowRegister
+shape_of Lshift = shaped (opcode_text Lshift) BlankRegister CommaRegister ArrowRegister
+shape_of Rshift = shaped (opcode_text Rshift) BlankRegister CommaRegister ArrowRegister
+shape_of Output = shaped (opcode_text Output) BlankConstant Nothing Nothing
+shape_of Nop = shaped (opcode_text Nop) Nothing Nothing Nothing
+shape_of StoreAI = shaped (opcode_text StoreAI) BlankRegister ArrowRegister CommaConstant
+shape_of o = shaped (opcode_text o) BlankRegister CommaConstant ArrowRegister
 
 -- the operands by which such an operation is read
 abbrev pub operands_by : Shape → List Operand
-operands_by s = take s.count (operand_of s.first.kind ∷ operand_of s.second.kind ∷ operand_of s.third.kind ∷ [])
+operands_by s = option_to_list (operand_of s.first.kind) ++ option_to_list (operand_of s.second.kind) ++ option_to_list (operand_of s.third.kind)
+
+-- what is found in a text: the number of an operand, and, where there is none, some number, with nothing passed
+abbrev pub IsFound : Option Operand → List ℕ → ℕ × List ℕ → Type 0
+IsFound None text found = found.1 ≡ text
+IsFound (Some o) text found = operand_at o text ≡ Some found
+
+abbrev pub IsRead : Kind → List ℕ → ℕ × List ℕ → Type 0
+IsRead k = IsFound (operand_of k)
+
+-- a mask that leaves how many digits its number has as it is, where there is one, and else leaves nothing
+abbrev pub IsMaskOf : Kind → ℕ → Type 0
+IsMaskOf Nothing mask = mask ≡ 0
+IsMaskOf _ mask = Keeps mask

@@ -1,10 +1,10 @@
 //! Numbers. Those of few digits, as most are, are read without a branch for each digit, since how many digits a number
 //! has is hard to predict: with one `run` takes 11 % more processor time on blocks of outputs. Some bytes follow them, so
 //! the end of the text needs no test.
-ghost use Rattle.std.specs.Prelude.{◌≡◌, ◌≤◌, ◌<◌, ◌-◌, ◌+◌, ◌*◌, ◌++◌, ℕ, List, [], ◌∷◌, true, nat_lt, option_map, Some, IfSome, length, take, drop};
+ghost use Rattle.std.specs.Prelude.{◌≡◌, ◌≤◌, ◌<◌, ◌-◌, ◌+◌, ◌*◌, ◌++◌, ℕ, List, [], ◌∷◌, true, nat_lt, option_map, Some, IsSome, IfSome, length, take, drop};
 ghost use Rattle.std.specs.List.{AllByRecursion};
 ghost use Rattle.std.specs.Simd.Lanes.{number_l};
-ghost use Rattle.iloc_text.specs.Steps.Digits.{digits_first, number_by};
+ghost use Rattle.iloc_text.specs.Steps.Digits.{digits_first, number_by, IsMask, IsNumber};
 ghost use Rattle.iloc_text.specs.Steps.Scan.{capped, digits_after, number_at};
 
 use crate::line::scan::ABOVE_LIMIT;
@@ -79,39 +79,44 @@ fn long_number_at(bytes: &[u8]) -> (u32, usize)
     }
 }
 
-/// How many of the lowest seven bytes are below 10 before one that isn't.
+/// How many of the lowest bytes are below 10 before one that isn't.
 #[inline(always)]
 fn count_digits(digits: u64) -> usize
-    ensures { (below : List ℕ) (top : ℕ) → AllByRecursion (λ d. d < 256) below → length below ≡ 7 → top < 256
-        → digits ≡ number_l 256 (below ++ top ∷ []) → result ≡ digits_first below }
+    ensures is { (bytes : List ℕ) → AllByRecursion (λ d. d < 256) bytes → length bytes ≡ 8 → digits ≡ number_l 256 bytes
+        → result ≡ digits_first bytes }
+    ensures few { result ≤ 8 }
 {
     // The highest bit of the first byte that is 10 or more. None of the bytes before it carries, and what those after it give
     // doesn't matter.
-    let others = (digits.wrapping_add(0x7676_7676_7676_7676) | digits) & 0x0080_8080_8080_8080;
-    ((others + 0x8000_0000_0000_0000).trailing_zeros() >> 3) as usize
+    let others = (digits.wrapping_add(0x7676_7676_7676_7676) | digits) & 0x8080_8080_8080_8080;
+    (others.trailing_zeros() >> 3) as usize
 }
 
-/// The number of so many digits, which are the lowest bytes, the lowest first.
+/// The number of so many digits, which are the lowest bytes, the lowest first; some number where they are none.
 #[inline(always)]
 fn number_of(digits: u64, count: usize) -> u32
-    requires some { 1 ≤ count }
-    requires few { count ≤ 4 }
-    ensures is { (a b c d rest : ℕ) → AllByRecursion (λ x. x < 10) (take count (a ∷ b ∷ c ∷ d ∷ []))
+    requires { count ≤ 4 }
+    ensures is { 1 ≤ count → (a b c d rest : ℕ) → AllByRecursion (λ x. x < 10) (take count (a ∷ b ∷ c ∷ d ∷ []))
         → AllByRecursion (λ x. x < 256) (a ∷ b ∷ c ∷ d ∷ []) → digits ≡ number_l 256 (a ∷ b ∷ c ∷ d ∷ rest ∷ [])
         → result ≡ number_by 0 (take count (a ∷ b ∷ c ∷ d ∷ [])) }
     ensures small { result < 100000 }
 {
     let last = (digits & 0xffff_ffff) as u32;
     // Each of the four bytes, and ten times the one below it.
-    let twos = (last << (32 - 8 * count)).wrapping_mul(10 * 256 + 1);
+    let twos = last
+        .wrapping_shl(32 - 8 * count as u32)
+        .wrapping_mul(10 * 256 + 1);
     ((twos >> 8) & 0xff) * 100 + (twos >> 24)
 }
 
-/// A number of one digit to four, which are read at once, and how many they are: no more have most numbers.
+/// A number of one digit to four, which are read at once, and how many they are: no more have most numbers. By a mask of 0
+/// there are none.
 #[inline(always)]
-fn short_number_at(bytes: &[u8]) -> Option<(u32, usize)>
-    requires { 8 ≤ length bytes.now }
-    ensures is { IfSome result (λ found. number_at bytes.now ≡ Some (found.0, drop found.1 bytes.now)) }
+fn short_number_at(bytes: &[u8], mask: usize) -> Option<(u32, usize)>
+    requires long { 8 ≤ length bytes.now }
+    requires mask { IsMask mask }
+    ensures is { IfSome result (λ found. IsNumber mask bytes.now (found.0, drop found.1 bytes.now)) }
+    ensures some { mask ≡ 0 → IsSome result }
     ensures small { IfSome result (λ found. nat_lt found.0 ABOVE_LIMIT ≡ true) }
     ensures near { IfSome result (λ found. found.1 ≤ 4) }
 {
@@ -120,21 +125,24 @@ fn short_number_at(bytes: &[u8]) -> Option<(u32, usize)>
     ]);
     let digits = front ^ 0x3030_3030_3030_3030;
     let count = count_digits(digits);
-    if count == 0 || count > 4 {
+    if count.wrapping_sub(1) & mask > 3 {
         return None;
     }
-    Some((number_of(digits, count), count))
+    let counted = count & mask;
+    Some((number_of(digits, counted), counted))
 }
 
-/// A number within the limit and of up to `MOST_DIGITS` digits, and how many these are.
+/// A number within the limit and of up to `MOST_DIGITS` digits, and how many these are. By a mask of 0 it is some number, of
+/// none.
 #[inline(always)]
-pub fn fast_number_at(bytes: &[u8]) -> Option<(u32, usize)>
-    requires { 8 ≤ length bytes.now }
-    ensures is { IfSome result (λ found. number_at bytes.now ≡ Some (found.0, drop found.1 bytes.now)) }
+pub fn fast_number_at(bytes: &[u8], mask: usize) -> Option<(u32, usize)>
+    requires long { 8 ≤ length bytes.now }
+    requires mask { IsMask mask }
+    ensures is { IfSome result (λ found. IsNumber mask bytes.now (found.0, drop found.1 bytes.now)) }
     ensures small { IfSome result (λ found. nat_lt found.0 ABOVE_LIMIT ≡ true) }
     ensures near { IfSome result (λ found. found.1 ≤ MOST_DIGITS) }
 {
-    if let Some(found) = short_number_at(bytes) {
+    if let Some(found) = short_number_at(bytes, mask) {
         return Some(found);
     }
     let (value, count) = long_number_at(bytes);

@@ -5,6 +5,7 @@ ghost use Rattle.iloc_ops.specs.Operands.{operands_in};
 ghost use Rattle.iloc_text.specs.Steps.Opcodes.{opcode_of, operands_of};
 
 use crate::line::fast_path::word_from;
+use crate::line::shape::Shape;
 use iloc_ops::{OPCODES, Opcode, Operands, form_of, op_of};
 
 /// The operands of an opcode, with 0 for each number.
@@ -80,11 +81,9 @@ pub fn opcode_at(bytes: &[u8]) -> Option<(Opcode, usize)>
 {
     let front = word_from(bytes, 0);
     let opcode = opcode_by_letters(front);
-    let word = opcode.word();
-    // So many bits of both aren't of the text: the highest of the front, and the lowest of the word.
-    let others = 64 - 8 * word.length;
-    if front << others >> others == word_from(&word.bytes, 0) >> others {
-        Some((opcode, word.length))
+    let shape = Shape::of(opcode);
+    if front & shape.mask == shape.word {
+        Some((opcode, shape.length))
     } else {
         None
     }

@@ -1,50 +1,41 @@
-use Rattle.std.proofs.Common.{refl, arith}
-use Rattle.iloc_text.proofs.FastPath.{called_none, called_one, called_two, called_three, few, first_lead, second_lead, third_lead, small_op}
+use Rattle.std.proofs.Common.{◌≡◌, ◌∙◌, Bool, true, false, ap, subst, refl, drop}
+use Rattle.iloc_ops.specs.declared.forms.Opcode.TheVariants.{Output, Nop}
+use Rattle.iloc_text.specs.Steps.FastPath.{shape_of, IsRead}
+use Rattle.iloc_text.proofs.FastPath.{called, called_of, third_lead, small_op}
 use Rattle.iloc_text.proofs.line.fast_path.fast_called_at.Goals as goal
+use Rattle.iloc_text.proofs.line.fast_path.fast_called_at.Goals.{in-Nop, in_default, in-Output, in_default-matches}
 
-pub returns-then-shape-eq0-clause-is : goal.returns-then-shape-eq0-clause-is
-returns-then-shape-eq0-clause-is c =
-    rw c.op_of.ensures (called_none c.args.opcode c.shape_of-shape.result.now _ c.shape_of-shape.ensures c.if-shape-eq0.true)
+differ : (b : Bool) → b ≡ true → b ≡ false → ⊥
+differ b one other = cc
 
-pub returns-then-shape-eq0-clause-small : goal.returns-then-shape-eq0-clause-small
-returns-then-shape-eq0-clause-small c = rw c.op_of.ensures (small_op c.args.opcode 0 0 0 refl refl refl)
+pub returns-then-matches-clause-is : goal.returns-then-matches-clause-is
+returns-then-matches-clause-is c =
+    let is : c.args.opcode ≡ Nop = elim c.match-matches.branch [
+      | in-Nop w ↦ w.in-Nop.is
+      | in_default w ↦ absurd (differ c.match-matches.matches c.if-matches.true w.matches-is)
+    ] in
+    rw is (called_of Nop (drop c.args.start c.args.bytes.now) 0 0 0 _ _ _ refl refl refl)
 
-pub returns-then-shape-eq1-clause-is : goal.returns-then-shape-eq1-clause-is
-returns-then-shape-eq1-clause-is c =
-    rw c.op_of-then-shape-eq1.ensures (called_one c.args.opcode c.shape_of-shape.result.now _ _ _ c.shape_of-shape.ensures
-    c.if-shape-eq1.true c.in_ok-first.ensures.is)
-
-pub returns-then-shape-eq1-clause-small : goal.returns-then-shape-eq1-clause-small
-returns-then-shape-eq1-clause-small c =
-    rw c.op_of-then-shape-eq1.ensures (small_op c.args.opcode _ 0 0 c.in_ok-first.ensures.small refl refl)
-
-pub operand_from-requires-clause-lead : goal.operand_from-requires-clause-lead
-operand_from-requires-clause-lead c = first_lead c.args.opcode c.shape_of-shape.result.now c.shape_of-shape.ensures
-
-pub operand_from-requires-2-clause-lead : goal.operand_from-requires-2-clause-lead
-operand_from-requires-2-clause-lead c = second_lead c.args.opcode c.shape_of-shape.result.now c.shape_of-shape.ensures
-
-pub returns-then-shape-eq2-clause-is : goal.returns-then-shape-eq2-clause-is
-returns-then-shape-eq2-clause-is c =
-    rw c.op_of-then-shape-eq2.ensures (called_two c.args.opcode c.shape_of-shape.result.now _ _ _ _ _ c.shape_of-shape.ensures
-    c.if-shape-eq2.true c.in_ok-first.ensures.is c.in_ok-second.ensures.is)
-
-pub returns-then-shape-eq2-clause-small : goal.returns-then-shape-eq2-clause-small
-returns-then-shape-eq2-clause-small c =
-    rw c.op_of-then-shape-eq2.ensures
-    (small_op c.args.opcode _ _ 0 c.in_ok-first.ensures.small c.in_ok-second.ensures.small refl)
+pub returns-then-matches-2-clause-is : goal.returns-then-matches-2-clause-is
+returns-then-matches-2-clause-is c =
+    let is : c.args.opcode ≡ Output = elim c.match-matches-2.branch [
+      | in-Output w ↦ w.in-Output.is
+      | in_default-matches w ↦ absurd (differ c.match-matches-2.matches c.if-matches-2.true w.matches-is)
+    ] in
+    let rest = drop c.in_ok-first.at c.args.bytes.now in
+    let first = subst (λ s. IsRead s.first.kind (drop c.args.start c.args.bytes.now) (c.in_ok-first.first, rest))
+    (c.of-shape.ensures ∙ ap shape_of is) c.in_ok-first.ensures.is in
+    rw is (called_of Output (drop c.args.start c.args.bytes.now) c.in_ok-first.first 0 0 rest rest rest first refl refl)
 
 pub operand_from-requires-3-clause-lead : goal.operand_from-requires-3-clause-lead
-operand_from-requires-3-clause-lead c = third_lead c.args.opcode c.shape_of-shape.result.now c.shape_of-shape.ensures
+operand_from-requires-3-clause-lead c = third_lead c.args.opcode c.of-shape.result.now c.of-shape.ensures
 
 pub returns-clause-is : goal.returns-clause-is
 returns-clause-is c =
-    let limit = few c.args.opcode c.shape_of-shape.result.now c.shape_of-shape.ensures in
-    rw c.op_of-2.ensures (called_three c.args.opcode c.shape_of-shape.result.now _ _ _ _ _ _ _ c.shape_of-shape.ensures
-    (grind (arith, limit, c.if-shape-eq0.false, c.if-shape-eq1.false, c.if-shape-eq2.false)) c.in_ok-first.ensures.is
-    c.in_ok-second.ensures.is c.in_ok-third.ensures.is)
+    rw c.op_of.ensures (called c.args.opcode c.of-shape.result.now _ _ _ _ _ _ _ c.of-shape.ensures
+    c.in_ok-first.ensures.is c.in_ok-second.ensures.is c.in_ok-third.ensures.is)
 
 pub returns-clause-small : goal.returns-clause-small
 returns-clause-small c =
-    rw c.op_of-2.ensures (small_op c.args.opcode _ _ _ c.in_ok-first.ensures.small c.in_ok-second.ensures.small
+    rw c.op_of.ensures (small_op c.args.opcode _ _ _ c.in_ok-first.ensures.small c.in_ok-second.ensures.small
     c.in_ok-third.ensures.small)
