@@ -43,9 +43,7 @@ pub(crate) fn push_numbered(
     Ok(())
 }
 
-/// Appends `block K NAME`, with `-` for a block without a name. As a call of its own `schedule` executes 2 instructions more for each
-/// operation of blocks of ten.
-#[inline(always)]
+/// Appends `block K NAME`, with `-` for a block without a name.
 pub(crate) fn push_block_head(
     text: &mut Vec<u8>,
     number: usize,
@@ -76,9 +74,7 @@ fn push_words(text: &mut Vec<u8>, words: &[i32]) -> Result<(), NoMemory>
 }
 
 /// Appends what is listed of the block with this number, counted from 1, which emitted these words,
-/// or faulted where there are none. After a refusal a part of it may follow the text. As a call of its own `run` executes 3
-/// instructions more for each operation of blocks of ten.
-#[inline(always)]
+/// or faulted where there are none. After a refusal a part of it may follow the text.
 pub(crate) fn push_outcome(
     text: &mut Vec<u8>,
     number: usize,
