@@ -15,7 +15,7 @@ use Rattle.iloc_text.specs.declared.line.shape.Shape.{Shape}
 use Rattle.iloc_text.specs.declared.line.shape.Kind.{Kind}
 use Rattle.iloc_text.specs.declared.line.shape.Kind.TheVariants.{Nothing, BlankRegister, BlankConstant, CommaRegister, CommaConstant, ArrowRegister}
 use Rattle.iloc_text.specs.Steps.Digits.{Keeps, IsNumber}
-use Rattle.iloc_text.specs.Steps.FastPath.{operand_of, written, lead_of, shape_of, operands_by, IsFound, IsRead, IsMaskOf}
+use Rattle.iloc_text.specs.Steps.FastPath.{operand_of, written, tight, text_of, lead_of, shape_of, operands_by, IsFound, IsRead, IsBehind, IsMaskOf}
 use Rattle.iloc_text.specs.Steps.Opcodes.{operands_of}
 use Rattle.iloc_text.specs.Steps.Scan.{◌>>=◌, after_blanks, number_at, operand_then, operands_at, called_at, is_within_limit}
 use Rattle.iloc_text.proofs.Lanes.{Bytes}
@@ -36,12 +36,7 @@ no_blank (c ∷ cs) found e = by (is_ascii_digit c) refl e
         none : ◌≡◌ {A = Option (ℕ × List ℕ)} None (Some found) → ⊥
         none h = cc
 
--- the number after what precedes it, and, where there is none, some number, with nothing passed
-abbrev Behind : Kind → List ℕ → ℕ × List ℕ → Type 0
-Behind Nothing text found = found.1 ≡ text
-Behind _ text found = number_at text ≡ Some found
-
-written_at : (k : Kind) (blank : ℕ) (rest : List ℕ) (found : ℕ × List ℕ) → is_blank blank ≡ true → Behind k rest found
+written_at : (k : Kind) (blank : ℕ) (rest : List ℕ) (found : ℕ × List ℕ) → is_blank blank ≡ true → IsBehind k rest found
     → IsRead k (written k blank ++ rest) found
 written_at Nothing blank rest found b e = e
 written_at BlankRegister blank rest found b e = rw b e
@@ -50,8 +45,16 @@ written_at CommaRegister blank rest found b e = rw b e
 written_at CommaConstant blank rest found b e = rw b (ap number_at (no_blank rest found e) ∙ e)
 written_at ArrowRegister blank rest found b e = rw b e
 
+tight_at : (k : Kind) (rest : List ℕ) (found : ℕ × List ℕ) → IsBehind k rest found → IsRead k (tight k ++ rest) found
+tight_at Nothing rest found e = e
+tight_at BlankRegister rest found e = e
+tight_at BlankConstant rest found e = ap number_at (no_blank rest found e) ∙ e
+tight_at CommaRegister rest found e = e
+tight_at CommaConstant rest found e = ap number_at (no_blank rest found e) ∙ e
+tight_at ArrowRegister rest found e = e
+
 -- as long with any blank
-length_written : (k : Kind) (blank : ℕ) → length (written k blank) ≡ length (written k 32)
+pub length_written : (k : Kind) (blank : ℕ) → length (written k blank) ≡ length (written k 32)
 length_written Nothing blank = refl
 length_written BlankRegister blank = refl
 length_written BlankConstant blank = refl
@@ -59,34 +62,18 @@ length_written CommaRegister blank = refl
 length_written CommaConstant blank = refl
 length_written ArrowRegister blank = refl
 
-some : (mask : ℕ) → Keeps mask → 0 < mask
-some mask h = omega (arith, h 1 (omega arith), and_le_r 1 mask)
+-- a text of few bytes behind which the number of an operand is read
+pub record IsLead (k : Kind) (text : List ℕ) : Type 0 where
+  pub bytes : Bytes text
+  pub short : length text ≤ 8
+  pub read : (rest : List ℕ) (found : ℕ × List ℕ) → IsBehind k rest found → IsRead k (text ++ rest) found
 
-behind : (k : Kind) (mask : ℕ) (text : List ℕ) (found : ℕ × List ℕ) → IsMaskOf k mask → IsNumber mask text found → Behind k text found
-behind Nothing mask text found e number = number.1 e
-behind BlankRegister mask text found e number = number.0 (some mask e)
-behind BlankConstant mask text found e number = number.0 (some mask e)
-behind CommaRegister mask text found e number = number.0 (some mask e)
-behind CommaConstant mask text found e number = number.0 (some mask e)
-behind ArrowRegister mask text found e number = number.0 (some mask e)
-
--- what precedes a number is there where its bytes are
-pub lead_read : (k : Kind) (blank : ℕ) (bytes : List ℕ) (at word mask : ℕ) (found : ℕ × List ℕ) → is_blank blank ≡ true → blank < 256
-    → at + 8 ≤ length bytes → ((i : ℕ) → get_or bytes i 0 < 256)
-    → word ≡ number_l 256 (get_or bytes at 0 ∷ get_or bytes (at + 1) 0 ∷ get_or bytes (at + 2) 0 ∷ get_or bytes (at + 3) 0 ∷ get_or bytes (at + 4) 0 ∷ get_or bytes (at + 5) 0 ∷ get_or bytes (at + 6) 0 ∷ get_or bytes (at + 7) 0 ∷ [])
-    → bit_and word (lead_of k).mask ≡ number_l 256 (written k blank) → IsMaskOf k mask
-    → IsNumber mask (drop (at + length (written k 32)) bytes) found → IsRead k (drop at bytes) found
-lead_read k blank bytes at word mask found b below long small is same masked e =
-    let rest = drop (at + length (written k 32)) bytes in
-    let at_first : get_or (drop at bytes) 0 0 ≡ get_or bytes at 0 = get_or-drop at bytes 0 0 ∙ ap (λ n. get_or bytes n 0) (omega arith) in
-    let front : word ≡ number_l 256 (get_or (drop at bytes) 0 0 ∷ get_or (drop at bytes) 1 0 ∷ get_or (drop at bytes) 2 0 ∷ get_or (drop at bytes) 3 0 ∷ get_or (drop at bytes) 4 0 ∷ get_or (drop at bytes) 5 0 ∷ get_or (drop at bytes) 6 0 ∷ get_or (drop at bytes) 7 0 ∷ [])
-    = is ∙ sym (rw (at_first, get_or-drop at bytes 1 0, get_or-drop at bytes 2 0, get_or-drop at bytes 3 0, get_or-drop at bytes 4 0, get_or-drop at bytes 5 0, get_or-drop at bytes 6 0, get_or-drop at bytes 7 0) refl) in
-    let text = begins (written k blank) (drop at bytes) word (omega (arith, long, length-drop at bytes))
-    (λ i. subst (λ n. n < 256) (sym (get_or-drop at bytes i 0)) (small (at + i))) (by k) (short k) front (rw (length_written k blank) same) in
-    let behind_it : drop (length (written k blank)) (drop at bytes) ≡ rest
-    = drop-drop (length (written k blank)) at bytes ∙ ap (λ n. drop (at + n) bytes) (length_written k blank) in
-    subst (λ t. IsRead k t found) (sym (text ∙ ap (λ t. written k blank ++ t) behind_it))
-    (written_at k blank rest found b (behind k mask rest found masked e))
+pub written_leads : (k : Kind) (blank : ℕ) → is_blank blank ≡ true → blank < 256 → IsLead k (written k blank)
+written_leads k blank b below = record {
+  bytes = by k;
+  short = omega (arith, length_written k blank, short k);
+  read = λ rest found e. written_at k blank rest found b e;
+}
   where
     by : (k : Kind) → Bytes (written k blank)
     by Nothing = tt
@@ -96,13 +83,45 @@ lead_read k blank bytes at word mask found b below long small is same masked e =
     by CommaConstant = (omega arith, (below, tt))
     by ArrowRegister = (below, (omega arith, (omega arith, (omega arith, (omega arith, tt)))))
 
-    short : (k : Kind) → length (written k blank) ≤ 8
+    short : (k : Kind) → length (written k 32) ≤ 8
     short Nothing = omega arith
-    short BlankRegister = omega arith
-    short BlankConstant = omega arith
-    short CommaRegister = omega arith
-    short CommaConstant = omega arith
-    short ArrowRegister = omega arith
+    short _ = omega arith
+
+pub tight_leads : (k : Kind) → IsLead k (tight k)
+tight_leads k = record { bytes = by k; short = short k; read = tight_at k }
+  where
+    by : (k : Kind) → Bytes (tight k)
+    by Nothing = omega arith
+    by _ = omega arith
+
+    short : (k : Kind) → length (tight k) ≤ 8
+    short Nothing = omega arith
+    short _ = omega arith
+
+some : (mask : ℕ) → Keeps mask → 0 < mask
+some mask h = omega (arith, h 1 (omega arith), and_le_r 1 mask)
+
+pub behind : (k : Kind) (mask : ℕ) (text : List ℕ) (found : ℕ × List ℕ) → IsMaskOf k mask → IsNumber mask text found → IsBehind k text found
+behind Nothing mask text found e number = number.1 e
+behind BlankRegister mask text found e number = number.0 (some mask e)
+behind BlankConstant mask text found e number = number.0 (some mask e)
+behind CommaRegister mask text found e number = number.0 (some mask e)
+behind CommaConstant mask text found e number = number.0 (some mask e)
+behind ArrowRegister mask text found e number = number.0 (some mask e)
+
+-- what precedes a number is there where its bytes are
+pub lead_read : (k : Kind) (text bytes : List ℕ) (at word : ℕ) (found : ℕ × List ℕ) → IsLead k text → at + 8 ≤ length bytes
+    → ((i : ℕ) → get_or bytes i 0 < 256)
+    → word ≡ number_l 256 (get_or bytes at 0 ∷ get_or bytes (at + 1) 0 ∷ get_or bytes (at + 2) 0 ∷ get_or bytes (at + 3) 0 ∷ get_or bytes (at + 4) 0 ∷ get_or bytes (at + 5) 0 ∷ get_or bytes (at + 6) 0 ∷ get_or bytes (at + 7) 0 ∷ [])
+    → bit_and word (text_of text).mask ≡ number_l 256 text → IsBehind k (drop (at + length text) bytes) found → IsRead k (drop at bytes) found
+lead_read k text bytes at word found lead long small is same e =
+    let at_first : get_or (drop at bytes) 0 0 ≡ get_or bytes at 0 = get_or-drop at bytes 0 0 ∙ ap (λ n. get_or bytes n 0) (omega arith) in
+    let front : word ≡ number_l 256 (get_or (drop at bytes) 0 0 ∷ get_or (drop at bytes) 1 0 ∷ get_or (drop at bytes) 2 0 ∷ get_or (drop at bytes) 3 0 ∷ get_or (drop at bytes) 4 0 ∷ get_or (drop at bytes) 5 0 ∷ get_or (drop at bytes) 6 0 ∷ get_or (drop at bytes) 7 0 ∷ [])
+    = is ∙ sym (rw (at_first, get_or-drop at bytes 1 0, get_or-drop at bytes 2 0, get_or-drop at bytes 3 0, get_or-drop at bytes 4 0, get_or-drop at bytes 5 0, get_or-drop at bytes 6 0, get_or-drop at bytes 7 0) refl) in
+    let whole = begins text (drop at bytes) word (omega (arith, long, length-drop at bytes))
+    (λ i. subst (λ n. n < 256) (sym (get_or-drop at bytes i 0)) (small (at + i))) lead.bytes lead.short front same in
+    subst (λ t. IsRead k t found) (sym (whole ∙ ap (λ t. text ++ t) (drop-drop (length text) at bytes)))
+    (lead.read (drop (at + length text) bytes) found e)
 
 -- The operands of an opcode
 

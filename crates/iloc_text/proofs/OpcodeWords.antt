@@ -7,8 +7,8 @@ use Rattle.std.proofs.lemmas.Nat.{and_mask}
 use Rattle.iloc_ops.specs.declared.forms.Opcode.{Opcode}
 use Rattle.iloc_ops.specs.declared.forms.Opcode.TheVariants.{Nop}
 use Rattle.iloc_ops.specs.Forms.{opcode_text}
-use Rattle.iloc_text.specs.declared.line.shape.Shape.{Shape}
-use Rattle.iloc_text.specs.Steps.FastPath.{shape_of}
+use Rattle.iloc_text.specs.declared.line.shape.Text.{Text}
+use Rattle.iloc_text.specs.Steps.FastPath.{text_of, shape_of}
 use Rattle.iloc_text.proofs.Lanes.{Bytes, eight, front_is}
 
 pub begins : (text bytes : List ℕ) (front : ℕ) → 8 ≤ length bytes → ((i : ℕ) → get_or bytes i 0 < 256) → Bytes text → length text ≤ 8
@@ -26,16 +26,15 @@ pub bytes_of : (o : Opcode) → Bytes (opcode_text o) × (length (opcode_text o)
 bytes_of Nop = (omega arith, omega arith)
 bytes_of _ = (omega arith, omega arith)
 
-shape_is : (o : Opcode) → ((shape_of o).length ≡ length (opcode_text o)) × ((shape_of o).mask ≡ 2 ^ (8 * length (opcode_text o)) - 1)
-    × ((shape_of o).word ≡ number_l 256 (opcode_text o))
-shape_is Nop = (refl, refl, refl)
-shape_is _ = (refl, refl, refl)
+text_is : (o : Opcode) → (shape_of o).text ≡ text_of (opcode_text o)
+text_is Nop = refl
+text_is _ = refl
 
-pub opcode_begins : (o : Opcode) (shape : Shape) (bytes : List ℕ) (front : ℕ) → 8 ≤ length bytes → ((i : ℕ) → get_or bytes i 0 < 256)
+pub opcode_begins : (o : Opcode) (text : Text) (bytes : List ℕ) (front : ℕ) → 8 ≤ length bytes → ((i : ℕ) → get_or bytes i 0 < 256)
     → front ≡ number_l 256 (get_or bytes 0 0 ∷ get_or bytes 1 0 ∷ get_or bytes 2 0 ∷ get_or bytes 3 0 ∷ get_or bytes 4 0 ∷ get_or bytes 5 0 ∷ get_or bytes 6 0 ∷ get_or bytes 7 0 ∷ [])
-    → shape ≡ shape_of o → bit_and front shape.mask ≡ shape.word → bytes ≡ opcode_text o ++ drop shape.length bytes
-opcode_begins o shape bytes front long small is by same =
-    let whole = shape_is o in
+    → text ≡ (shape_of o).text → bit_and front text.mask ≡ text.word → bytes ≡ opcode_text o ++ drop text.length bytes
+opcode_begins o text bytes front long small is by same =
+    let whole = by ∙ text_is o in
     begins (opcode_text o) bytes front long small (bytes_of o).0 (bytes_of o).1 is
-    (sym (ap (λ s. bit_and front s.mask) by ∙ ap (bit_and front) whole.1) ∙ same ∙ ap (λ s. s.word) by ∙ whole.2)
-    ∙ ap (λ n. opcode_text o ++ drop n bytes) (sym (ap (λ s. s.length) by ∙ whole.0))
+    (sym (ap (λ t. bit_and front t.mask) whole) ∙ same ∙ ap (λ t. t.word) whole)
+    ∙ ap (λ n. opcode_text o ++ drop n bytes) (sym (ap (λ t. t.length) whole))

@@ -10,8 +10,9 @@ use Rattle.iloc_text.specs.declared.line.shape.Kind.{Kind}
 use Rattle.iloc_text.specs.declared.line.shape.Kind.TheVariants.{Nothing, BlankRegister, BlankConstant, CommaRegister, CommaConstant, ArrowRegister}
 use Rattle.iloc_text.specs.declared.line.shape.Lead.{Lead}
 use Rattle.iloc_text.specs.declared.line.shape.Shape.{Shape}
+use Rattle.iloc_text.specs.declared.line.shape.Text.{Text}
 use Rattle.iloc_text.specs.Steps.Digits.{Keeps}
-use Rattle.iloc_text.specs.Steps.Scan.{operand_at}
+use Rattle.iloc_text.specs.Steps.Scan.{number_at, operand_at}
 
 -- what is read after it, with 0 for the number
 abbrev pub operand_of : Kind → Option Operand
@@ -31,20 +32,27 @@ written CommaRegister blank = 44 ∷ blank ∷ 114 ∷ []
 written CommaConstant blank = 44 ∷ blank ∷ []
 written ArrowRegister blank = blank ∷ 61 ∷ 62 ∷ 32 ∷ 114 ∷ []
 
+-- how it is written without blanks, where there can be none
+abbrev pub tight : Kind → List ℕ
+tight CommaRegister = 44 ∷ 114 ∷ []
+tight CommaConstant = 44 ∷ []
+tight ArrowRegister = 61 ∷ 62 ∷ 114 ∷ []
+tight k = written k 32
+
+abbrev pub text_of : List ℕ → Text
+text_of bytes = record { word = number_l 256 bytes; mask = 2 ^ (8 * length bytes) - 1; length = length bytes }
+
 abbrev pub lead_of : Kind → Lead
 lead_of k = record {
   kind = k;
-  word = number_l 256 (written k 32);
+  usual = text_of (written k 32);
   tabbed = number_l 256 (written k 9);
-  mask = 2 ^ (8 * length (written k 32)) - 1;
-  length = length (written k 32);
+  tight = text_of (tight k);
 }
 
 abbrev pub shaped : List ℕ → Kind → Kind → Kind → Shape
 shaped text first second third = record {
-  word = number_l 256 text;
-  mask = 2 ^ (8 * length text) - 1;
-  length = length text;
+  text = text_of text;
   first = lead_of first;
   second = lead_of second;
   third = lead_of third;
@@ -75,6 +83,11 @@ IsFound (Some o) text found = operand_at o text ≡ Some found
 
 abbrev pub IsRead : Kind → List ℕ → ℕ × List ℕ → Type 0
 IsRead k = IsFound (operand_of k)
+
+-- the same behind what precedes the number
+abbrev pub IsBehind : Kind → List ℕ → ℕ × List ℕ → Type 0
+IsBehind Nothing text found = found.1 ≡ text
+IsBehind _ text found = number_at text ≡ Some found
 
 -- a mask that leaves how many digits its number has as it is, where there is one, and else leaves nothing
 abbrev pub IsMaskOf : Kind → ℕ → Type 0

@@ -4,7 +4,7 @@ ghost use Rattle.std.specs.Prelude.{◌≡◌, ◌<◌, ◌≤◌, ◌+◌, ◌+
 ghost use Rattle.std.specs.Simd.Lanes.{number_l};
 ghost use Rattle.iloc_text.specs.declared.line.scan.TheConstants.{ABOVE_LIMIT};
 ghost use Rattle.iloc_text.specs.Steps.Digits.{IsMask, IsNumber};
-ghost use Rattle.iloc_text.specs.Steps.FastPath.{lead_of, IsMaskOf, IsRead};
+ghost use Rattle.iloc_text.specs.Steps.FastPath.{lead_of, IsBehind, IsMaskOf, IsRead};
 ghost use Rattle.iloc_text.specs.Steps.Scan.{some_blanks_at, comma_at, arrow_at, register_at, number_at, called_at, is_within_limit};
 
 use crate::line::numbers::fast_number_at;
@@ -100,9 +100,9 @@ fn place_behind_letter(bytes: &[u8], at: usize) -> usize
 /// The place after what precedes a number; 0 if there is nothing of this kind, or too much.
 #[cold]
 #[inline(never)]
-fn place_behind(kind: Kind, bytes: &[u8], at: usize) -> usize
+fn place_behind_kind(kind: Kind, bytes: &[u8], at: usize) -> usize
     requires { at + MOST_PASSED < length bytes.now }
-    ensures is { 0 < result → (found : ℕ × List ℕ) → number_at (drop result bytes.now) ≡ Some found → IsRead kind (drop at bytes.now) found }
+    ensures is { 0 < result → (found : ℕ × List ℕ) → IsBehind kind (drop result bytes.now) found → IsRead kind (drop at bytes.now) found }
     ensures near { result ≤ at + MOST_PASSED + 1 }
 {
     match kind {
@@ -122,6 +122,20 @@ fn place_behind(kind: Kind, bytes: &[u8], at: usize) -> usize
             place => place_behind_letter(bytes, place),
         },
     }
+}
+
+/// As `place_behind_kind`, which need not look for what stands without blanks. It is out of the way of what is written as usual.
+#[inline(never)]
+fn place_behind(lead: &Lead, bytes: &[u8], at: usize) -> usize
+    requires lead { lead.now ≡ lead_of lead.now.kind }
+    requires long { at + MOST_PASSED < length bytes.now }
+    ensures is { 0 < result → (found : ℕ × List ℕ) → IsBehind lead.now.kind (drop result bytes.now) found → IsRead lead.now.kind (drop at bytes.now) found }
+    ensures near { result ≤ at + MOST_PASSED + 1 }
+{
+    if word_from(bytes, at) & lead.tight.mask == lead.tight.word {
+        return at + lead.tight.length;
+    }
+    place_behind_kind(lead.kind, bytes, at)
 }
 
 /// The number at a place, and the place after it; by a mask of 0 some number, and the place itself.
@@ -147,14 +161,15 @@ fn operand_from(lead: &Lead, mask: usize, bytes: &[u8], at: usize) -> Option<(u3
     ensures small { IfSome result (λ found. nat_lt found.0 ABOVE_LIMIT ≡ true) }
     ensures near { IfSome result (λ found. found.1 ≤ at + MOST_PASSED + 11) }
 {
-    let front = word_from(bytes, at) & lead.mask;
-    if front == lead.word || front == lead.tabbed {
-        return number_from(bytes, at + lead.length, mask);
+    let front = word_from(bytes, at) & lead.usual.mask;
+    if front == lead.usual.word || front == lead.tabbed {
+        return number_from(bytes, at + lead.usual.length, mask);
     }
-    match place_behind(lead.kind, bytes, at) {
-        0 => None,
-        place => number_from(bytes, place, usize::MAX),
+    let place = place_behind(lead, bytes, at);
+    if place == 0 {
+        return None;
     }
+    number_from(bytes, place, mask)
 }
 
 /// The operation of an opcode and of the operands at a place, and the place after these.
@@ -179,6 +194,6 @@ pub fn fast_called_at(opcode: Opcode, bytes: &[u8], start: usize) -> Option<(Op,
         return Some((Op::Output { addr: first }, at));
     }
     let (second, at) = operand_from(&shape.second, usize::MAX, bytes, at)?;
-    let (third, at) = operand_from(&shape.third, shape.third.mask as usize, bytes, at)?;
+    let (third, at) = operand_from(&shape.third, shape.third.usual.mask as usize, bytes, at)?;
     Some((op_of(opcode, &[first, second, third]), at))
 }

@@ -81,9 +81,9 @@ pub fn opcode_at(bytes: &[u8]) -> Option<(Opcode, usize)>
 {
     let front = word_from(bytes, 0);
     let opcode = opcode_by_letters(front);
-    let shape = Shape::of(opcode);
-    if front & shape.mask == shape.word {
-        Some((opcode, shape.length))
+    let text = &Shape::of(opcode).text;
+    if front & text.mask == text.word {
+        Some((opcode, text.length))
     } else {
         None
     }
