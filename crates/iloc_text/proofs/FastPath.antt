@@ -1,11 +1,12 @@
 -- Operands that are read on the fast path.
-use Rattle.std.proofs.Common.{◌≡◌, ◌∙◌, ◌≤◌, ◌<◌, ◌+◌, ℕ, Bool, true, false, List, [], ◌∷◌, ◌++◌, length, drop, get_or, refl, sym, ap, subst, Option, Some, None, option_to_list, nat_lt, arith}
+use Rattle.std.proofs.Common.{◌≡◌, ◌∙◌, ◌≤◌, ◌<◌, ◌+◌, ◌*◌, ◌-◌, ◌%◌, ◌^◌, ◌==◌, ℕ, Bool, true, false, List, [], ◌∷◌, ◌++◌, length, drop, get_or, refl, sym, ap, subst, Option, Some, None, option_to_list, nat_lt, arith}
 use Rattle.std.specs.Char.{is_ascii_digit}
 use Rattle.std.specs.Simd.Lanes.{number_l}
 use Rattle.std.specs.Int.Bits.{bit_and}
+use Rattle.std.proofs.lemmas.Bool.{agree_below_at, eqb-true}
 use Rattle.std.proofs.lemmas.Bool.Decides.{nat_tests}
 use Rattle.std.proofs.lemmas.List.{get_or-drop, drop-drop, length-drop}
-use Rattle.std.proofs.lemmas.Nat.{and_le_r}
+use Rattle.std.proofs.lemmas.Nat.{and_le_r, and_mask, and_mod}
 use Rattle.iloc_ops.specs.declared.forms.Opcode.{Opcode}
 use Rattle.iloc_ops.specs.declared.forms.Opcode.TheVariants.{Load, LoadI, Store, Output, Nop}
 use Rattle.iloc_ops.specs.Forms.{Operand, op_of}
@@ -15,7 +16,7 @@ use Rattle.iloc_text.specs.declared.line.shape.Shape.{Shape}
 use Rattle.iloc_text.specs.declared.line.shape.Kind.{Kind}
 use Rattle.iloc_text.specs.declared.line.shape.Kind.TheVariants.{Nothing, BlankRegister, BlankConstant, CommaRegister, CommaConstant, ArrowRegister}
 use Rattle.iloc_text.specs.Steps.Digits.{Keeps, IsNumber}
-use Rattle.iloc_text.specs.Steps.FastPath.{operand_of, written, tight, text_of, lead_of, shape_of, operands_by, IsFound, IsRead, IsBehind, IsMaskOf}
+use Rattle.iloc_text.specs.Steps.FastPath.{operand_of, written, tight, lead_text, lead_of, shape_of, operands_by, IsFound, IsRead, IsBehind, IsMaskOf}
 use Rattle.iloc_text.specs.Steps.Opcodes.{operands_of}
 use Rattle.iloc_text.specs.Steps.Scan.{◌>>=◌, after_blanks, number_at, operand_then, operands_at, called_at, is_within_limit}
 use Rattle.iloc_text.proofs.Lanes.{Bytes}
@@ -62,19 +63,45 @@ length_written CommaRegister blank = refl
 length_written CommaConstant blank = refl
 length_written ArrowRegister blank = refl
 
--- a text of few bytes behind which the number of an operand is read
+low_known : (j word mask value low : ℕ) → mask % 2 ^ j ≡ 2 ^ j - 1 → word % 2 ^ j % 2 ^ j ≡ word % 2 ^ j → value % 2 ^ j ≡ low
+    → bit_and word mask ≡ value → word % 2 ^ j ≡ low
+low_known j word mask value low ones twice is e =
+    sym twice ∙ sym (and_mask (word % 2 ^ j) j) ∙ ap (bit_and (word % 2 ^ j)) (sym ones) ∙ sym (and_mod word mask j)
+    ∙ ap (λ n. n % 2 ^ j) e ∙ is
+
+-- the same bits are looked at with any blank
+pub mask_written : (k : Kind) (blank : ℕ) → (lead_text k (written k blank)).mask ≡ (lead_text k (written k 32)).mask
+mask_written Nothing blank = refl
+mask_written BlankRegister blank = refl
+mask_written BlankConstant blank = refl
+mask_written CommaRegister blank = refl
+mask_written CommaConstant blank = refl
+mask_written ArrowRegister blank = refl
+
+-- a text of few bytes, known by some of their bits, behind which the number of an operand is read
 pub record IsLead (k : Kind) (text : List ℕ) : Type 0 where
   pub bytes : Bytes text
   pub short : length text ≤ 8
+  pub known : (word : ℕ) → bit_and word (lead_text k text).mask ≡ (lead_text k text).word → word % 2 ^ (8 * length text) ≡ number_l 256 text
   pub read : (rest : List ℕ) (found : ℕ × List ℕ) → IsBehind k rest found → IsRead k (text ++ rest) found
 
 pub written_leads : (k : Kind) (blank : ℕ) → is_blank blank ≡ true → blank < 256 → IsLead k (written k blank)
 written_leads k blank b below = record {
   bytes = by k;
   short = omega (arith, length_written k blank, short k);
+  known = known k;
   read = λ rest found e. written_at k blank rest found b e;
 }
   where
+    known : (k : Kind) (word : ℕ) → bit_and word (lead_text k (written k blank)).mask ≡ (lead_text k (written k blank)).word
+        → word % 2 ^ (8 * length (written k blank)) ≡ number_l 256 (written k blank)
+    known Nothing word e = omega arith
+    known BlankRegister word e = low_known 16 word 65535 _ _ refl (omega arith) (omega (arith, below)) e
+    known BlankConstant word e = low_known 8 word 61695 _ _ refl (omega arith) (omega (arith, below)) e
+    known CommaRegister word e = low_known 24 word 16777215 _ _ refl (omega arith) (omega (arith, below)) e
+    known CommaConstant word e = low_known 16 word 15794175 _ _ refl (omega arith) (omega (arith, below)) e
+    known ArrowRegister word e = low_known 40 word 1099511627775 _ _ refl (omega arith) (omega (arith, below)) e
+
     by : (k : Kind) → Bytes (written k blank)
     by Nothing = tt
     by BlankRegister = (below, (omega arith, tt))
@@ -88,8 +115,17 @@ written_leads k blank b below = record {
     short _ = omega arith
 
 pub tight_leads : (k : Kind) → IsLead k (tight k)
-tight_leads k = record { bytes = by k; short = short k; read = tight_at k }
+tight_leads k = record { bytes = by k; short = short k; known = known k; read = tight_at k }
   where
+    known : (k : Kind) (word : ℕ) → bit_and word (lead_text k (tight k)).mask ≡ (lead_text k (tight k)).word
+        → word % 2 ^ (8 * length (tight k)) ≡ number_l 256 (tight k)
+    known Nothing word e = omega arith
+    known BlankRegister word e = low_known 16 word 65535 _ _ refl (omega arith) refl e
+    known BlankConstant word e = low_known 8 word 61695 _ _ refl (omega arith) refl e
+    known CommaRegister word e = low_known 16 word 65535 _ _ refl (omega arith) refl e
+    known CommaConstant word e = low_known 8 word 61695 _ _ refl (omega arith) refl e
+    known ArrowRegister word e = low_known 24 word 16777215 _ _ refl (omega arith) refl e
+
     by : (k : Kind) → Bytes (tight k)
     by Nothing = omega arith
     by _ = omega arith
@@ -97,6 +133,15 @@ tight_leads k = record { bytes = by k; short = short k; read = tight_at k }
     short : (k : Kind) → length (tight k) ≤ 8
     short Nothing = omega arith
     short _ = omega arith
+
+-- the masks of what mostly precedes a number
+pub mask_of_lead : (k : Kind) → IsMaskOf k (lead_of k).usual.mask
+mask_of_lead Nothing = refl
+mask_of_lead BlankRegister = λ n h. eqb-true (bit_and n 65535) n (agree_below_at (λ m. bit_and m 65535 == m) (λ m. true) 16 n refl h)
+mask_of_lead BlankConstant = λ n h. eqb-true (bit_and n 61695) n (agree_below_at (λ m. bit_and m 61695 == m) (λ m. true) 16 n refl h)
+mask_of_lead CommaRegister = λ n h. eqb-true (bit_and n 16777215) n (agree_below_at (λ m. bit_and m 16777215 == m) (λ m. true) 16 n refl h)
+mask_of_lead CommaConstant = λ n h. eqb-true (bit_and n 15794175) n (agree_below_at (λ m. bit_and m 15794175 == m) (λ m. true) 16 n refl h)
+mask_of_lead ArrowRegister = λ n h. eqb-true (bit_and n 1099511627775) n (agree_below_at (λ m. bit_and m 1099511627775 == m) (λ m. true) 16 n refl h)
 
 some : (mask : ℕ) → Keeps mask → 0 < mask
 some mask h = omega (arith, h 1 (omega arith), and_le_r 1 mask)
@@ -113,13 +158,13 @@ behind ArrowRegister mask text found e number = number.0 (some mask e)
 pub lead_read : (k : Kind) (text bytes : List ℕ) (at word : ℕ) (found : ℕ × List ℕ) → IsLead k text → at + 8 ≤ length bytes
     → ((i : ℕ) → get_or bytes i 0 < 256)
     → word ≡ number_l 256 (get_or bytes at 0 ∷ get_or bytes (at + 1) 0 ∷ get_or bytes (at + 2) 0 ∷ get_or bytes (at + 3) 0 ∷ get_or bytes (at + 4) 0 ∷ get_or bytes (at + 5) 0 ∷ get_or bytes (at + 6) 0 ∷ get_or bytes (at + 7) 0 ∷ [])
-    → bit_and word (text_of text).mask ≡ number_l 256 text → IsBehind k (drop (at + length text) bytes) found → IsRead k (drop at bytes) found
+    → bit_and word (lead_text k text).mask ≡ (lead_text k text).word → IsBehind k (drop (at + length text) bytes) found → IsRead k (drop at bytes) found
 lead_read k text bytes at word found lead long small is same e =
     let at_first : get_or (drop at bytes) 0 0 ≡ get_or bytes at 0 = get_or-drop at bytes 0 0 ∙ ap (λ n. get_or bytes n 0) (omega arith) in
     let front : word ≡ number_l 256 (get_or (drop at bytes) 0 0 ∷ get_or (drop at bytes) 1 0 ∷ get_or (drop at bytes) 2 0 ∷ get_or (drop at bytes) 3 0 ∷ get_or (drop at bytes) 4 0 ∷ get_or (drop at bytes) 5 0 ∷ get_or (drop at bytes) 6 0 ∷ get_or (drop at bytes) 7 0 ∷ [])
     = is ∙ sym (rw (at_first, get_or-drop at bytes 1 0, get_or-drop at bytes 2 0, get_or-drop at bytes 3 0, get_or-drop at bytes 4 0, get_or-drop at bytes 5 0, get_or-drop at bytes 6 0, get_or-drop at bytes 7 0) refl) in
     let whole = begins text (drop at bytes) word (omega (arith, long, length-drop at bytes))
-    (λ i. subst (λ n. n < 256) (sym (get_or-drop at bytes i 0)) (small (at + i))) lead.bytes lead.short front same in
+    (λ i. subst (λ n. n < 256) (sym (get_or-drop at bytes i 0)) (small (at + i))) lead.bytes lead.short front (lead.known word same) in
     subst (λ t. IsRead k t found) (sym (whole ∙ ap (λ t. text ++ t) (drop-drop (length text) at bytes)))
     (lead.read (drop (at + length text) bytes) found e)
 

@@ -1,5 +1,5 @@
 -- The text that bytes begin with, where its number and that of the first eight are the same in its bits.
-use Rattle.std.proofs.Common.{◌≡◌, ◌∙◌, ◌≤◌, ◌<◌, ◌*◌, ◌-◌, ◌%◌, ◌^◌, ℕ, List, [], ◌∷◌, ◌++◌, drop, refl, get_or, length, sym, ap, arith, take-append-drop}
+use Rattle.std.proofs.Common.{◌≡◌, ◌∙◌, ◌≤◌, ◌<◌, ◌*◌, ◌%◌, ◌^◌, ℕ, List, [], ◌∷◌, ◌++◌, drop, refl, get_or, length, sym, ap, arith, take-append-drop}
 use Rattle.std.specs.Int.Bits.{bit_and}
 use Rattle.std.specs.Simd.Lanes.{number_l}
 use Rattle.std.proofs.lemmas.List.{take-append-le}
@@ -13,11 +13,11 @@ use Rattle.iloc_text.proofs.Lanes.{Bytes, eight, front_is}
 
 pub begins : (text bytes : List ℕ) (front : ℕ) → 8 ≤ length bytes → ((i : ℕ) → get_or bytes i 0 < 256) → Bytes text → length text ≤ 8
     → front ≡ number_l 256 (get_or bytes 0 0 ∷ get_or bytes 1 0 ∷ get_or bytes 2 0 ∷ get_or bytes 3 0 ∷ get_or bytes 4 0 ∷ get_or bytes 5 0 ∷ get_or bytes 6 0 ∷ get_or bytes 7 0 ∷ [])
-    → bit_and front (2 ^ (8 * length text) - 1) ≡ number_l 256 text → bytes ≡ text ++ drop (length text) bytes
+    → front % 2 ^ (8 * length text) ≡ number_l 256 text → bytes ≡ text ++ drop (length text) bytes
 begins text (a ∷ b ∷ c ∷ d ∷ x ∷ f ∷ g ∷ h ∷ more) front long small low few is same =
     let first = a ∷ b ∷ c ∷ d ∷ x ∷ f ∷ g ∷ h ∷ [] in
     let found = front_is text first low (eight (small 0) (small 1) (small 2) (small 3) (small 4) (small 5) (small 6) (small 7)) few
-    (ap (λ n. n % 2 ^ (8 * length text)) (sym is) ∙ sym (and_mask front (8 * length text)) ∙ same) in
+    (ap (λ n. n % 2 ^ (8 * length text)) (sym is) ∙ same) in
     sym (take-append-drop (length text) (first ++ more))
     ∙ ap (λ t. t ++ drop (length text) (first ++ more)) (take-append-le (length text) first more few ∙ found)
 begins text _ front long small low few is same = absurd (omega (arith, long))
@@ -36,5 +36,5 @@ pub opcode_begins : (o : Opcode) (text : Text) (bytes : List ℕ) (front : ℕ) 
 opcode_begins o text bytes front long small is by same =
     let whole = by ∙ text_is o in
     begins (opcode_text o) bytes front long small (bytes_of o).0 (bytes_of o).1 is
-    (sym (ap (λ t. bit_and front t.mask) whole) ∙ same ∙ ap (λ t. t.word) whole)
+    (sym (and_mask front (8 * length (opcode_text o))) ∙ sym (ap (λ t. bit_and front t.mask) whole) ∙ same ∙ ap (λ t. t.word) whole)
     ∙ ap (λ n. opcode_text o ++ drop n bytes) (sym (ap (λ t. t.length) whole))

@@ -1,5 +1,5 @@
 -- How operations are read on the fast path.
-use Rattle.std.specs.Prelude.{ℕ, ◌≡◌, ◌*◌, ◌-◌, ◌^◌, ◌++◌, Option, Some, None, option_to_list, List, [], ◌∷◌, length}
+use Rattle.std.specs.Prelude.{ℕ, ◌≡◌, ◌+◌, ◌*◌, ◌-◌, ◌^◌, ◌++◌, Option, Some, None, option_to_list, List, [], ◌∷◌, length}
 use Rattle.std.specs.Simd.Lanes.{number_l}
 use Rattle.iloc_ops.specs.declared.forms.Opcode.{Opcode}
 use Rattle.iloc_ops.specs.declared.forms.Opcode.TheVariants.{Load, LoadI, Store, Add, Sub, Mult, Lshift, Rshift, Output, Nop, StoreAI}
@@ -42,12 +42,25 @@ tight k = written k 32
 abbrev pub text_of : List ℕ → Text
 text_of bytes = record { word = number_l 256 bytes; mask = 2 ^ (8 * length bytes) - 1; length = length bytes }
 
+-- what is looked at of the byte behind it, and the mask of that: the high half of a digit, before a constant
+abbrev pub next : Kind → ℕ × ℕ
+next BlankConstant = (48, 240)
+next CommaConstant = (48, 240)
+next _ = (0, 0)
+
+abbrev pub lead_text : Kind → List ℕ → Text
+lead_text k bytes = record {
+  word = number_l 256 (bytes ++ (next k).0 ∷ []);
+  mask = 2 ^ (8 * length bytes) - 1 + 2 ^ (8 * length bytes) * (next k).1;
+  length = length bytes;
+}
+
 abbrev pub lead_of : Kind → Lead
 lead_of k = record {
   kind = k;
-  usual = text_of (written k 32);
-  tabbed = number_l 256 (written k 9);
-  tight = text_of (tight k);
+  usual = lead_text k (written k 32);
+  tabbed = (lead_text k (written k 9)).word;
+  tight = lead_text k (tight k);
 }
 
 abbrev pub shaped : List ℕ → Kind → Kind → Kind → Shape

@@ -33,6 +33,18 @@ macro_rules! text {
     };
 }
 
+/// A text before a constant: the high half of the byte behind it is that of a digit. Where another blank isn't told from a digit,
+/// a text whose operands stand in columns takes `run` twice as many instructions.
+macro_rules! text_before_digit {
+    ($word:literal, $length:literal) => {
+        Text {
+            word: $word + (0x30 << (8 * $length)),
+            mask: (0xf1 << (8 * $length)) - 1,
+            length: $length,
+        }
+    };
+}
+
 /// What mostly precedes a number.
 pub struct Lead {
     pub kind: Kind,
@@ -60,9 +72,9 @@ const BLANK_REGISTER: Lead = Lead {
 
 const BLANK_CONSTANT: Lead = Lead {
     kind: Kind::BlankConstant,
-    usual: text!(0x20, 1),
-    tabbed: 0x09,
-    tight: text!(0x20, 1),
+    usual: text_before_digit!(0x20, 1),
+    tabbed: 0x3009,
+    tight: text_before_digit!(0x20, 1),
 };
 
 const COMMA_REGISTER: Lead = Lead {
@@ -74,9 +86,9 @@ const COMMA_REGISTER: Lead = Lead {
 
 const COMMA_CONSTANT: Lead = Lead {
     kind: Kind::CommaConstant,
-    usual: text!(0x202c, 2),
-    tabbed: 0x092c,
-    tight: text!(0x2c, 1),
+    usual: text_before_digit!(0x202c, 2),
+    tabbed: 0x30_092c,
+    tight: text_before_digit!(0x2c, 1),
 };
 
 const ARROW_REGISTER: Lead = Lead {

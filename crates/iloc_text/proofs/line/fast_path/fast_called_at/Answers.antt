@@ -1,7 +1,7 @@
-use Rattle.std.proofs.Common.{◌≡◌, ◌∙◌, Bool, true, false, ap, subst, refl, drop}
+use Rattle.std.proofs.Common.{◌≡◌, ◌∙◌, Bool, true, false, ap, sym, subst, refl, drop}
 use Rattle.iloc_ops.specs.declared.forms.Opcode.TheVariants.{Output, Nop}
-use Rattle.iloc_text.specs.Steps.FastPath.{shape_of, IsRead}
-use Rattle.iloc_text.proofs.FastPath.{called, called_of, third_lead, small_op}
+use Rattle.iloc_text.specs.Steps.FastPath.{shape_of, IsMaskOf, IsRead}
+use Rattle.iloc_text.proofs.FastPath.{called, called_of, mask_of_lead, third_lead, small_op}
 use Rattle.iloc_text.proofs.line.fast_path.fast_called_at.Goals as goal
 use Rattle.iloc_text.proofs.line.fast_path.fast_called_at.Goals.{in-Nop, in_default, in-Output, in_default-matches}
 
@@ -29,6 +29,11 @@ returns-then-matches-2-clause-is c =
 
 pub operand_from-requires-3-clause-lead : goal.operand_from-requires-3-clause-lead
 operand_from-requires-3-clause-lead c = third_lead c.args.opcode c.of-shape.result.now c.of-shape.ensures
+
+pub operand_from-requires-3-clause-mask : goal.operand_from-requires-3-clause-mask
+operand_from-requires-3-clause-mask c =
+    let kind = c.of-shape.result.now.third.kind in
+    subst (λ l. IsMaskOf kind l.usual.mask) (sym (third_lead c.args.opcode c.of-shape.result.now c.of-shape.ensures)) (mask_of_lead kind)
 
 pub returns-clause-is : goal.returns-clause-is
 returns-clause-is c =

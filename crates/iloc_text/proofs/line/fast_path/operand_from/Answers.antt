@@ -1,11 +1,10 @@
-use Rattle.std.proofs.Common.{◌≡◌, ◌∙◌, ◌+◌, ◌-◌, ◌*◌, ◌^◌, ◌<◌, ap, subst, sym, drop, refl, true, ℕ, arith}
+use Rattle.std.proofs.Common.{◌≡◌, ◌∙◌, ◌+◌, ◌<◌, ap, subst, sym, drop, refl, true, ℕ, arith}
 use Rattle.std.specs.Int.Bits.{bit_and}
-use Rattle.std.specs.Simd.Lanes.{number_l}
 use Rattle.iloc_text.specs.Grammar.{is_blank}
 use Rattle.iloc_text.specs.Steps.Digits.{IsNumber}
-use Rattle.iloc_text.specs.Steps.FastPath.{written}
+use Rattle.iloc_text.specs.Steps.FastPath.{written, lead_text}
 use Rattle.iloc_text.proofs.Tokens.{some_map}
-use Rattle.iloc_text.proofs.FastPath.{behind, length_written, lead_read, written_leads}
+use Rattle.iloc_text.proofs.FastPath.{behind, length_written, mask_written, lead_read, written_leads}
 use Rattle.iloc_text.proofs.line.fast_path.operand_from.Goals as goal
 use Rattle.iloc_text.proofs.line.fast_path.operand_from.Goals.{then-front-lead-via-then-front-lead, then-front-lead-via-else-front-lead+then-front-lead-2}
 
@@ -15,7 +14,7 @@ returns-then-front-lead-clause-is c =
     let lead = c.requires.lead in
     let kind = c.args.lead.now.kind in
     let blank : (b : ℕ) × (is_blank b ≡ true) × (b < 256)
-    × (bit_and c.word_from.result c.args.lead.now.usual.mask ≡ number_l 256 (written kind b)) =
+    × (bit_and c.word_from.result c.args.lead.now.usual.mask ≡ (lead_text kind (written kind b)).word) =
     elim c.then-front-lead.branch [
       | then-front-lead-via-then-front-lead w ↦ (32, refl, omega arith, w.if-front-lead.true ∙ ap (λ l. l.usual.word) lead)
       | then-front-lead-via-else-front-lead+then-front-lead-2 w ↦
@@ -26,7 +25,7 @@ returns-then-front-lead-clause-is c =
     some_map (λ found e. lead_read kind (written kind blank.0) c.args.bytes.now c.args.at c.word_from.result
     (found.0, drop found.1 c.args.bytes.now) (written_leads kind blank.0 blank.1 blank.2) (omega (arith, c.requires.long))
     (λ i. (c.type_inv.bytes i).fits) c.word_from.ensures
-    (ap (λ n. bit_and c.word_from.result (2 ^ (8 * n) - 1)) long ∙ sym (ap (λ l. bit_and c.word_from.result l.usual.mask) lead) ∙ blank.3)
+    (ap (bit_and c.word_from.result) (mask_written kind blank.0) ∙ sym (ap (λ l. bit_and c.word_from.result l.usual.mask) lead) ∙ blank.3)
     (behind kind c.args.mask _ _ c.requires.mask (subst (λ n. found_in n found) (ap (λ l. l.usual.length) lead ∙ sym long) e)))
     c.number_from.result c.number_from.ensures.is
 
