@@ -82,7 +82,7 @@ seven_even k n = rw (
   even k n,
 ) refl
 
-byte_skipped : (k n : ℕ) → count_trailing_zeros (8 + k) (256 * n) ≡ 8 + count_trailing_zeros k n
+pub byte_skipped : (k n : ℕ) → count_trailing_zeros (8 + k) (256 * n) ≡ 8 + count_trailing_zeros k n
 byte_skipped k n =
     let moved : 256 * n ≡ n * 2 * 2 * 2 * 2 * 2 * 2 * 2 * 2 = omega arith in
     let long : 8 + k ≡ suc (suc (suc (suc (suc (suc (suc (suc k))))))) = omega arith in

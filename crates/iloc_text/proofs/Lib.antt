@@ -19,6 +19,7 @@ pub mod Zeros
 pub mod OnePass
 pub mod Splitting
 pub mod Reading
+pub mod Spaces
 pub mod Spelled
 pub mod Answer
 pub mod ScheduleLines
