@@ -1,31 +1,7 @@
-use Rattle.std.proofs.Common.{◌≡◌, ◌∙◌, Bool, true, false, ap, sym, subst, refl, drop}
-use Rattle.iloc_ops.specs.declared.forms.Opcode.TheVariants.{Output, Nop}
-use Rattle.iloc_text.specs.Steps.FastPath.{shape_of, IsMaskOf, IsRead}
-use Rattle.iloc_text.proofs.FastPath.{called, called_of, mask_of_lead, third_lead, small_op}
+use Rattle.std.proofs.Common.{subst, sym}
+use Rattle.iloc_text.specs.Steps.FastPath.{IsMaskOf}
+use Rattle.iloc_text.proofs.FastPath.{called, mask_of_lead, third_lead, small_op}
 use Rattle.iloc_text.proofs.line.fast_path.fast_called_at.Goals as goal
-use Rattle.iloc_text.proofs.line.fast_path.fast_called_at.Goals.{in-Nop, in_default, in-Output, in_default-matches}
-
-differ : (b : Bool) → b ≡ true → b ≡ false → ⊥
-differ b one other = cc
-
-pub returns-then-matches-clause-is : goal.returns-then-matches-clause-is
-returns-then-matches-clause-is c =
-    let is : c.args.opcode ≡ Nop = elim c.match-matches.branch [
-      | in-Nop w ↦ w.in-Nop.is
-      | in_default w ↦ absurd (differ c.match-matches.matches c.if-matches.true w.matches-is)
-    ] in
-    rw is (called_of Nop (drop c.args.start c.args.bytes.now) 0 0 0 _ _ _ refl refl refl)
-
-pub returns-then-matches-2-clause-is : goal.returns-then-matches-2-clause-is
-returns-then-matches-2-clause-is c =
-    let is : c.args.opcode ≡ Output = elim c.match-matches-2.branch [
-      | in-Output w ↦ w.in-Output.is
-      | in_default-matches w ↦ absurd (differ c.match-matches-2.matches c.if-matches-2.true w.matches-is)
-    ] in
-    let rest = drop c.in_ok-first.at c.args.bytes.now in
-    let first = subst (λ s. IsRead s.first.kind (drop c.args.start c.args.bytes.now) (c.in_ok-first.first, rest))
-    (c.of-shape.ensures ∙ ap shape_of is) c.in_ok-first.ensures.is in
-    rw is (called_of Output (drop c.args.start c.args.bytes.now) c.in_ok-first.first 0 0 rest rest rest first refl refl)
 
 pub operand_from-requires-3-clause-lead : goal.operand_from-requires-3-clause-lead
 operand_from-requires-3-clause-lead c = third_lead c.args.opcode c.of-shape.result.now c.of-shape.ensures
