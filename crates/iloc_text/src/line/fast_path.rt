@@ -172,24 +172,6 @@ fn operand_from(lead: &Lead, mask: usize, bytes: &[u8], at: usize) -> Option<(u3
     number_from(bytes, place, mask)
 }
 
-/// As `fast_called_at`, for an opcode of fewer than two operands; nothing for every other.
-#[inline(always)]
-fn fast_few_at(opcode: Opcode, bytes: &[u8], start: usize) -> Option<(Op, usize)>
-    requires { start + LONGEST ≤ length bytes.now }
-    ensures is { IfSome result (λ found. called_at opcode (drop start bytes.now) ≡ Some (found.0, drop found.1 bytes.now)) }
-    ensures small { IfSome result (λ found. is_within_limit found.0 ≡ true) }
-    ensures near { IfSome result (λ found. found.1 ≤ start + LONGEST) }
-{
-    match opcode {
-        Opcode::Nop => Some((Op::Nop, start)),
-        Opcode::Output => {
-            let (addr, at) = operand_from(&Shape::of(opcode).first, usize::MAX, bytes, start)?;
-            Some((Op::Output { addr }, at))
-        }
-        _ => None,
-    }
-}
-
 /// The operation of an opcode and of the operands at a place, and the place after these.
 ///
 /// Nothing jumps by the opcode, and where two operands are read, a third one is, by a mask of 0 if it is nothing: where the
@@ -202,10 +184,14 @@ pub fn fast_called_at(opcode: Opcode, bytes: &[u8], start: usize) -> Option<(Op,
     ensures small { IfSome result (λ found. is_within_limit found.0 ≡ true) }
     ensures near { IfSome result (λ found. found.1 ≤ start + LONGEST) }
 {
-    if matches!(opcode, Opcode::Nop | Opcode::Output) {
-        return fast_few_at(opcode, bytes, start);
-    }
     let shape = Shape::of(opcode);
+    if matches!(opcode, Opcode::Nop | Opcode::Output) {
+        if matches!(opcode, Opcode::Nop) {
+            return Some((Op::Nop, start));
+        }
+        let (addr, at) = operand_from(&shape.first, usize::MAX, bytes, start)?;
+        return Some((Op::Output { addr }, at));
+    }
     // A mask of its lead would do for each: with a constant `run` executes 4 % fewer instructions.
     let (first, at) = operand_from(&shape.first, usize::MAX, bytes, start)?;
     let (second, at) = operand_from(&shape.second, usize::MAX, bytes, at)?;
