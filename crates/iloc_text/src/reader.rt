@@ -23,8 +23,7 @@ use crate::reader::taker::TakeBlocks;
 use iloc_ops::{IlocFile, MAX_INPUT};
 use std::alloc::Global;
 
-/// The first line of the text and what follows its line end, if it has one; or why it has no reading. As a call of its own
-/// `schedule` executes 5 instructions more for each operation of blocks of ten.
+/// The first line of the text and what follows its line end, if it has one; or why it has no reading.
 #[inline(always)]
 fn first_line(text: &[u8]) -> Result<(Line<'_>, Option<&[u8]>), ParseFault>
     ensures { FirstLine text.now result }
