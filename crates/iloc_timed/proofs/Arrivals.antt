@@ -1,5 +1,5 @@
 -- When the results of a schedule arrive.
-use Rattle.std.proofs.Common.{◌≡◌, ◌<◌, ◌≤◌, ℕ, ◌+◌, ◌==◌, true, List, ◌++◌, length, get_or, Option, Some, None, IfSome, option_to_list, unwrap_or, max, map, arith, refl, inl, inr}
+use Rattle.std.proofs.Common.{◌≡◌, ◌<◌, ◌≤◌, ℕ, ◌+◌, ◌==◌, true, List, ◌++◌, length, get_or, Option, Some, None, IfSome, option_to_list, unwrap_or, max, map, ap, arith, refl, inl, inr}
 use Rattle.std.specs.Prelude.{option_map}
 use Rattle.std.specs.List.{list_any, range_with_len}
 use Rattle.std.proofs.lemmas.Bool.{eqb-true, or_cases, cases_lt}
@@ -10,8 +10,9 @@ use Rattle.iloc_timed.specs.declared.latencies.Latencies.{Latencies}
 use Rattle.iloc_timed.specs.declared.row.Row.{Row}
 use Rattle.iloc_timed.specs.declared.kind.Kind.{Kind}
 use Rattle.iloc_timed.specs.declared.kind.Kind.TheVariants as K
+use Rattle.iloc_timed.specs.Kinds.{kind}
 use Rattle.iloc_timed.specs.Latency.{latency, latency_of}
-use Rattle.iloc_timed.specs.Steps.Longest.{longest}
+use Rattle.iloc_timed.specs.Steps.Latencies.{by_kind, longest, place}
 use Rattle.iloc_timed.specs.Rows.{row_at, slots, holds, issue_cycle, times_issued, AreNumbered, IsTable}
 use Rattle.iloc_timed.specs.Cycles.{cycles}
 use Rattle.iloc_timed.proofs.Counts.{any_contains}
@@ -21,6 +22,19 @@ use Rattle.iloc_timed.proofs.Issues.{issued_there, stands_there, holds_zero, hol
 -- when the result of what is issued in a slot arrives
 abbrev pub arrival_in : Latencies → List Op → ℕ → Option ℕ → ℕ
 arrival_in lat ops c slot = unwrap_or (option_map (λ i. c + latency lat (op_at ops i)) slot) 0
+
+-- what stands at the place of a kind is its latency
+placed : (lat : Latencies) (k : Kind) → get_or (by_kind lat) (place k) 0 ≡ latency_of lat k
+placed lat K.Load = refl
+placed lat K.Store = refl
+placed lat K.Mult = refl
+placed lat K.Output = refl
+placed lat K.Other = refl
+
+pub arrival_by_kind : (lat : Latencies) (table : List ℕ) (ops : List Op) (c : ℕ) (slot : Option ℕ) → table ≡ by_kind lat
+    → unwrap_or (option_map (λ i. c + get_or table (place (kind (op_at ops i))) 0) slot) 0 ≡ arrival_in lat ops c slot
+arrival_by_kind lat table ops c None is = refl
+arrival_by_kind lat table ops c (Some i) is = rw (is) (ap (λ n. c + n) (placed lat (kind (op_at ops i))))
 
 if_some : (slot : Option ℕ) (P : ℕ → Type 0) → ((i : ℕ) → slot ≡ Some i → P i) → IfSome slot P
 if_some None P each = tt

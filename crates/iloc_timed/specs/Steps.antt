@@ -2,4 +2,4 @@
 pub mod Pending
 pub mod Wheel
 pub mod Machine
-pub mod Longest
+pub mod Latencies

@@ -27,7 +27,7 @@ pub struct Latencies {
 
 impl Latencies {
     ghost use Rattle.iloc_timed.specs.Latency.{IsLatency, latency_of};
-    ghost use Rattle.iloc_timed.specs.Steps.Longest.{longest};
+    ghost use Rattle.iloc_timed.specs.Steps.Latencies.{by_kind, longest};
 
     /// Promise: these latencies, or `None` if one of them isn't from 1 to 16.
     pub fn new(load: u32, store: u32, mult: u32) -> Option<Latencies>
@@ -64,9 +64,17 @@ impl Latencies {
         ensures within { IsLatency result }
     {
         // Where it isn't inlined, `counts` takes 4 % more processor time on blocks of a hundred operations.
-        // With a match, which compiles to a jump, `counts` mispredicts 0.6 branches more for each operation.
-        let by_kind = [self.load, self.store, self.mult, 1, 1];
-        by_kind[kind as usize]
+        self.by_kind()[kind as usize]
+    }
+
+    /// The latencies of the kinds, in their order.
+    ///
+    /// With a match, which compiles to a jump, `counts` mispredicts 0.6 branches more for each operation.
+    #[inline(always)]
+    pub(crate) fn by_kind(&self) -> [u32; 5]
+        ensures { result ≡ by_kind self.now }
+    {
+        [self.load, self.store, self.mult, 1, 1]
     }
 
     /// The longest: no operation takes more cycles.

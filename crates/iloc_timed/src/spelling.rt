@@ -17,7 +17,7 @@ const LONGEST_LINE: usize = LONGEST_ROW + 1;
 
 /// So many lines are written before they are appended together. If each is appended by itself, `schedule` executes 4 % more
 /// instructions.
-const ROWS_AT_ONCE: usize = 8;
+const ROWS_AT_ONCE: usize = 16;
 
 const OPEN: Word = Word {
     bytes: *b"      [ ",

@@ -1,10 +1,11 @@
 //! How long operations and schedules take.
-ghost use Rattle.std.specs.Prelude.{◌≡◌, ◌+◌, ◌<◌, ◌≤◌, length, IfSome, unwrap_or, option_map};
+ghost use Rattle.std.specs.Prelude.{◌≡◌, ◌+◌, ◌<◌, ◌≤◌, length, get_or, IfSome, unwrap_or, option_map};
 ghost use Rattle.iloc_meaning.specs.Trace.{op_at};
 ghost use Rattle.iloc_timed.specs.Kinds.{kind};
 ghost use Rattle.iloc_timed.specs.Latency.{latency, IsLatency};
 ghost use Rattle.iloc_timed.specs.Cycles.{cycles};
 ghost use Rattle.iloc_timed.specs.Rows.{AreNumbered};
+ghost use Rattle.iloc_timed.specs.Steps.Latencies.{place};
 
 use crate::kind::Kind;
 use crate::latencies::Latencies;
@@ -29,14 +30,14 @@ pub fn latency(op: &Op, latencies: &Latencies) -> u64
     u64::from(latencies.of(kind_of(op)))
 }
 
-/// When the result of what is issued in a slot arrives; 0 for an empty slot.
-fn arrival(ops: &[Op], latencies: &Latencies, cycle: usize, slot: Option<usize>) -> u64
+/// When the result of what is issued in a slot arrives, by the latencies of the kinds; 0 for an empty slot.
+fn arrival(ops: &[Op], by_kind: &[u32; 5], cycle: usize, slot: Option<usize>) -> u64
     requires issued { IfSome slot (λ i. i < length ops.now) }
     requires early { cycle ≤ MAX_ROWS }
-    ensures { result ≡ unwrap_or (option_map (λ i. cycle + latency latencies.now (op_at ops.now i)) slot) 0 }
+    ensures { result ≡ unwrap_or (option_map (λ i. cycle + get_or by_kind.now (place (kind (op_at ops.now i))) 0) slot) 0 }
 {
     match slot {
-        Some(i) => cycle as u64 + latency(&ops[i], latencies),
+        Some(i) => cycle as u64 + u64::from(by_kind[kind_of(&ops[i]) as usize]),
         None => 0,
     }
 }
@@ -51,14 +52,15 @@ pub fn cycles_of(ops: &[Op], rows: &[Row], latencies: &Latencies) -> u64
     ensures { result ≡ cycles latencies.now ops.now rows.now }
 {
     let longest = u64::from(latencies.longest());
+    let by_kind = latencies.by_kind();
     let mut last = 0;
     // From the last row back, as long as a row that is left may hold what arrives later.
     let mut left = rows.len();
     while left > 0 && last < left as u64 + longest {
         left -= 1;
         let row = rows[left];
-        last = arrival(ops, latencies, left, row.zero).max(last);
-        last = arrival(ops, latencies, left, row.one).max(last);
+        last = arrival(ops, &by_kind, left, row.zero).max(last);
+        last = arrival(ops, &by_kind, left, row.one).max(last);
     }
     last
 }

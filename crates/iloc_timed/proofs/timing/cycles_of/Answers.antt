@@ -1,6 +1,6 @@
 use Rattle.std.proofs.Common.{◌≡◌, ◌+◌, ◌-◌, ◌<◌, ◌≤◌, ℕ, length, max, ap, ◌∙◌, subst, arith}
 use Rattle.iloc_timed.specs.Rows.{row_at}
-use Rattle.iloc_timed.proofs.Arrivals.{IsLastFrom, arrival_in, zero_numbered, one_numbered, none_from_end, one_row_more, last_is_cycles}
+use Rattle.iloc_timed.proofs.Arrivals.{IsLastFrom, arrival_by_kind, arrival_in, zero_numbered, one_numbered, none_from_end, one_row_more, last_is_cycles}
 use Rattle.iloc_timed.proofs.timing.cycles_of.Goals as goal
 
 pub arrival-requires-clause-issued : goal.arrival-requires-clause-issued
@@ -24,9 +24,9 @@ loop-left-preserved c =
     let most : c.loop-left.left ≤ length c.args.rows.now = c.loop-left.invariant.1 in
     let within : at < length c.args.rows.now = omega arith in
     let by_zero : c.arrival.result ≡ arrival_in lat ops at (row_at rows at).zero =
-    c.arrival.ensures in
+    c.arrival.ensures ∙ arrival_by_kind lat c.by_kind-by_kind.result ops at (row_at rows at).zero c.by_kind-by_kind.ensures in
     let by_one : c.arrival-in-loop-left.result ≡ arrival_in lat ops at (row_at rows at).one =
-    c.arrival-in-loop-left.ensures in
+    c.arrival-in-loop-left.ensures ∙ arrival_by_kind lat c.by_kind-by_kind.result ops at (row_at rows at).one c.by_kind-by_kind.ensures in
     let before : c.loop-left.left ≡ at + 1 = omega arith in (
       one_row_more lat ops rows at c.loop-left.last c.max-last.result c.max-last-in-loop-left.result
           c.requires.numbered within
