@@ -1,19 +1,32 @@
--- Where a rest stands in the bytes.
-use Rattle.std.proofs.Common.{◌≡◌, ◌∙◌, ℕ, List, ◌++◌, take, drop, sym, ap, append_assoc, take-append-drop, Option, Some, IfSome, option_map, Bor, arith}
+-- What stands before a rest of the bytes.
+use Rattle.std.proofs.Common.{◌≡◌, ◌∙◌, ◌-◌, ℕ, List, [], ◌∷◌, ◌++◌, length, take, drop, take-append-drop, sym, ap, subst, append_assoc, Option, Some, None, IfSome, option_map, Bor, arith}
+use Rattle.std.proofs.Math.Seq.{drop-append_seam}
+use Rattle.std.proofs.lemmas.List.{length-append}
 use Rattle.iloc_text.proofs.Parts.{Before}
 
-pub stands_in : (P : List ℕ → Type 0) (bytes : List ℕ) (at : ℕ) (rest : List ℕ) → Before P rest (drop at bytes)
-    → (front : List ℕ) × (bytes ≡ front ++ rest)
-stands_in P bytes at rest b = (
-  take at bytes ++ b.front,
-  sym (take-append-drop at bytes) ∙ ap (λ d. take at bytes ++ d) b.whole
-      ∙ sym (append_assoc (take at bytes) b.front rest),
+-- what a token function finds
+pub found_in : (P : List ℕ → Type 0) (text : List ℕ) (token : List ℕ → Option (List ℕ)) (found : Option (Bor (List ℕ)))
+    → ((text : List ℕ) → IfSome (token text) (λ r. Before P r text))
+    → option_map (λ (r : Bor (List ℕ)). r.now) found ≡ token text → IfSome found (λ rest. (front : List ℕ) × (text ≡ front ++ rest.now))
+found_in P text token None reads e = tt
+found_in P text token (Some rest) reads e =
+    let before = subst (λ o. IfSome o (λ r. Before P r text)) (sym e) (reads text) in (before.front, before.whole)
+
+-- and what follows the letter behind it
+pub letter_in : (text : List ℕ) (behind : Bor (List ℕ)) (found : Option (Bor (List ℕ))) → (front : List ℕ) × (text ≡ front ++ behind.now)
+    → IfSome found (λ rest. behind.now ≡ 114 ∷ rest.now) → IfSome found (λ rest. (front : List ℕ) × (text ≡ front ++ rest.now))
+letter_in text behind None before e = tt
+letter_in text behind (Some rest) before e = (
+  before.0 ++ 114 ∷ [],
+  before.1 ∙ ap (λ t. before.0 ++ t) e ∙ sym (append_assoc before.0 (114 ∷ []) rest.now),
 )
 
--- what a token function finds at a place
-pub found_in : (P : List ℕ → Type 0) (bytes : List ℕ) (at : ℕ) (part : List ℕ) (token : List ℕ → Option (List ℕ))
-    (found : Option (Bor (List ℕ))) (rest : Bor (List ℕ)) → part ≡ drop at bytes
-    → ((text : List ℕ) → IfSome (token text) (λ r. Before P r text))
-    → option_map (λ (r : Bor (List ℕ)). r.now) found ≡ token part → found ≡ Some rest
-    → (front : List ℕ) × (bytes ≡ front ++ rest.now)
-found_in P bytes at part token found rest is reads e some = grind (arith, option_map, stands_in)
+-- where a rest of the bytes from a place on begins
+pub rest_begins : (bytes : List ℕ) (at : ℕ) (part rest : List ℕ) → part ≡ drop at bytes → (front : List ℕ) × (part ≡ front ++ rest)
+    → drop (length bytes - length rest) bytes ≡ rest
+rest_begins bytes at part rest is before =
+    let front = take at bytes ++ before.0 in
+    let whole : bytes ≡ front ++ rest = sym (take-append-drop at bytes) ∙ ap (λ d. take at bytes ++ d) (sym is ∙ before.1)
+    ∙ sym (append_assoc (take at bytes) before.0 rest) in
+    subst (λ b. drop (length b - length rest) b ≡ rest) (sym whole)
+    (ap (λ n. drop n (front ++ rest)) (omega (arith, length-append front rest)) ∙ drop-append_seam front rest)

@@ -5,7 +5,7 @@ ghost use Rattle.std.specs.Simd.Lanes.{number_l};
 ghost use Rattle.iloc_text.specs.declared.line.scan.TheConstants.{ABOVE_LIMIT};
 ghost use Rattle.iloc_text.specs.Steps.Digits.{IsMask, IsNumber};
 ghost use Rattle.iloc_text.specs.Steps.FastPath.{lead_of, IsBehind, IsMaskOf, IsRead};
-ghost use Rattle.iloc_text.specs.Steps.Scan.{some_blanks_at, comma_at, arrow_at, register_at, number_at, called_at, is_within_limit};
+ghost use Rattle.iloc_text.specs.Steps.Scan.{called_at, is_within_limit};
 
 use crate::line::numbers::fast_number_at;
 use crate::line::scan::{arrow_at, comma_at, some_blanks_at};
@@ -17,55 +17,6 @@ const MOST_PASSED: usize = 20;
 
 /// What follows an opcode on the fast path is no longer.
 pub const LONGEST: usize = 128;
-
-/// The place at which the rest of the bytes begins; 0 if that is beyond `most`.
-fn place_of(bytes: &[u8], rest: &[u8], most: usize) -> usize
-    requires { (front : List ℕ) × (bytes.now ≡ front ++ rest.now) }
-    ensures is { 0 < result → rest.now ≡ drop result bytes.now }
-    ensures near { result ≤ most }
-{
-    let place = bytes.len() - rest.len();
-    if place <= most { place } else { 0 }
-}
-
-/// The place after all blanks at a place; 0 if there are none, or too many.
-#[inline(always)]
-fn place_behind_blanks(bytes: &[u8], at: usize) -> usize
-    requires { at ≤ length bytes.now }
-    ensures is { 0 < result → some_blanks_at (drop at bytes.now) ≡ Some (drop result bytes.now) }
-    ensures near { result ≤ at + MOST_PASSED }
-{
-    match some_blanks_at(&bytes[at..]) {
-        Some(rest) => place_of(bytes, rest, at + MOST_PASSED),
-        None => 0,
-    }
-}
-
-/// The place after a comma at a place and any blanks around it; 0 if there is none, or too many blanks.
-#[inline(always)]
-fn place_behind_comma(bytes: &[u8], at: usize) -> usize
-    requires { at ≤ length bytes.now }
-    ensures is { 0 < result → comma_at (drop at bytes.now) ≡ Some (drop result bytes.now) }
-    ensures near { result ≤ at + MOST_PASSED }
-{
-    match comma_at(&bytes[at..]) {
-        Some(rest) => place_of(bytes, rest, at + MOST_PASSED),
-        None => 0,
-    }
-}
-
-/// The place after an arrow at a place and any blanks around it; 0 if there is none, or too many blanks.
-#[inline(always)]
-fn place_behind_arrow(bytes: &[u8], at: usize) -> usize
-    requires { at ≤ length bytes.now }
-    ensures is { 0 < result → arrow_at (drop at bytes.now) ≡ Some (drop result bytes.now) }
-    ensures near { result ≤ at + MOST_PASSED }
-{
-    match arrow_at(&bytes[at..]) {
-        Some(rest) => place_of(bytes, rest, at + MOST_PASSED),
-        None => 0,
-    }
-}
 
 /// Eight bytes from a place on, the first of them the lowest.
 #[inline(always)]
@@ -87,40 +38,44 @@ pub fn word_from(bytes: &[u8], at: usize) -> u64
     ])
 }
 
-/// The place after the letter of a register at a place; 0 if there is none.
+/// What follows the letter of a register at the front.
 #[inline(always)]
-fn place_behind_letter(bytes: &[u8], at: usize) -> usize
-    requires { at < length bytes.now }
-    ensures is { 0 < result → register_at (drop at bytes.now) ≡ number_at (drop result bytes.now) }
-    ensures near { result ≤ at + 1 }
+fn behind_letter(bytes: &[u8]) -> Option<&[u8]>
+    ensures is { IfSome result (λ rest. bytes.now ≡ 114 ∷ rest.now) }
 {
-    if bytes[at] == b'r' { at + 1 } else { 0 }
+    match bytes {
+        [b'r', rest @ ..] => Some(rest),
+        _ => None,
+    }
+}
+
+/// What follows what precedes a number, if that is at the front.
+#[inline(always)]
+fn behind_kind(kind: Kind, bytes: &[u8]) -> Option<&[u8]>
+    ensures is { IfSome result (λ rest. (found : ℕ × List ℕ) → IsBehind kind rest.now found → IsRead kind bytes.now found) }
+    ensures inside { IfSome result (λ rest. (front : List ℕ) × (bytes.now ≡ front ++ rest.now)) }
+{
+    match kind {
+        Kind::Nothing => None,
+        Kind::BlankRegister => behind_letter(some_blanks_at(bytes)?),
+        Kind::BlankConstant => some_blanks_at(bytes),
+        Kind::CommaRegister => behind_letter(comma_at(bytes)?),
+        Kind::CommaConstant => comma_at(bytes),
+        Kind::ArrowRegister => behind_letter(arrow_at(bytes)?),
+    }
 }
 
 /// The place after what precedes a number; 0 if there is nothing of this kind, or too much.
 #[cold]
 #[inline(never)]
 fn place_behind_kind(kind: Kind, bytes: &[u8], at: usize) -> usize
-    requires { at + MOST_PASSED < length bytes.now }
+    requires { at ≤ length bytes.now }
     ensures is { 0 < result → (found : ℕ × List ℕ) → IsBehind kind (drop result bytes.now) found → IsRead kind (drop at bytes.now) found }
-    ensures near { result ≤ at + MOST_PASSED + 1 }
+    ensures near { result ≤ at + MOST_PASSED }
 {
-    match kind {
-        Kind::Nothing => 0,
-        Kind::BlankConstant => place_behind_blanks(bytes, at),
-        Kind::BlankRegister => match place_behind_blanks(bytes, at) {
-            0 => 0,
-            place => place_behind_letter(bytes, place),
-        },
-        Kind::CommaConstant => place_behind_comma(bytes, at),
-        Kind::CommaRegister => match place_behind_comma(bytes, at) {
-            0 => 0,
-            place => place_behind_letter(bytes, place),
-        },
-        Kind::ArrowRegister => match place_behind_arrow(bytes, at) {
-            0 => 0,
-            place => place_behind_letter(bytes, place),
-        },
+    match behind_kind(kind, &bytes[at..]) {
+        Some(rest) if bytes.len() - rest.len() <= at + MOST_PASSED => bytes.len() - rest.len(),
+        _ => 0,
     }
 }
 
