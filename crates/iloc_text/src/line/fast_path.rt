@@ -12,7 +12,7 @@ use crate::line::scan::{arrow_at, comma_at, some_blanks_at};
 use crate::line::shape::{Kind, Lead, Shape};
 use iloc_ops::{Op, Opcode, op_of};
 
-/// At most so many bytes are passed before a register or a constant: enough for a text in columns.
+/// At most so many bytes are passed before a number: enough for a text in columns.
 const MOST_PASSED: usize = 20;
 
 /// What follows an opcode on the fast path is no longer.
@@ -49,7 +49,7 @@ fn behind_letter(bytes: &[u8]) -> Option<&[u8]>
     }
 }
 
-/// What follows what precedes a number, if that is at the front.
+/// The bytes from a number on, if what precedes one of this kind is at the front.
 #[inline(always)]
 fn behind_kind(kind: Kind, bytes: &[u8]) -> Option<&[u8]>
     ensures is { IfSome result (λ rest. (found : ℕ × List ℕ) → IsBehind kind rest.now found → IsRead kind bytes.now found) }
@@ -83,9 +83,9 @@ fn place_behind_kind(kind: Kind, bytes: &[u8], at: usize) -> usize
 #[inline(never)]
 fn place_behind(lead: &Lead, bytes: &[u8], at: usize) -> usize
     requires lead { lead.now ≡ lead_of lead.now.kind }
-    requires long { at + MOST_PASSED < length bytes.now }
+    requires long { at + 8 ≤ length bytes.now }
     ensures is { 0 < result → (found : ℕ × List ℕ) → IsBehind lead.now.kind (drop result bytes.now) found → IsRead lead.now.kind (drop at bytes.now) found }
-    ensures near { result ≤ at + MOST_PASSED + 1 }
+    ensures near { result ≤ at + MOST_PASSED }
 {
     if word_from(bytes, at) & lead.tight.mask == lead.tight.word {
         return at + lead.tight.length;
@@ -111,7 +111,7 @@ fn number_from(bytes: &[u8], at: usize, mask: usize) -> Option<(u32, usize)>
 fn operand_from(lead: &Lead, mask: usize, bytes: &[u8], at: usize) -> Option<(u32, usize)>
     requires lead { lead.now ≡ lead_of lead.now.kind }
     requires mask { IsMaskOf lead.now.kind mask }
-    requires long { at + MOST_PASSED + 9 ≤ length bytes.now }
+    requires long { at + MOST_PASSED + 8 ≤ length bytes.now }
     ensures is { IfSome result (λ found. IsRead lead.now.kind (drop at bytes.now) (found.0, drop found.1 bytes.now)) }
     ensures small { IfSome result (λ found. nat_lt found.0 ABOVE_LIMIT ≡ true) }
     ensures near { IfSome result (λ found. found.1 ≤ at + MOST_PASSED + 11) }
