@@ -5,9 +5,9 @@ use Rattle.std.specs.Str.{bytes_eq}
 use Rattle.std.proofs.lemmas.Option.{none-some}
 use Rattle.std.proofs.lemmas.Slice.Eq.{bytes_eq-Decides}
 use Rattle.clap.specs.Words.{Text}
-use Rattle.iloc_sched.specs.declared.ranking.heuristic.Heuristic.{Heuristic}
-use Rattle.iloc_sched.specs.declared.ranking.heuristic.Heuristic.TheVariants.{Chain}
-use Rattle.iloc_sched.specs.Heuristics.Listed.{heuristics}
+use Rattle.iloc_rules.specs.declared.heuristic.Heuristic.{Heuristic}
+use Rattle.iloc_rules.specs.declared.heuristic.Heuristic.TheVariants.{Chain}
+use Rattle.iloc_rules.specs.Heuristics.Listed.{heuristics}
 use Rattle.iloc_args.specs.Priority.{IsNoPriority, priority_word}
 
 -- what is found passes

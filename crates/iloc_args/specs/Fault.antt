@@ -5,7 +5,7 @@ use Rattle.std.specs.String.{string_bytes}
 use Rattle.iloc_args.specs.declared.fault.LineFault.{LineFault}
 use Rattle.iloc_args.specs.declared.fault.LineFault.TheVariants.{Help, Refused, BadStart, TooManyWords, NoSuchPriority, TwoForms, NoMemory}
 use Rattle.iloc_args.specs.Priority.{priority_word}
-use Rattle.iloc_sched.specs.Heuristics.Listed.{heuristics}
+use Rattle.iloc_rules.specs.Heuristics.Listed.{heuristics}
 
 -- what is said of a fault: the parser's own text, or one of these
 abbrev pub line_text : LineFault → List ℕ

@@ -1,8 +1,8 @@
 -- The words for what the ready operations are ranked by.
 use Rattle.std.specs.Prelude.{◌≢◌, codes}
 use Rattle.clap.specs.Words.{Text}
-use Rattle.iloc_sched.specs.declared.ranking.heuristic.Heuristic.{Heuristic}
-use Rattle.iloc_sched.specs.declared.ranking.heuristic.Heuristic.TheVariants.{Chain, Slack, Descendants, Successors, Latency, Order}
+use Rattle.iloc_rules.specs.declared.heuristic.Heuristic.{Heuristic}
+use Rattle.iloc_rules.specs.declared.heuristic.Heuristic.TheVariants.{Chain, Slack, Descendants, Successors, Latency, Order}
 
 -- the word for a heuristic
 abbrev pub priority_word : Heuristic → Text

@@ -14,12 +14,12 @@ use crate::request::Task;
 use clap::builder::ValueParser;
 use clap::{Arg, ArgAction, Command, value_parser};
 use iloc_meaning::LAST_ADDRESS;
-use iloc_optimum::MOST_NODES;
+use iloc_rules::MOST_NODES;
 use iloc_timed::LONGEST_LATENCY;
 use std::alloc::{AllocError, Global};
 
-/// The version of the program.
-const VERSION: &str = "1.0.0";
+/// The version of the program, as the first heading of CHANGELOG.md has it.
+const VERSION: &str = "1.0.0 (unreleased)";
 
 /// What stands below the list of commands: limits, exit statuses, and where the manual is.
 const MANUAL: &str = "\

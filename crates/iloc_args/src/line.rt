@@ -17,7 +17,7 @@ use crate::priority::heuristic_of;
 use crate::request::{Request, Task};
 use clap::ArgMatches;
 use iloc_meaning::{LAST_ADDRESS, WORDS};
-use iloc_sched::Heuristic;
+use iloc_rules::Heuristic;
 use iloc_timed::{LONGEST_LATENCY, Latencies};
 use std::alloc::{AllocError, AllocFailed, Global};
 use std::convert::AsStr;

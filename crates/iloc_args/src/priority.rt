@@ -2,10 +2,10 @@
 ghost use Rattle.std.specs.Prelude.{◌≡◌, find};
 ghost use Rattle.std.specs.Str.{bytes_eq};
 ghost use Rattle.iloc_args.specs.Priority.{priority_word};
-ghost use Rattle.iloc_sched.specs.Heuristics.Listed.{heuristics};
-ghost use Rattle.iloc_sched.specs.declared.ranking.heuristic.Heuristic.{Heuristic as heuristic_value};
+ghost use Rattle.iloc_rules.specs.Heuristics.Listed.{heuristics};
+ghost use Rattle.iloc_rules.specs.declared.heuristic.Heuristic.{Heuristic as heuristic_value};
 
-use iloc_sched::{HEURISTICS, Heuristic};
+use iloc_rules::{HEURISTICS, Heuristic};
 
 /// What the help says of `--priority`: their names in this order, from which the completions have them.
 pub(crate) const HELP: &str =

@@ -3,7 +3,7 @@ ghost use Rattle.std.specs.Prelude.{◌≡◌, ◌+◌, ◌*◌, ◌%◌, ◌≤
 ghost use Rattle.iloc_meaning.specs.Address.{LAST_ADDRESS};
 ghost use Rattle.iloc_meaning.specs.Memory.{WORDS};
 
-use iloc_sched::Heuristic;
+use iloc_rules::Heuristic;
 use iloc_timed::Latencies;
 
 /// The command: what is done with each block.

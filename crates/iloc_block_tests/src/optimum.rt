@@ -1,6 +1,7 @@
 //! The best schedule of a block, and the bound that a search proves.
 use crate::written::{USUAL, block_of, latencies};
-use iloc_optimum::{Optimizer, Sought};
+use iloc_optimum::Optimizer;
+use iloc_rules::Sought;
 use iloc_sched::Graph;
 use iloc_timed::cycles;
 use std::test::Fail;

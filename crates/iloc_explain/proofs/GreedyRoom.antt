@@ -14,11 +14,11 @@ use Rattle.iloc_timed.specs.Latency.{latency}
 use Rattle.iloc_timed.specs.Rows.{row_at, holds, issue_cycle}
 use Rattle.iloc_timed.proofs.Arrivals.{issued_within}
 use Rattle.iloc_timed.proofs.Issues.{issued_there, holds_zero, holds_one}
-use Rattle.iloc_sched.specs.Greedy.{IsGreedyBy, can_go_beside, chosen_with, first_of_all, may_stand_beside, on_units, ready}
-use Rattle.iloc_sched.specs.Steps.Members.{In}
-use Rattle.iloc_sched.proofs.Basics.Members.{from_append, in_filter, in_from}
-use Rattle.iloc_sched.proofs.Choice.FirstOfAll.{first_some}
-use Rattle.iloc_sched.proofs.Choice.Ready.{ready_from}
+use Rattle.iloc_rules.specs.Greedy.{IsGreedyBy, can_go_beside, chosen_with, first_of_all, may_stand_beside, on_units, ready}
+use Rattle.iloc_rules.specs.Steps.Members.{In}
+use Rattle.iloc_rules.proofs.Basics.Members.{from_append, in_filter, in_from}
+use Rattle.iloc_rules.proofs.Choice.FirstOfAll.{first_some}
+use Rattle.iloc_rules.proofs.Choice.Ready.{ready_from}
 use Rattle.iloc_explain.specs.declared.holding.Holder.TheVariants.{Delays, Nothing}
 use Rattle.iloc_explain.specs.declared.path.Stretch.{Stretch}
 use Rattle.iloc_explain.specs.declared.path.Stretch.TheVariants.{Delay, Free}

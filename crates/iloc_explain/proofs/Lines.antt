@@ -3,8 +3,8 @@ use Rattle.std.proofs.Common.{◌≡◌, ◌<◌, ℕ, ◌+◌, List, ◌∷◌,
 use Rattle.std.proofs.lemmas.List.{drop_more}
 use Rattle.iloc_ops.specs.declared.op.Op.{Op}
 use Rattle.iloc_ops.specs.declared.op.Op.TheVariants.{Nop}
-use Rattle.iloc_sched.specs.Renaming.{without_nops}
-use Rattle.iloc_sched.proofs.Renamed.WithoutNops.{is_nop-true}
+use Rattle.iloc_rules.specs.Renaming.{without_nops}
+use Rattle.iloc_rules.proofs.Renamed.WithoutNops.{is_nop-true}
 use Rattle.iloc_explain.specs.declared.explanation.Explained.{Explained}
 use Rattle.iloc_explain.specs.Listing.{explained_line, explained_lines}
 

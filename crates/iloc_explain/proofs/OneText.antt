@@ -6,9 +6,9 @@ use Rattle.iloc_timed.specs.declared.latencies.Latencies.{Latencies}
 use Rattle.iloc_timed.specs.declared.row.Row.{Row}
 use Rattle.iloc_timed.specs.Cycles.{cycles}
 use Rattle.iloc_timed.specs.Rows.{issue_cycle, row_at}
-use Rattle.iloc_sched.specs.Heuristics.{priorities_by}
-use Rattle.iloc_sched.specs.LowerBound.Least.{least}
-use Rattle.iloc_sched.specs.Renaming.{without_nops}
+use Rattle.iloc_rules.specs.Heuristics.{priorities_by}
+use Rattle.iloc_rules.specs.Least.{least}
+use Rattle.iloc_rules.specs.Renaming.{without_nops}
 use Rattle.iloc_explain.specs.declared.explanation.Explained.{Explained}
 use Rattle.iloc_explain.specs.Explained.{IsExplained}
 use Rattle.iloc_explain.specs.Holding.{holder, keeper}

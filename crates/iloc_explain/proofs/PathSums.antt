@@ -12,7 +12,7 @@ use Rattle.iloc_timed.specs.Cycles.{cycles}
 use Rattle.iloc_timed.specs.Latency.{latency}
 use Rattle.iloc_timed.specs.Rows.{issue_cycle}
 use Rattle.iloc_timed.proofs.Arrivals.{issued_within}
-use Rattle.iloc_sched.specs.Lawful.{IsLawful}
+use Rattle.iloc_rules.specs.Lawful.{IsLawful}
 use Rattle.iloc_explain.specs.declared.path.Stretch.{Stretch}
 use Rattle.iloc_explain.specs.declared.path.Stretch.TheVariants.{Delay, Held, Free}
 use Rattle.iloc_explain.specs.Laws.{PathsSumToTheCycles}

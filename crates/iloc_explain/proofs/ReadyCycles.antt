@@ -14,11 +14,11 @@ use Rattle.iloc_timed.specs.Kinds.{kind, is_store, is_output}
 use Rattle.iloc_timed.specs.Latency.{latency}
 use Rattle.iloc_timed.specs.Rows.{issue_cycle}
 use Rattle.iloc_timed.proofs.Greatest.{le_fold_max}
-use Rattle.iloc_sched.specs.Delays.{uses_result, reads_stored, keeps_order, when, memory_delays, delays}
-use Rattle.iloc_sched.specs.Steps.Members.{In}
-use Rattle.iloc_sched.proofs.Basics.Members.{contains_from, in_from, in_left, in_right, from_append, in_map, from_map, any_at, from_any}
-use Rattle.iloc_sched.proofs.Basics.Maxima.{fold_max_each, fold_max_reached, max_is}
-use Rattle.iloc_sched.proofs.DelayPairs.DelayBounds.{in_when, from_when}
+use Rattle.iloc_rules.specs.Delays.{uses_result, reads_stored, keeps_order, when, memory_delays, delays}
+use Rattle.iloc_rules.specs.Steps.Members.{In}
+use Rattle.iloc_rules.proofs.Basics.Members.{contains_from, in_from, in_left, in_right, from_append, in_map, from_map, any_at, from_any}
+use Rattle.iloc_rules.proofs.Basics.Maxima.{fold_max_each, fold_max_reached, max_is}
+use Rattle.iloc_rules.proofs.DelayPairs.DelayBounds.{in_when, from_when}
 use Rattle.iloc_explain.specs.declared.latest.Latest.{Latest}
 use Rattle.iloc_explain.specs.Waiting.{IsReadyAt}
 use Rattle.iloc_explain.specs.Steps.Latest.{AreLatest, result_of, by_kind, ready_after, arrival, next_cycle}

@@ -12,10 +12,10 @@ use Rattle.iloc_timed.specs.Rows.{row_at, slots, holds, issue_cycle, times_issue
 use Rattle.iloc_timed.proofs.Arrivals.{issued_within}
 use Rattle.iloc_timed.proofs.Counts.{any_contains}
 use Rattle.iloc_timed.proofs.Issues.{issued_there, stands_there, holds_zero, holds_one}
-use Rattle.iloc_sched.specs.Delays.{delays}
-use Rattle.iloc_sched.specs.Steps.Members.{In}
-use Rattle.iloc_sched.proofs.Basics.Members.{contains_from, in_from, in_left, in_right, in_filter, from_any, any_at, from_filter}
-use Rattle.iloc_sched.proofs.DelayPairs.DelayBounds.{delay_at_least}
+use Rattle.iloc_rules.specs.Delays.{delays}
+use Rattle.iloc_rules.specs.Steps.Members.{In}
+use Rattle.iloc_rules.proofs.Basics.Members.{contains_from, in_from, in_left, in_right, in_filter, from_any, any_at, from_filter}
+use Rattle.iloc_rules.proofs.DelayPairs.DelayBounds.{delay_at_least}
 use Rattle.iloc_explain.specs.declared.path.Stretch.{Stretch}
 use Rattle.iloc_explain.specs.declared.path.Stretch.TheVariants.{Delay, Held, Free}
 use Rattle.iloc_explain.specs.Holding.{keeper, keeper_of}

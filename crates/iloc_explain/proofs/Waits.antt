@@ -15,12 +15,12 @@ use Rattle.iloc_timed.specs.Latency.{latency}
 use Rattle.iloc_timed.specs.Rows.{empty_row, row_at, slots, holds, issue_cycle, IsTable}
 use Rattle.iloc_timed.proofs.Issues.{issued_there, holds_zero, holds_one}
 use Rattle.iloc_timed.proofs.Counts.{any_contains}
-use Rattle.iloc_sched.specs.declared.cycle.calendar.TheConstants.{LONGEST_DELAY}
-use Rattle.iloc_sched.specs.Delays.{delays}
-use Rattle.iloc_sched.specs.Steps.Members.{In}
-use Rattle.iloc_sched.proofs.Basics.Members.{contains_from, empty_from, from_any, from_append, from_filter}
-use Rattle.iloc_sched.proofs.DelayPairs.DelayBounds.{delay_at_least, delay_at_most}
-use Rattle.iloc_sched.proofs.Choice.ChosenRows.{in_option}
+use Rattle.iloc_rules.specs.declared.delay_pairs.TheConstants.{LONGEST_DELAY}
+use Rattle.iloc_rules.specs.Delays.{delays}
+use Rattle.iloc_rules.specs.Steps.Members.{In}
+use Rattle.iloc_rules.proofs.Basics.Members.{contains_from, empty_from, from_any, from_append, from_filter}
+use Rattle.iloc_rules.proofs.DelayPairs.DelayBounds.{delay_at_least, delay_at_most}
+use Rattle.iloc_rules.proofs.Choice.ChosenRows.{in_option}
 use Rattle.iloc_explain.specs.Waiting.{ends_at, issue_order, waited_until}
 use Rattle.iloc_explain.specs.Steps.Waits.{waits_for}
 use Rattle.iloc_timed.proofs.WholeRuns.{short_latency}

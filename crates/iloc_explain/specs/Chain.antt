@@ -4,8 +4,8 @@ use Rattle.iloc_ops.specs.declared.op.Op.{Op}
 use Rattle.iloc_meaning.specs.Trace.{op_at}
 use Rattle.iloc_timed.specs.declared.latencies.Latencies.{Latencies}
 use Rattle.iloc_timed.specs.Latency.{latency}
-use Rattle.iloc_sched.specs.Delays.{IsDelayPair}
-use Rattle.iloc_sched.specs.Priority.{priorities, priority}
+use Rattle.iloc_rules.specs.Delays.{IsDelayPair}
+use Rattle.iloc_rules.specs.Priority.{priorities, priority}
 
 -- a delay from operation i to operation j and the priority of j are together the priority of i
 pub record Continues (lat : Latencies) (ops : List Op) (i j : ℕ) : Type 0 where

@@ -6,8 +6,8 @@ use Rattle.iloc_timed.specs.declared.latencies.Latencies.{Latencies}
 use Rattle.iloc_timed.specs.declared.row.Row.{Row}
 use Rattle.iloc_timed.specs.Cycles.{cycles}
 use Rattle.iloc_timed.specs.Rows.{row_at, issue_cycle}
-use Rattle.iloc_sched.specs.Priority.{priority}
-use Rattle.iloc_sched.specs.LowerBound.Starts.{start}
+use Rattle.iloc_rules.specs.Priority.{priority}
+use Rattle.iloc_rules.specs.Starts.{start}
 use Rattle.iloc_explain.specs.declared.explanation.Explained.{Explained}
 use Rattle.iloc_explain.specs.declared.explanation.Unit.{Unit as unit_type}
 use Rattle.iloc_explain.specs.declared.explanation.Unit.TheVariants as unit

@@ -5,7 +5,7 @@ use Rattle.iloc_meaning.specs.Trace.{op_at}
 use Rattle.iloc_timed.specs.declared.row.Row.{Row}
 use Rattle.iloc_timed.specs.Kinds.{kind}
 use Rattle.iloc_timed.specs.Rows.{row_at}
-use Rattle.iloc_sched.specs.Greedy.{may_stand_beside}
+use Rattle.iloc_rules.specs.Greedy.{may_stand_beside}
 use Rattle.iloc_explain.specs.declared.holding.Holder.{Holder}
 use Rattle.iloc_explain.specs.declared.holding.Holder.TheVariants.{Delays, Operation, Nothing}
 

@@ -6,9 +6,9 @@ use Rattle.iloc_timed.specs.declared.latencies.Latencies.{Latencies}
 use Rattle.iloc_timed.specs.declared.row.Row.{Row}
 use Rattle.iloc_timed.specs.Cycles.{cycles}
 use Rattle.iloc_timed.specs.Rows.{issue_cycle}
-use Rattle.iloc_sched.specs.declared.ranking.heuristic.Heuristic.{Heuristic}
-use Rattle.iloc_sched.specs.Greedy.{IsGreedyBy}
-use Rattle.iloc_sched.specs.Lawful.{IsLawful}
+use Rattle.iloc_rules.specs.declared.heuristic.Heuristic.{Heuristic}
+use Rattle.iloc_rules.specs.Greedy.{IsGreedyBy}
+use Rattle.iloc_rules.specs.Lawful.{IsLawful}
 use Rattle.iloc_explain.specs.declared.holding.Holder.TheVariants.{Nothing}
 use Rattle.iloc_explain.specs.declared.path.Stretch.{Stretch}
 use Rattle.iloc_explain.specs.declared.path.Stretch.TheVariants.{Free}

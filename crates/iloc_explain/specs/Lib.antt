@@ -4,5 +4,6 @@ pub mod Holding
 pub mod Explained
 pub mod Laws
 pub mod Path
+pub mod Measures
 pub mod Listing
 pub mod Steps

@@ -8,10 +8,10 @@ use Rattle.iloc_ops.specs.Columns.{column}
 use Rattle.iloc_timed.specs.declared.latencies.Latencies.{Latencies}
 use Rattle.iloc_timed.specs.declared.row.Row.{Row}
 use Rattle.iloc_timed.specs.Cycles.{cycles}
-use Rattle.iloc_sched.specs.Renaming.{without_nops}
-use Rattle.iloc_sched.specs.declared.ranking.heuristic.Heuristic.{Heuristic}
-use Rattle.iloc_sched.specs.Heuristics.{priorities_by}
-use Rattle.iloc_sched.specs.LowerBound.Least.{least}
+use Rattle.iloc_rules.specs.Renaming.{without_nops}
+use Rattle.iloc_rules.specs.declared.heuristic.Heuristic.{Heuristic}
+use Rattle.iloc_rules.specs.Heuristics.{priorities_by}
+use Rattle.iloc_rules.specs.Least.{least}
 use Rattle.iloc_explain.specs.declared.explanation.Explained.{Explained}
 use Rattle.iloc_explain.specs.declared.explanation.Unit.{Unit as unit_type}
 use Rattle.iloc_explain.specs.declared.explanation.Unit.TheVariants as unit

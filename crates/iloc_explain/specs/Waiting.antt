@@ -6,7 +6,7 @@ use Rattle.iloc_meaning.specs.Trace.{op_at}
 use Rattle.iloc_timed.specs.declared.latencies.Latencies.{Latencies}
 use Rattle.iloc_timed.specs.declared.row.Row.{Row}
 use Rattle.iloc_timed.specs.Rows.{issue_cycle}
-use Rattle.iloc_sched.specs.Delays.{delays, IsDelayPair}
+use Rattle.iloc_rules.specs.Delays.{delays, IsDelayPair}
 
 -- operation j waits for operation i, and a delay of that ends at cycle c
 pub record WaitsUntil (lat : Latencies) (ops : List Op) (rows : List Row) (i j c : ℕ) : Type 0 where

@@ -1,6 +1,6 @@
 //! A longest chain of delays.
 ghost use Rattle.std.specs.Prelude.{◌≡◌, ◌<◌, ◌↔◌, [], length, IfOk, IsTrue, MatchOption};
-ghost use Rattle.iloc_sched.specs.Priority.{priorities as all_priorities};
+ghost use Rattle.iloc_rules.specs.Priority.{priorities as all_priorities};
 ghost use Rattle.iloc_explain.specs.Chain.{Continues, IsLongestChain, SpansTheGreatest};
 ghost use Rattle.iloc_explain.specs.Steps.Greatest.{IsPlaceOfGreatest};
 

@@ -1,7 +1,7 @@
 //! What is said of each operation of a schedule.
 ghost use Rattle.std.specs.Prelude.{◌≡◌, ◌-◌, length, IfOk};
-ghost use Rattle.iloc_sched.specs.Priority.{priorities as all_priorities};
-ghost use Rattle.iloc_sched.specs.LowerBound.Starts.{starts as all_starts};
+ghost use Rattle.iloc_rules.specs.Priority.{priorities as all_priorities};
+ghost use Rattle.iloc_rules.specs.Starts.{starts as all_starts};
 ghost use Rattle.iloc_explain.specs.Explained.{AreExplained, unit_of};
 
 use crate::holding::{Holder, holder_of};
@@ -13,7 +13,7 @@ use iloc_timed::{Latencies, Row, Schedule, cycles, latency};
 use std::alloc::Global;
 
 /// One of the two units that issue operations.
-#[derive(Clone, Copy, Debug, PartialEq, Eq)]
+#[derive(Clone, Copy, PartialEq, Eq)]
 pub(crate) enum Unit {
     /// Unit 0.
     Zero,
@@ -22,7 +22,7 @@ pub(crate) enum Unit {
 }
 
 /// When and where an operation of a schedule is issued, and why not before.
-#[derive(Debug, Drop)]
+#[derive(Drop)]
 pub(crate) struct Explained {
     /// The cycle at which it is issued.
     pub cycle: usize,

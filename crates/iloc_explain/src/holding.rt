@@ -1,13 +1,13 @@
 //! What kept an operation out of the row before its own.
 ghost use Rattle.std.specs.Prelude.{◌≡◌, ◌<◌, ◌≤◌, length, IfSome};
 ghost use Rattle.iloc_explain.specs.Holding.{clash, holder, keeper};
-ghost use Rattle.iloc_sched.specs.Greedy.{may_stand_beside};
+ghost use Rattle.iloc_rules.specs.Greedy.{may_stand_beside};
 
 use iloc_ops::Op;
 use iloc_timed::{Kind, Row, Schedule};
 
 /// What kept an operation out of the row before its own.
-#[derive(Clone, Copy, Debug, PartialEq, Eq)]
+#[derive(Clone, Copy, PartialEq, Eq)]
 pub(crate) enum Holder {
     /// Its delays: it is issued as soon as it is ready.
     Delays,

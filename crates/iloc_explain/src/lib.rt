@@ -8,9 +8,11 @@ mod issued;
 mod latest;
 pub mod laws;
 mod listing;
+mod measures;
 mod path;
 mod path_line;
 mod waited;
 
 pub use chain::longest_chain;
 pub use listing::push_explanation;
+pub use measures::Measures;

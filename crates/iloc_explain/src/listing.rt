@@ -2,18 +2,19 @@
 ghost use Rattle.std.specs.Prelude.{◌≡◌, ◌++◌, List, ℕ, length, OnOk};
 ghost use Rattle.std.specs.List.{flat_map};
 ghost use Rattle.std.specs.Fmt.{decimal};
-ghost use Rattle.iloc_sched.specs.Renaming.{renamed, without_nops};
+ghost use Rattle.iloc_rules.specs.Renaming.{renamed, without_nops};
 ghost use Rattle.iloc_explain.specs.Listing as listed;
 ghost use Rattle.iloc_explain.specs.Listing.{IsExplanation};
+ghost use Rattle.iloc_explain.specs.Measures.{AreMeasures};
 
 use crate::chain::longest_chain;
 use crate::explanation::{Explained, Unit, explain};
 use crate::holding::Holder;
+use crate::measures::Measures;
 use crate::path::path_of;
 use crate::path_line::push_path;
 use iloc_ops::{Block, NoMemory, Op, push_column, push_number, push_op};
-use iloc_sched::{Graph, Heuristic};
-use iloc_timed::{Schedule, cycles};
+use iloc_timed::{Latencies, Schedule, cycles};
 use std::alloc::Global;
 
 /// Appends each number after this mark.
@@ -149,40 +150,37 @@ fn push_cycles(text: &mut Vec<u8>, cycles: u64, least: u64) -> Result<(), NoMemo
     Ok(text.extend_from_slice(b"\n")?)
 }
 
-/// Appends what explains a schedule of the block of this graph, whose operations are the block's renamed ones, ranked by a
-/// heuristic: a line for each operation, the cycles with their lower bound (`least`), a longest chain of delays, and what binds
-/// in this schedule. The lines show each operation as it is `issued`.
+/// Appends what explains a schedule of the block: a line for each operation, the cycles with their lower bound (`least`), a
+/// longest chain of delays, and what binds in this schedule. The lines show each operation as it is `issued`.
 ///
 /// Promise: What is appended is a text that explains the schedule.
 pub fn push_explanation(
     alloc: Global,
     text: &mut Vec<u8>,
     block: &Block,
-    graph: &Graph,
+    latencies: &Latencies,
+    measures: &Measures,
     schedule: &Schedule,
     issued: &[Op],
-    heuristic: Heuristic,
 ) -> Result<(), NoMemory>
-    requires graph { graph.now.ops ≡ renamed block.now.ops }
     requires names { schedule.now.ops ≡ renamed block.now.ops }
+    requires measured { AreMeasures latencies.now schedule.now.ops measures.now }
     requires issued { length issued.now ≡ length schedule.now.ops }
-    ensures { OnOk result ((entry : List ℕ)
-        × IsExplanation heuristic graph.now.latencies block.now.ops schedule.now.ops schedule.now.rows issued.now entry
-        × (text.new.items ≡ text.old.items ++ entry)) }
+    ensures { OnOk result ((entry : List ℕ) × IsExplanation measures.now.heuristic latencies.now block.now.ops
+        schedule.now.ops schedule.now.rows issued.now entry × (text.new.items ≡ text.old.items ++ entry)) }
 {
-    let latencies = graph.latencies();
-    let mut chains = Vec::new(alloc);
-    graph.chains(&mut chains)?;
-    let mut starts = Vec::new(alloc);
-    graph.starts(&mut starts)?;
-    let mut ranks = Vec::new(alloc);
-    graph.rank(heuristic, &mut ranks)?;
-    let explained = explain(alloc, schedule, latencies, &ranks, &chains, &starts)?;
+    let Measures {
+        chains,
+        starts,
+        ranks,
+        ..
+    } = measures;
+    let explained = explain(alloc, schedule, latencies, ranks, chains, starts)?;
     push_lines(text, block.ops.as_slice(), &explained, issued)?;
-    push_cycles(text, cycles(schedule, latencies), graph.least()?)?;
+    push_cycles(text, cycles(schedule, latencies), measures.least)?;
     push_chain(
         text,
-        &longest_chain(alloc, graph.ops(), latencies, &chains)?,
+        &longest_chain(alloc, schedule.ops(), latencies, chains)?,
     )?;
     push_path(text, &path_of(alloc, schedule, latencies, &explained)?)
 }

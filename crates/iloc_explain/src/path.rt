@@ -17,7 +17,7 @@ use iloc_timed::{Latencies, Schedule, latency};
 use std::alloc::Global;
 
 /// Some cycles of a path, by what binds there.
-#[derive(Clone, Copy, Debug, PartialEq, Eq)]
+#[derive(Clone, Copy, PartialEq, Eq)]
 pub(crate) enum Stretch {
     /// The next operation of the path waits for the one of this number, so many cycles from its issue on; the last stretch is
     /// the latency of the last operation.

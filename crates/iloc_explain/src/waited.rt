@@ -1,12 +1,12 @@
 //! What an operation waited for last.
 ghost use Rattle.std.specs.Prelude.{◌≡◌, ◌++◌, ◌<◌, ◌↔◌, filter, length, option_to_list, Contains, IfOk, IfSome, IsTrue, OnOk};
 ghost use Rattle.iloc_meaning.specs.Trace.{op_at};
-ghost use Rattle.iloc_sched.specs.Delays.{delays as all_delays};
+ghost use Rattle.iloc_rules.specs.Delays.{delays as all_delays};
 ghost use Rattle.iloc_explain.specs.Waiting.{waited_until};
 ghost use Rattle.iloc_explain.specs.Steps.Waits.{waits_for};
 
 use iloc_ops::{NoMemory, Op};
-use iloc_sched::{LONGEST_DELAY, puts_delay};
+use iloc_rules::{LONGEST_DELAY, puts_delay};
 use iloc_timed::{Latencies, Schedule};
 use std::alloc::Global;
 

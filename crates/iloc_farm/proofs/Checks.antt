@@ -12,10 +12,10 @@ use Rattle.iloc_timed.specs.declared.latencies.Latencies.{Latencies}
 use Rattle.iloc_timed.specs.Cycles.{cycles}
 use Rattle.iloc_rows.specs.declared.proposal.Proposed.{Proposed}
 use Rattle.iloc_rows.specs.declared.proposal.unread.Unread.{Unread}
-use Rattle.iloc_sched.specs.declared.ranking.heuristic.Heuristic.TheVariants.{Chain}
-use Rattle.iloc_sched.specs.Greedy.{IsGreedy}
-use Rattle.iloc_sched.specs.LowerBound.Least.{least}
-use Rattle.iloc_sched.proofs.Bounds.LeastBound.{least_bound}
+use Rattle.iloc_rules.specs.declared.heuristic.Heuristic.TheVariants.{Chain}
+use Rattle.iloc_rules.specs.Greedy.{IsGreedy}
+use Rattle.iloc_rules.specs.Least.{least}
+use Rattle.iloc_bound.proofs.LeastBound.{least_bound}
 use Rattle.iloc_judge.specs.Checked.{DoTheSame, MayPass, passes}
 use Rattle.iloc_judge.specs.Unread.{IsUnread}
 use Rattle.iloc_judge.specs.declared.checked.Checked.{Checked}

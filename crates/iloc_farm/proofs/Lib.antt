@@ -17,3 +17,4 @@ pub mod Comparisons
 pub mod Listers
 pub mod Unfolded
 pub mod Streamed
+pub mod TheLeast

@@ -7,7 +7,7 @@ use Rattle.iloc_ops.specs.declared.op.Op.{Op}
 use Rattle.iloc_fault.proofs.Places.{one_place}
 use Rattle.iloc_timed.specs.declared.latencies.Latencies.{Latencies}
 use Rattle.iloc_timed.specs.Schedule.{Table}
-use Rattle.iloc_sched.specs.declared.ranking.heuristic.Heuristic.{Heuristic}
+use Rattle.iloc_rules.specs.declared.heuristic.Heuristic.{Heuristic}
 use Rattle.iloc_optimum.specs.declared.optimizer.Optimum.{Optimum}
 use Rattle.iloc_optimum.specs.Optimum.{IsOptimumOf}
 use Rattle.iloc_explain.specs.Listing.{IsExplanation}
@@ -18,7 +18,7 @@ use Rattle.iloc_meaning.specs.Memory.{words_from}
 use Rattle.iloc_meaning.specs.Outcome.{outcome, shown}
 use Rattle.iloc_meaning.specs.declared.outcome.Outcome.{Outcome}
 use Rattle.iloc_timed.specs.Timed.{timed_outcome}
-use Rattle.iloc_sched.proofs.Outcome.LawfulOutcomes.{lawful_same_outcome}
+use Rattle.iloc_rules.proofs.Outcome.LawfulOutcomes.{lawful_same_outcome}
 use Rattle.iloc_trace.specs.Events.{events}
 use Rattle.iloc_trace.specs.Listing.{trace_lines}
 use Rattle.iloc_args.specs.declared.request.Request.{Request}

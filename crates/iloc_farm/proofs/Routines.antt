@@ -4,7 +4,7 @@ use Rattle.std.specs.Prelude.{slice_index_or}
 use Rattle.std.proofs.lemmas.List.{append_assoc, map-append}
 use Rattle.std.specs.List.{All, AllZip, range_with_len}
 use Rattle.std.proofs.lemmas.List.Elements.{All-nil, All-cons, All-head, All-tail, All-same, All-push}
-use Rattle.iloc_sched.proofs.Bounds.SharedMembers.{range-snoc}
+use Rattle.iloc_bound.proofs.SharedMembers.{range-snoc}
 
 module _ {S W : Type 0} (R : S → W → Type 0) where
   -- what holds of each routine tells of what it gave

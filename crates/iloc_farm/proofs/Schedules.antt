@@ -13,15 +13,15 @@ use Rattle.iloc_timed.specs.Latency.{latency}
 use Rattle.iloc_timed.specs.Cycles.{cycles}
 use Rattle.iloc_timed.specs.Schedule.{Table}
 use Rattle.iloc_timed.proofs.WholeRuns.{short_latency}
-use Rattle.iloc_sched.specs.declared.cycle.calendar.TheConstants.{LONGEST_DELAY}
-use Rattle.iloc_sched.specs.declared.ranking.heuristic.Heuristic.{Heuristic}
-use Rattle.iloc_sched.specs.Greedy.{IsGreedy, IsGreedyBy}
-use Rattle.iloc_sched.specs.Heuristics.{priorities_by}
-use Rattle.iloc_sched.specs.Priority.{priorities}
+use Rattle.iloc_rules.specs.declared.delay_pairs.TheConstants.{LONGEST_DELAY}
+use Rattle.iloc_rules.specs.declared.heuristic.Heuristic.{Heuristic}
+use Rattle.iloc_rules.specs.Greedy.{IsGreedy, IsGreedyBy}
+use Rattle.iloc_rules.specs.Heuristics.{priorities_by}
+use Rattle.iloc_rules.specs.Priority.{priorities}
 use Rattle.iloc_sched.proofs.Renamed.RenamingLoop.{renamed_fits}
-use Rattle.iloc_sched.proofs.Bounds.BusyCycles.{busy_bound_by}
-use Rattle.iloc_sched.proofs.Choice.OneGreedy.{greedy_same_as}
-use Rattle.iloc_sched.proofs.Outcome.LawfulOutcomes.{lawful_same_outcome}
+use Rattle.iloc_rules.proofs.Bounds.BusyCycles.{busy_bound_by}
+use Rattle.iloc_rules.proofs.Choice.OneGreedy.{greedy_same_as}
+use Rattle.iloc_rules.proofs.Outcome.LawfulOutcomes.{lawful_same_outcome}
 use Rattle.iloc_farm.specs.Listing.{cycles_of, total_cycles}
 use Rattle.iloc_farm.specs.Schedules.{AreGreedyAs, IsGreedyAs, IsScheduleOf, KeepOutcomes}
 use Rattle.iloc_farm.specs.Steps.Limits.{most_cycles}

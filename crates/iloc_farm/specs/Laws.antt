@@ -1,16 +1,21 @@
 -- What holds of listings as a whole.
-use Rattle.std.specs.Prelude.{◌≡◌, ℕ, ℤ, ◌<◌, ◌^◌, Bool, true, false, is_some, List, length, Option, Some, None, Result, IsTrue}
+use Rattle.std.specs.Prelude.{◌≡◌, ℕ, ℤ, ◌<◌, ◌≤◌, ◌^◌, Bool, true, false, is_some, List, length, Option, Some, None, Result, IsTrue}
 use Rattle.std.specs.List.{AllZip}
 use Rattle.std.specs.declared.io.Error.{Error}
 use Rattle.iloc_ops.specs.declared.file.Block.{Block}
+use Rattle.iloc_ops.specs.declared.op.Op.{Op}
 use Rattle.iloc_meaning.specs.Memory.{words_from}
 use Rattle.iloc_text.specs.Files.{AreWithinLimits, Denotes}
 use Rattle.iloc_text.specs.Streams.{ReadsText}
 use Rattle.iloc_timed.specs.declared.latencies.Latencies.{Latencies}
+use Rattle.iloc_timed.specs.declared.row.Row.{Row}
+use Rattle.iloc_timed.specs.Cycles.{cycles}
 use Rattle.iloc_timed.specs.Schedule.{Table}
-use Rattle.iloc_sched.specs.declared.ranking.heuristic.Heuristic.{Heuristic}
+use Rattle.iloc_rules.specs.Least.{least}
+use Rattle.iloc_rules.specs.declared.heuristic.Heuristic.{Heuristic}
 use Rattle.iloc_optimum.specs.Bound.{IsOptimal}
 use Rattle.iloc_rows.specs.declared.proposal.Proposed.{Proposed}
+use Rattle.iloc_validation.specs.ByTheBook.{IsByTheBook}
 use Rattle.iloc_judge.specs.Checked.{DoTheSame, MayPass}
 use Rattle.iloc_judge.specs.declared.task.CheckOptions.{CheckOptions}
 use Rattle.iloc_rows.specs.EitherSlot.{placed}
@@ -163,3 +168,8 @@ abbrev pub GreedySchedulesCanBeListed : Type 0
 GreedySchedulesCanBeListed = (heuristic : Heuristic) (lat : Latencies) (blocks : List Block) (schedules : List Table)
     → AreWithinLimits blocks → AreGreedyAs heuristic lat blocks schedules
     → (length schedules ≡ length blocks) × (total_cycles lat schedules < 2 ^ 63)
+
+-- rows by the book take no fewer cycles than a lawful schedule
+abbrev pub ByTheBookTakesTheLeast : Type 0
+ByTheBookTakesTheLeast = (lat : Latencies) (block ops : List Op) (rows : List Row)
+    → IsByTheBook lat block ops rows → least lat block ≤ cycles lat ops rows

@@ -7,9 +7,9 @@ use Rattle.iloc_meaning.specs.Outcome.{outcome}
 use Rattle.iloc_timed.specs.declared.latencies.Latencies.{Latencies}
 use Rattle.iloc_timed.specs.Schedule.{Table}
 use Rattle.iloc_timed.specs.Timed.{timed_outcome}
-use Rattle.iloc_sched.specs.declared.ranking.heuristic.Heuristic.{Heuristic}
-use Rattle.iloc_sched.specs.Greedy.{IsGreedyBy}
-use Rattle.iloc_sched.specs.Heuristics.{priorities_by}
+use Rattle.iloc_rules.specs.declared.heuristic.Heuristic.{Heuristic}
+use Rattle.iloc_rules.specs.Greedy.{IsGreedyBy}
+use Rattle.iloc_rules.specs.Heuristics.{priorities_by}
 use Rattle.iloc_farm.specs.Listing.{cycles_of}
 
 -- the schedule of the block is greedy by the priorities that this heuristic gives its operations

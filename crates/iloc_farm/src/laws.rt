@@ -1,6 +1,6 @@
-//! Laws of listings, as contracts of functions that do nothing.
+//! Laws of listings and of rows, as contracts of functions that do nothing.
 ghost use Rattle.iloc_farm.specs.Laws.{ChecksIgnoreWorkers, GreedySchedulesCanBeListed, HandInsDontChangeTheTask};
-ghost use Rattle.iloc_farm.specs.Laws.{CountedOptimaAreOptimal, ListedOptimaAreOptimal};
+ghost use Rattle.iloc_farm.specs.Laws.{ByTheBookTakesTheLeast, CountedOptimaAreOptimal, ListedOptimaAreOptimal};
 ghost use Rattle.iloc_farm.specs.Laws.{ListingsIgnoreWorkers, OptimaIgnoreWorkers};
 ghost use Rattle.iloc_farm.specs.Laws.{PassedChecksKeepOutcomes, PassedChecksMayPass};
 ghost use Rattle.iloc_farm.specs.Laws.{SimulatingListsRuns, Status0MeansTheSame};
@@ -78,4 +78,11 @@ pub fn hand_ins_dont_change_the_task()
 /// together are below 2^63.
 pub fn greedy_schedules_can_be_listed()
     ensures { GreedySchedulesCanBeListed }
+{}
+
+/// Rows by the book take no fewer cycles than `least` of the block.
+///
+/// Promise: no rows by the book take fewer cycles than the bound.
+pub fn by_the_book_takes_the_least()
+    ensures { ByTheBookTakesTheLeast }
 {}

@@ -4,12 +4,12 @@ use Rattle.std.specs.Prelude.{Contains}
 use Rattle.iloc_ops.specs.declared.op.Op.{Op}
 use Rattle.iloc_meaning.specs.Trace.{op_at}
 use Rattle.iloc_timed.specs.declared.latencies.Latencies.{Latencies}
-use Rattle.iloc_sched.specs.Delays.{delays}
-use Rattle.iloc_sched.specs.Priority.{priority}
-use Rattle.iloc_sched.proofs.Basics.Maxima.{fold_max_each}
-use Rattle.iloc_sched.proofs.Basics.Members.{in_from}
+use Rattle.iloc_rules.specs.Delays.{delays}
+use Rattle.iloc_rules.specs.Priority.{priority}
+use Rattle.iloc_rules.proofs.Basics.Maxima.{fold_max_each}
+use Rattle.iloc_rules.proofs.Basics.Members.{in_from}
 use Rattle.iloc_sched.proofs.KeptEdges.FarPairs.{near_or_by_way}
-use Rattle.iloc_sched.proofs.PriorityValues.Longest.{is_priority}
+use Rattle.iloc_rules.proofs.PriorityValues.Longest.{is_priority}
 use Rattle.iloc_explain.specs.Chain.{Continues, IsChainFrom, IsNext}
 use Rattle.iloc_graph.specs.Laws.{ChainsRunAlongNearestPairs, RunsAlong}
 use Rattle.iloc_graph.specs.Nearest.{longest_delay, nearest_pairs}

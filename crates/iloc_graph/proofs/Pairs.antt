@@ -1,14 +1,18 @@
 -- The nearest pairs, operation by operation.
-use Rattle.std.proofs.Common.{◌≡◌, ℕ, ◌+◌, ◌<◌, List, [], ◌∷◌, ◌++◌, length, map, get_or, take, append-nil, append_assoc, sym, ap, ◌∙◌, arith, add-one}
+use Rattle.std.proofs.Common.{◌≡◌, ℕ, zero, suc, ◌+◌, ◌<◌, List, [], ◌∷◌, ◌++◌, length, map, get_or, take, append-nil, append_assoc, sym, ap, ◌∙◌, arith, add-one}
 use Rattle.std.specs.List.{flat_map, range_with_len}
 use Rattle.std.proofs.lemmas.List.{map-append, take_more}
 use Rattle.std.proofs.lemmas.List.Concat.{flat_map-append}
 use Rattle.iloc_ops.specs.declared.op.Op.{Op}
 use Rattle.iloc_meaning.specs.Trace.{op_at}
 use Rattle.iloc_timed.specs.declared.latencies.Latencies.{Latencies}
-use Rattle.iloc_sched.specs.declared.edges.delay_pairs.Pair.{Pair}
-use Rattle.iloc_sched.proofs.Bounds.SharedMembers.{range-snoc}
+use Rattle.iloc_rules.specs.declared.delay_pairs.Pair.{Pair}
 use Rattle.iloc_graph.specs.Nearest.{longest_delay, nearest_to, pair_of, sources}
+
+-- one number more
+range_more : (a n : ℕ) → range_with_len a (suc n) ≡ range_with_len a n ++ (a + n) ∷ []
+range_more a zero = let same : a ≡ a + 0 = omega arith in ap (λ k. k ∷ []) same
+range_more a (suc n) = grind (arith, range_more (a + 1) n)
 
 -- the pairs to one more operation
 pub one_more : (lat : Latencies) (ops : List Op) (n : ℕ) (pairs more : List Pair) (found : List ℕ)
@@ -16,7 +20,7 @@ pub one_more : (lat : Latencies) (ops : List Op) (n : ℕ) (pairs more : List Pa
     → more ≡ pairs ++ map (pair_of lat ops n) found → more ≡ flat_map (nearest_to lat ops) (range_with_len 0 (n + 1))
 one_more lat ops n pairs more found so_far are added =
     let range : range_with_len 0 (n + 1) ≡ range_with_len 0 n ++ n ∷ [] =
-    ap (range_with_len 0) (add-one n) ∙ range-snoc 0 n ∙ ap (λ m. range_with_len 0 n ++ m ∷ []) (omega arith) in
+    ap (range_with_len 0) (add-one n) ∙ range_more 0 n ∙ ap (λ m. range_with_len 0 n ++ m ∷ []) (omega arith) in
     added ∙ (ap (λ ps. ps ++ map (pair_of lat ops n) found) so_far
     ∙ (ap (λ is. flat_map (nearest_to lat ops) (range_with_len 0 n) ++ map (pair_of lat ops n) is) are
     ∙ sym (ap (flat_map (nearest_to lat ops)) range

@@ -6,13 +6,13 @@ use Rattle.std.proofs.lemmas.List.Kept.{AllPairs-from_increasing}
 use Rattle.iloc_ops.specs.declared.op.Op.{Op}
 use Rattle.iloc_meaning.specs.Trace.{op_at}
 use Rattle.iloc_timed.specs.declared.latencies.Latencies.{Latencies}
-use Rattle.iloc_sched.specs.Delays.{delays}
+use Rattle.iloc_rules.specs.Delays.{delays}
 use Rattle.iloc_sched.specs.Graph.Near.{IsNearPair}
 use Rattle.iloc_sched.specs.declared.edges.Edge.{Edge}
-use Rattle.iloc_sched.specs.Steps.Members.{In}
-use Rattle.iloc_sched.proofs.Basics.Members.{contains_from, from_filter, from_map, from_range, in_at, in_filter, in_from, in_map, in_range_from}
-use Rattle.iloc_sched.proofs.Basics.Ordered.{ordered_filter}
-use Rattle.iloc_sched.proofs.Basics.Rising.{rises_range, rises_same}
+use Rattle.iloc_rules.specs.Steps.Members.{In}
+use Rattle.iloc_rules.proofs.Basics.Members.{contains_from, from_filter, from_map, from_range, in_at, in_filter, in_from, in_map, in_range_from}
+use Rattle.iloc_rules.proofs.Basics.Ordered.{ordered_filter}
+use Rattle.iloc_rules.proofs.Basics.Rising.{rises_range, rises_same}
 use Rattle.iloc_graph.specs.Nearest.{is_nearest, sources}
 use Rattle.iloc_graph.specs.Steps.InOrder.{IsInOrder}
 use Rattle.iloc_graph.proofs.Lists.{rises_from}

@@ -10,13 +10,13 @@ use Rattle.iloc_timed.specs.declared.row.Row.{Row}
 use Rattle.iloc_timed.specs.Kinds.{kind}
 use Rattle.iloc_timed.specs.Latency.{latency}
 use Rattle.iloc_timed.specs.Rows.{issue_cycle}
-use Rattle.iloc_sched.specs.declared.edges.delay_pairs.Pair.{Pair}
-use Rattle.iloc_sched.specs.Delays.{IsDelayPair, delays, keeps_order, memory_delays, reads_stored, uses_result, when}
-use Rattle.iloc_sched.specs.Steps.Members.{In}
+use Rattle.iloc_rules.specs.declared.delay_pairs.Pair.{Pair}
+use Rattle.iloc_rules.specs.Delays.{IsDelayPair, delays, keeps_order, memory_delays, reads_stored, uses_result, when}
+use Rattle.iloc_rules.specs.Steps.Members.{In}
 use Rattle.iloc_sched.specs.Graph.Near.{IsNear, takes_over}
-use Rattle.iloc_sched.proofs.Basics.Maxima.{fold_max_each, fold_max_reached}
-use Rattle.iloc_sched.proofs.Basics.Members.{any_at, contains_from, from_append, from_filter, from_map, from_range, in_filter, in_from, in_left, in_map, in_range_from, in_right}
-use Rattle.iloc_sched.proofs.DelayPairs.DelayBounds.{delay_at_least, from_when, in_when}
+use Rattle.iloc_rules.proofs.Basics.Maxima.{fold_max_each, fold_max_reached}
+use Rattle.iloc_rules.proofs.Basics.Members.{any_at, contains_from, from_append, from_filter, from_map, from_range, in_filter, in_from, in_left, in_map, in_range_from, in_right}
+use Rattle.iloc_rules.proofs.DelayPairs.DelayBounds.{delay_at_least, from_when, in_when}
 use Rattle.iloc_sched.proofs.KeptEdges.FarPairs.{near_or_by_way}
 use Rattle.iloc_graph.specs.Laws.{NearestPairsImplyAll, WaitsForNearest}
 use Rattle.iloc_graph.specs.Nearest.{is_nearest, is_ordered, is_taken_over, longest_delay, nearest_pairs, nearest_to, pair_of, sources}

@@ -4,8 +4,8 @@ use Rattle.iloc_ops.specs.declared.op.Op.{Op}
 use Rattle.iloc_timed.specs.declared.latencies.Latencies.{Latencies}
 use Rattle.iloc_timed.specs.declared.row.Row.{Row}
 use Rattle.iloc_timed.specs.Rows.{issue_cycle}
-use Rattle.iloc_sched.specs.Delays.{IsDelayPair}
-use Rattle.iloc_sched.specs.Priority.{priority}
+use Rattle.iloc_rules.specs.Delays.{IsDelayPair}
+use Rattle.iloc_rules.specs.Priority.{priority}
 use Rattle.iloc_explain.specs.Chain.{IsLongestChain}
 use Rattle.iloc_graph.specs.Nearest.{nearest_pairs}
 use Rattle.iloc_graph.specs.Listing.{IsCluster}

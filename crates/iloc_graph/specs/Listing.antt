@@ -8,9 +8,9 @@ use Rattle.iloc_timed.specs.declared.kind.Kind.{Kind}
 use Rattle.iloc_timed.specs.declared.kind.Kind.TheVariants as K
 use Rattle.iloc_timed.specs.declared.latencies.Latencies.{Latencies}
 use Rattle.iloc_timed.specs.Kinds.{kind}
-use Rattle.iloc_sched.specs.declared.edges.delay_pairs.Pair.{Pair}
-use Rattle.iloc_sched.specs.Priority.{priorities}
-use Rattle.iloc_sched.specs.Renaming.{renamed, without_nops}
+use Rattle.iloc_rules.specs.declared.delay_pairs.Pair.{Pair}
+use Rattle.iloc_rules.specs.Priority.{priorities}
+use Rattle.iloc_rules.specs.Renaming.{renamed, without_nops}
 use Rattle.iloc_explain.specs.Chain.{IsLongestChain}
 use Rattle.iloc_graph.specs.Nearest.{nearest_pairs}
 

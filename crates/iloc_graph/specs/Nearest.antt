@@ -5,8 +5,8 @@ use Rattle.iloc_ops.specs.declared.op.Op.{Op}
 use Rattle.iloc_meaning.specs.Trace.{op_at}
 use Rattle.iloc_timed.specs.declared.latencies.Latencies.{Latencies}
 use Rattle.iloc_timed.specs.Kinds.{kind}
-use Rattle.iloc_sched.specs.declared.edges.delay_pairs.Pair.{Pair}
-use Rattle.iloc_sched.specs.Delays.{uses_result, reads_stored, keeps_order, delays}
+use Rattle.iloc_rules.specs.declared.delay_pairs.Pair.{Pair}
+use Rattle.iloc_rules.specs.Delays.{uses_result, reads_stored, keeps_order, delays}
 use Rattle.iloc_sched.specs.Graph.Near.{takes_over}
 
 -- whether an operation between i and j takes the place of i

@@ -3,14 +3,15 @@ ghost use Rattle.std.specs.Prelude.{◌≡◌, ◌++◌, List, ℕ, length, OnOk
 ghost use Rattle.std.specs.Fmt.{decimal};
 ghost use Rattle.std.specs.List.{flat_map};
 ghost use Rattle.std.specs.Option.{option_copied};
-ghost use Rattle.iloc_sched.specs.Renaming.{renamed, without_nops};
+ghost use Rattle.iloc_rules.specs.Renaming.{renamed, without_nops};
 ghost use Rattle.iloc_graph.specs.Listing as listed;
 ghost use Rattle.iloc_graph.specs.Listing.{IsCluster};
 
 use crate::nearest::nearest_pairs;
 use iloc_explain::longest_chain;
 use iloc_ops::{Block, Name, NoMemory, Op, push_number, push_op};
-use iloc_sched::{Graph, Pair};
+use iloc_rules::Pair;
+use iloc_sched::Graph;
 use iloc_timed::Kind;
 use std::alloc::Global;
 

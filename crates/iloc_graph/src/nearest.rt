@@ -4,7 +4,8 @@ ghost use Rattle.iloc_graph.specs.Nearest as near;
 ghost use Rattle.iloc_graph.specs.Nearest.{pair_of};
 
 use iloc_ops::{NoMemory, Op};
-use iloc_sched::{Graph, Pair, delays};
+use iloc_rules::{Pair, delays};
+use iloc_sched::Graph;
 use iloc_timed::Latencies;
 use std::alloc::Global;
 

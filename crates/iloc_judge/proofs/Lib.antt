@@ -1,5 +1,3 @@
-pub mod Terms
-pub mod Runs
 pub mod Places
 pub mod OwnRows
 pub mod Sameness

@@ -6,7 +6,7 @@ use Rattle.iloc_timed.specs.declared.row.Row.{Row}
 use Rattle.iloc_timed.specs.Rows.{IsTable}
 use Rattle.iloc_timed.specs.Schedule.{AreInRange, AreOnce, IsFirstBadRow}
 use Rattle.iloc_timed.proofs.Standing.{numbered_from}
-use Rattle.iloc_sched.specs.Lawful.{IsLawful}
+use Rattle.iloc_rules.specs.Lawful.{IsLawful}
 use Rattle.iloc_validation.specs.ByTheBook.{IsByTheBook, IssueTheSame}
 use Rattle.iloc_validation.proofs.SameIssues.{own_by_the_book}
 

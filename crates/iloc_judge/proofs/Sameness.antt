@@ -14,7 +14,7 @@ use Rattle.iloc_validation.specs.ByTheBook.{IsByTheBook}
 use Rattle.iloc_validation.proofs.Outcomes.{keeps_the_outcome}
 use Rattle.iloc_judge.specs.declared.verdict.comparison.Comparison.{Comparison}
 use Rattle.iloc_judge.specs.Verdict.Comparison.{AgreesOnAll, IsComparison}
-use Rattle.iloc_judge.specs.Verdict.Difference.{AreAlike}
+use Rattle.iloc_terms.specs.Agreement.{AreAlike}
 use Rattle.iloc_judge.specs.declared.verdict.Verdict.{Verdict}
 use Rattle.iloc_judge.specs.declared.verdict.kind.VerdictKind.{VerdictKind}
 use Rattle.iloc_judge.specs.Verdict.Void.{CanBeJudged}
@@ -29,7 +29,7 @@ use Rattle.std.proofs.Math.Seq.{take-length}
 use Rattle.std.proofs.lemmas.List.FromFn.{length-range_with_len, get_or-range_with_len}
 use Rattle.iloc_meaning.specs.Trace.{op_at}
 use Rattle.iloc_meaning.proofs.Cases.{by_bool}
-use Rattle.iloc_sched.specs.Renaming.{without_nops}
+use Rattle.iloc_rules.specs.Renaming.{without_nops}
 use Rattle.iloc_validation.specs.Counts.{are_alike, count_like, lacks_counterpart, lacking}
 use Rattle.iloc_validation.proofs.AlikeOps.{count_same}
 use Rattle.iloc_validation.proofs.CountsLike.{counted, one_more, no_more}

@@ -7,8 +7,8 @@ use Rattle.iloc_timed.specs.Cycles.{cycles}
 use Rattle.iloc_timed.specs.Rows.{IsTable}
 use Rattle.iloc_timed.specs.Schedule.{Table}
 use Rattle.iloc_rows.specs.declared.proposal.Proposed.{Proposed}
-use Rattle.iloc_sched.specs.LowerBound.Least.{least}
-use Rattle.iloc_optimum.specs.declared.optimizer.Sought.{Sought}
+use Rattle.iloc_rules.specs.Least.{least}
+use Rattle.iloc_rules.specs.declared.sought.Sought.{Sought}
 use Rattle.iloc_validation.specs.ByTheBook.{IsByTheBook, IssueTheSame}
 use Rattle.iloc_judge.specs.declared.verdict.comparison.Comparison.{Comparison}
 use Rattle.iloc_judge.specs.declared.verdict.comparison.Comparison.TheVariants as of

@@ -1,7 +1,7 @@
 -- Rows that keep the operations of their block.
 use Rattle.std.specs.Prelude.{◌≡◌, ◌==◌, ◌&&◌, Bool, true, false, List}
 use Rattle.iloc_ops.specs.declared.op.Op.{Op}
-use Rattle.iloc_sched.specs.Renaming.{without_nops}
+use Rattle.iloc_rules.specs.Renaming.{without_nops}
 use Rattle.iloc_validation.specs.Counts.{count_like, lacking}
 
 -- whether nothing is left out and nothing added: each operation of the block, `nop`s left out, has a counterpart among these, and

@@ -3,7 +3,6 @@ pub mod Unread
 pub mod Laws
 pub mod Entry
 pub mod Kept
-pub mod RowsExplained
 pub mod UnitRule
 pub mod Verdict
 pub mod Steps

@@ -1,9 +1,4 @@
 -- What the code does piece by piece, as steps of proof: no contract of a public function names them.
-pub mod Terms
-pub mod Symbols
-pub mod Tracking
-pub mod Agreement
-pub mod Order
 pub mod Difference
 pub mod Refuting
 pub mod Counted

@@ -5,7 +5,7 @@ use Rattle.iloc_timed.specs.declared.latencies.Latencies.{Latencies}
 use Rattle.iloc_timed.specs.declared.row.Row.{Row}
 use Rattle.iloc_timed.specs.Rows.{IsTable}
 use Rattle.iloc_timed.specs.Schedule.{IsFirstBadRow}
-use Rattle.iloc_sched.specs.Renaming.{without_nops}
+use Rattle.iloc_rules.specs.Renaming.{without_nops}
 use Rattle.iloc_validation.specs.ByTheBook.{IsByTheBook}
 use Rattle.iloc_reasons.specs.Reasons.{AreReasons}
 use Rattle.iloc_judge.specs.declared.verdict.Verdict.{Verdict}

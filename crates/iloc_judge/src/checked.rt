@@ -20,8 +20,8 @@ use crate::verdict::kind::VerdictKind;
 use crate::verdict::{Verdict, judge};
 use detail::push_detail;
 use iloc_ops::{NoMemory, Op};
-use iloc_optimum::Sought;
 use iloc_rows::Proposal;
+use iloc_rules::Sought;
 use iloc_timed::{Row, cycles, cycles_of};
 use kept::keeps_operations;
 use std::alloc::Global;
@@ -91,18 +91,18 @@ pub(crate) fn found(
     proposal: &Proposal,
     kind: VerdictKind,
     keeps_operations: bool,
-) -> Result<Checked, NoMemory>
-    ensures { IfOk result (λ checked. checked ≡ found kind keeps_operations task.now.sought
-        task.now.latencies.now task.now.block.now.ops task.now.ours.now proposal.now) }
+) -> Checked
+    ensures { result ≡ found kind keeps_operations task.now.sought task.now.latencies.now task.now.block.now.ops
+        task.now.ours.now proposal.now }
 {
-    Ok(Checked {
+    Checked {
         kind,
         keeps_operations,
         cycles: cycles_of(proposal.ops(), proposal.rows(), task.latencies),
         ours: cycles(task.ours, task.latencies),
         sought: task.sought,
-        least: task.graph.least()?,
-    })
+        least: task.least,
+    }
 }
 
 /// Appends a line with this verdict on operations and rows, and what is said below it.
@@ -162,7 +162,7 @@ fn push_units(
         × (text.new.items ≡ text.old.items ++ entry)) }
 {
     let (ops, rows) = (proposal.ops(), proposal.rows());
-    let checked = found(task, proposal, VerdictKind::Units, keeps_operations)?;
+    let checked = found(task, proposal, VerdictKind::Units, keeps_operations);
     let verdict = Verdict::Units(row);
     push_entry(
         text,
@@ -204,7 +204,7 @@ pub fn push_check(
         return push_units(text, judging, task, &proposal, keeps_operations, row);
     }
     let claimed = proposal.claimed();
-    let found = found(task, &proposal, VerdictKind::Lawful, keeps_operations)?;
+    let found = found(task, &proposal, VerdictKind::Lawful, keeps_operations);
     let theirs = proposal.into_schedule();
     let (ops, rows) = (theirs.ops(), theirs.rows());
     let verdict = judge(alloc, judging, task, &theirs)?;

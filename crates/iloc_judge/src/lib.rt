@@ -3,20 +3,16 @@
 #![tactic(auto)]
 
 mod checked;
-mod explained;
 mod json;
-mod judgement;
 pub mod laws;
 mod refutation;
-mod symbols;
-mod table;
 mod task;
 mod unread;
 mod verdict;
 
 pub use checked::detail::push_bad_row;
+pub use checked::reason::push_reasons;
 pub use checked::{Checked, push_check};
-pub use explained::{ExplainedRows, push_rows_explanation};
 pub use json::value::push_quoted;
 pub use refutation::probe::Probe;
 pub use task::{CheckOptions, Form, Judging, Task};

@@ -22,7 +22,7 @@ use shortening::shortened;
 use std::alloc::Global;
 
 /// A made-up memory on which a schedule's outcome differs from a block's, and where.
-#[derive(Debug, Drop)]
+#[derive(Drop)]
 pub(crate) struct Refutation {
     pub(crate) probe: Probe,
     pub(crate) difference: Difference,

@@ -1,13 +1,12 @@
 //! What proposals are judged beside, and how.
 ghost use Rattle.std.specs.Prelude.{◌≡◌, ◌≤◌, length};
 ghost use Rattle.iloc_ops.specs.Limits.{MAX_OPS};
-ghost use Rattle.iloc_sched.specs.Graph.GraphOf.{of_block};
-ghost use Rattle.iloc_sched.specs.Lawful.{IsLawful};
+ghost use Rattle.iloc_rules.specs.Lawful.{IsLawful};
+ghost use Rattle.iloc_rules.specs.Least as bound;
 
 use iloc_meaning::Memory;
 use iloc_ops::Block;
-use iloc_optimum::Sought;
-use iloc_sched::Graph;
+use iloc_rules::Sought;
 use iloc_timed::{Latencies, Schedule};
 
 /// A block that somebody proposes rows for, and what we know of it.
@@ -15,17 +14,17 @@ use iloc_timed::{Latencies, Schedule};
 pub struct Task<'a> {
     /// The block, of 10,000 operations at most.
     pub block: &'a Block,
-    /// Its graph.
-    pub graph: &'a Graph,
     /// Our schedule of it.
     pub ours: &'a Schedule,
     /// What a search finds of the cycles it takes, if there is one.
     pub sought: Option<Sought>,
+    /// No lawful schedule of the block takes fewer cycles.
+    pub least: u64,
     /// The latencies of the machine.
     pub latencies: &'a Latencies,
     pub ghost few: { length block.now.ops ≤ MAX_OPS },
     pub ghost lawful: { IsLawful latencies.now block.now.ops ours.now.ops ours.now.rows },
-    pub ghost drawn: { graph.now ≡ of_block latencies.now block.now.ops },
+    pub ghost is_least: { least ≡ bound.least latencies.now block.now.ops },
 }
 
 /// The form of a listing.

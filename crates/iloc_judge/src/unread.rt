@@ -103,7 +103,7 @@ pub fn push_unread(
         × IsUnread form task.now.latencies.now task.now.block.now.ops task.now.ours.now proposal.now checked entry
         × (text.new.items ≡ text.old.items ++ entry)) }
 {
-    let checked = found(task, proposal, VerdictKind::Unread, false)?;
+    let checked = found(task, proposal, VerdictKind::Unread, false);
     let words = row_wording(alloc, unread.text.as_bytes())?;
     push_unread_as(text, form, checked, proposal.claimed(), unread, &words)?;
     Ok(checked)

@@ -1,7 +1,7 @@
 //! Prints a bound for each block: no lawful schedule takes fewer cycles.
 #![tactic(auto)]
 
-use iloc_sched::least;
+use iloc_bound::least;
 use iloc_text::read_file_from;
 use iloc_timed::Latencies;
 use std::process::ExitCode;

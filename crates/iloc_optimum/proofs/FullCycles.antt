@@ -5,14 +5,14 @@ use Rattle.std.specs.List.{range_with_len}
 use Rattle.std.proofs.lemmas.Bool.{and_parts, cases_lt, and_from}
 use Rattle.std.proofs.lemmas.Bool.Decides.{nat_tests}
 use Rattle.iloc_timed.specs.declared.kind.Kind.{Kind}
-use Rattle.iloc_sched.specs.declared.lower_bound.share.Share.{Share}
+use Rattle.iloc_bound.specs.declared.share.Share.{Share}
 use Rattle.iloc_optimum.specs.Timing.{Within, Crowd, between, belongs}
 use Rattle.iloc_optimum.specs.Steps.Inside.{is_inside, count_inside}
-use Rattle.iloc_sched.specs.LowerBound.Shares.{width}
+use Rattle.iloc_bound.specs.Shares.{width}
 use Rattle.iloc_sched.proofs.Basics.CountedRanges.{count_range}
-use Rattle.iloc_sched.proofs.Basics.Members.{from_range}
-use Rattle.iloc_sched.proofs.Basics.Slots.{count_by-cons}
-use Rattle.iloc_sched.proofs.Bounds.Counting.{at_least, count-mono}
+use Rattle.iloc_rules.proofs.Basics.Members.{from_range}
+use Rattle.iloc_rules.proofs.Basics.Slots.{count_by-cons}
+use Rattle.iloc_bound.proofs.Counting.{at_least, count-mono}
 
 pub is_less : (q p : ℕ) → nat_lt q p ≡ true → q < p
 is_less q p h = grind (arith, nat_tests)

@@ -9,22 +9,22 @@ use Rattle.iloc_timed.specs.Kinds.{kind}
 use Rattle.iloc_timed.specs.Schedule.{Table}
 use Rattle.iloc_timed.proofs.WholeRuns.{short_latency}
 use Rattle.std.proofs.lemmas.List.{take_all, take_more}
-use Rattle.iloc_sched.specs.declared.cycle.calendar.TheConstants.{LONGEST_DELAY}
+use Rattle.iloc_rules.specs.declared.delay_pairs.TheConstants.{LONGEST_DELAY}
 use Rattle.iloc_sched.specs.declared.edges.Edge.{Edge}
-use Rattle.iloc_sched.specs.declared.ranking.heuristic.Heuristic.{Heuristic}
-use Rattle.iloc_sched.specs.Heuristics.{priorities_by}
-use Rattle.iloc_sched.specs.Heuristics.Listed.{heuristics}
-use Rattle.iloc_sched.specs.Lawful.{IsLawful}
-use Rattle.iloc_sched.specs.LowerBound.Least.{least}
-use Rattle.iloc_sched.specs.Renaming.{renamed}
+use Rattle.iloc_rules.specs.declared.heuristic.Heuristic.{Heuristic}
+use Rattle.iloc_rules.specs.Heuristics.{priorities_by}
+use Rattle.iloc_rules.specs.Heuristics.Listed.{heuristics}
+use Rattle.iloc_rules.specs.Lawful.{IsLawful}
+use Rattle.iloc_rules.specs.Least.{least}
+use Rattle.iloc_rules.specs.Renaming.{renamed}
 use Rattle.iloc_sched.specs.Scheduled.{IsTheSchedule}
-use Rattle.iloc_sched.proofs.Basics.IssueCycles.{issue_cycle_within}
-use Rattle.iloc_sched.proofs.Basics.Maxima.{fold_max_reached}
-use Rattle.iloc_sched.specs.Steps.Members.{In}
-use Rattle.iloc_sched.proofs.Basics.Members.{from_append, from_map}
-use Rattle.iloc_sched.proofs.PriorityValues.Named.{listed}
-use Rattle.iloc_sched.proofs.Bounds.LeastBound.{least_bound}
-use Rattle.iloc_sched.proofs.Outcome.LawfulOutcomes.{lawful_same_outcome}
+use Rattle.iloc_rules.proofs.Basics.IssueCycles.{issue_cycle_within}
+use Rattle.iloc_rules.proofs.Basics.Maxima.{fold_max_reached}
+use Rattle.iloc_rules.specs.Steps.Members.{In}
+use Rattle.iloc_rules.proofs.Basics.Members.{from_append, from_map}
+use Rattle.iloc_rules.proofs.PriorityValues.Named.{listed}
+use Rattle.iloc_bound.proofs.LeastBound.{least_bound}
+use Rattle.iloc_rules.proofs.Outcome.LawfulOutcomes.{lawful_same_outcome}
 use Rattle.iloc_optimum.specs.declared.optimizer.Optimum.{Optimum}
 use Rattle.iloc_optimum.specs.declared.windows.Windows.{Windows}
 use Rattle.iloc_optimum.specs.Bound.{IsBound}

@@ -15,16 +15,16 @@ use Rattle.iloc_timed.specs.declared.row.Row.{Row}
 use Rattle.iloc_timed.specs.Cycles.{cycles}
 use Rattle.iloc_timed.specs.Kinds.{kind, is_load}
 use Rattle.iloc_timed.specs.Rows.{issue_cycle}
-use Rattle.iloc_sched.specs.declared.lower_bound.share.Share.{Share}
-use Rattle.iloc_sched.specs.Delays.{IsDelayPair}
-use Rattle.iloc_sched.specs.Lawful.{IsLawful}
-use Rattle.iloc_sched.specs.LowerBound.Least.{tails, tail}
-use Rattle.iloc_sched.specs.Renaming.{renamed}
-use Rattle.iloc_sched.specs.LowerBound.Shares.{shares, width}
+use Rattle.iloc_bound.specs.declared.share.Share.{Share}
+use Rattle.iloc_rules.specs.Delays.{IsDelayPair}
+use Rattle.iloc_rules.specs.Lawful.{IsLawful}
+use Rattle.iloc_rules.specs.Least.{tails, tail}
+use Rattle.iloc_rules.specs.Renaming.{renamed}
+use Rattle.iloc_bound.specs.Shares.{shares, width}
 use Rattle.iloc_timed.proofs.Arrivals.{arrival_le_cycles}
-use Rattle.iloc_sched.proofs.Bounds.RowsHold.{Holds, holds_memory, holds_products, holds_outputs, holds_all, holds_loads}
-use Rattle.iloc_sched.proofs.Bounds.TailBound.{Fits, crowd_of, tail_within}
-use Rattle.iloc_sched.proofs.PriorityValues.Tails.{length-tails}
+use Rattle.iloc_bound.proofs.RowsHold.{Holds, holds_memory, holds_products, holds_outputs, holds_all, holds_loads}
+use Rattle.iloc_bound.proofs.TailBound.{Fits, crowd_of, tail_within}
+use Rattle.iloc_bound.proofs.TailParts.{length-tails}
 use Rattle.iloc_sched.specs.declared.edges.Edge.{Edge}
 use Rattle.iloc_optimum.specs.declared.windows.Windows.{Windows}
 use Rattle.iloc_optimum.specs.Laws.{AreDelayPairs, LawfulSchedulesAreTimings, NothingLeftRaisesTheBound, ReachedBoundsAreOptimal}

@@ -4,7 +4,7 @@ use Rattle.iloc_ops.specs.declared.op.Op.{Op}
 use Rattle.iloc_timed.specs.declared.latencies.Latencies.{Latencies}
 use Rattle.iloc_timed.specs.declared.row.Row.{Row}
 use Rattle.iloc_timed.specs.Cycles.{cycles}
-use Rattle.iloc_sched.specs.Lawful.{IsLawful}
+use Rattle.iloc_rules.specs.Lawful.{IsLawful}
 
 -- no lawful schedule of the block takes fewer cycles
 abbrev pub IsBound : Latencies → List Op → ℕ → Type 0

@@ -7,10 +7,10 @@ use Rattle.iloc_timed.specs.declared.row.Row.{Row}
 use Rattle.iloc_timed.specs.Cycles.{cycles}
 use Rattle.iloc_timed.specs.Kinds.{kind}
 use Rattle.iloc_timed.specs.Rows.{issue_cycle}
-use Rattle.iloc_sched.specs.Delays.{IsDelayPair}
-use Rattle.iloc_sched.specs.Lawful.{IsLawful}
-use Rattle.iloc_sched.specs.LowerBound.Least.{tails}
-use Rattle.iloc_sched.specs.Renaming.{renamed}
+use Rattle.iloc_rules.specs.Delays.{IsDelayPair}
+use Rattle.iloc_rules.specs.Lawful.{IsLawful}
+use Rattle.iloc_rules.specs.Least.{tails}
+use Rattle.iloc_rules.specs.Renaming.{renamed}
 use Rattle.iloc_sched.specs.declared.edges.Edge.{Edge}
 use Rattle.iloc_optimum.specs.Bound.{IsBound, IsOptimal}
 use Rattle.iloc_optimum.specs.declared.windows.Windows.{Windows}

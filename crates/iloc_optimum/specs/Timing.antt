@@ -4,8 +4,8 @@ use Rattle.std.specs.List.{All, range_with_len}
 use Rattle.iloc_ops.specs.Limits.{MAX_OPS}
 use Rattle.iloc_timed.specs.declared.kind.Kind.{Kind}
 use Rattle.iloc_timed.specs.declared.kind.Kind.TheVariants.{Other}
-use Rattle.iloc_sched.specs.LowerBound.Shares.{shares, width}
-use Rattle.iloc_sched.specs.declared.lower_bound.share.Share.{Share}
+use Rattle.iloc_bound.specs.Shares.{shares, width}
+use Rattle.iloc_bound.specs.declared.share.Share.{Share}
 use Rattle.iloc_sched.specs.declared.edges.Edge.{Edge}
 use Rattle.iloc_optimum.specs.declared.windows.Windows.{Windows}
 

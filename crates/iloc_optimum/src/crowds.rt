@@ -1,12 +1,12 @@
 //! What is left of windows where other operations of a share fill cycles.
 ghost use Rattle.std.specs.Prelude.{ℕ, ◌≡◌, ◌+◌, ◌-◌, ◌*◌, ◌<◌, ◌≤◌, ◌&&◌, ◌⊎◌, nat_le, length, IsTrue};
-ghost use Rattle.iloc_sched.specs.LowerBound.Shares.{width};
+ghost use Rattle.iloc_bound.specs.Shares.{width};
 ghost use Rattle.iloc_optimum.specs.Timing.{Within, FitsShares, belongs};
 ghost use Rattle.iloc_optimum.specs.Steps.Inside.{count_inside};
 
 use crate::proposal::Span;
+use iloc_bound::Share;
 use iloc_ops::MAX_OPS;
-use iloc_sched::Share;
 use iloc_timed::Kind;
 
 /// Whether operation i belongs to the share.

@@ -7,8 +7,9 @@ use crate::nests::has_overfull;
 use crate::proposal::Proposer;
 use crate::waits::wait;
 use crate::windows::{Windows, has_empty};
+use iloc_bound::Share;
 use iloc_ops::{MAX_OPS, NoMemory};
-use iloc_sched::{Edge, Share};
+use iloc_sched::Edge;
 use iloc_timed::Kind;
 
 /// The operations that share slots.

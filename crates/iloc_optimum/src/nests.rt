@@ -3,17 +3,17 @@
 //! Loads and stores go on one unit alone, and so do products. Where more operations of such a share have their windows
 //! within the outer cycles than the rows around the inner ones can hold, they take slots of the inner ones from all others.
 ghost use Rattle.std.specs.Prelude.{ℕ, ◌≡◌, ◌≤◌, ◌*◌, ◌^◌, length, IsTrue};
-ghost use Rattle.iloc_sched.specs.LowerBound.Shares.{width};
+ghost use Rattle.iloc_bound.specs.Shares.{width};
 ghost use Rattle.iloc_optimum.specs.Timing.{Within, FitsShares};
 
 use crate::crowds::count_inside;
 use crate::proposal::Span;
+use iloc_bound::Share;
 use iloc_ops::MAX_OPS;
-use iloc_sched::Share;
 use iloc_timed::Kind;
 
 /// Outer cycles for operations of a share, and inner ones for all others.
-#[derive(Clone, Copy, Debug)]
+#[derive(Clone, Copy)]
 pub(crate) struct Nest {
     pub share: Share,
     pub outer: Span,

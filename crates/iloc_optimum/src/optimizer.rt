@@ -1,23 +1,22 @@
 //! The best schedule of a block.
 ghost use Rattle.std.specs.Prelude.{◌≡◌, ◌≤◌, ◌<◌, ◌+◌, ◌-◌, ◌^◌, ◌⊎◌, length, map, replicate, IfOk, OnOk};
-ghost use Rattle.iloc_sched.specs.LowerBound.Least.{tails};
-ghost use Rattle.iloc_sched.specs.Renaming.{renamed};
+ghost use Rattle.iloc_rules.specs.Least.{tails};
+ghost use Rattle.iloc_rules.specs.Renaming.{renamed};
 ghost use Rattle.iloc_optimum.specs.Optimum.{IsOptimumOf, IsSought, cycles_of};
 ghost use Rattle.iloc_optimum.specs.Steps.Improving.{IsShortened};
 
 use crate::search::{Found, search_windows};
 use crate::windows::Windows;
+use iloc_bound::{fill_tails, least_of};
 use iloc_ops::{Block, NoMemory};
-use iloc_sched::{Graph, HEURISTICS, Heuristic, Scheduler};
+use iloc_rules::{HEURISTICS, Heuristic, MOST_NODES, Sought};
+use iloc_sched::{Graph, Scheduler};
 use iloc_timed::{Latencies, MAX_ROWS, Schedule, cycles};
 use std::alloc::Global;
 use std::mem;
 
 /// Blocks with more operations aren't searched: a node of 500 operations takes some 0.4 ms.
 pub const MOST_SEARCHED: usize = 300;
-
-/// More nodes count as so many, with which a search takes at most some 250 MB.
-pub const MOST_NODES: u32 = 100_000;
 
 /// The best schedule that was found for a block.
 #[derive(Debug, Drop)]
@@ -72,6 +71,7 @@ fn try_order(
 
 /// The shortest of the schedules that are greedy by a heuristic, with `least` for the bound.
 fn best_of_orders(
+    alloc: Global,
     scheduler: &mut Scheduler,
     block: &Block,
     graph: &Graph,
@@ -79,7 +79,7 @@ fn best_of_orders(
     requires { graph.now.ops ≡ renamed block.now.ops }
     ensures { IfOk result (IsOptimumOf graph.now.latencies block.now.ops) }
 {
-    let least = graph.least()?;
+    let least = least_of(alloc, graph)?;
     let mut best = scheduler.lend_as(graph, Heuristic::Chain)?;
     for heuristic in &HEURISTICS[1..] {
         try_order(scheduler, block, graph, &mut best, *heuristic)?;
@@ -110,7 +110,7 @@ fn windows_within(alloc: Global, graph: &Graph, limit: u32) -> Result<Windows, N
     let mut firsts = Vec::new(alloc);
     firsts.resize(graph.ops().len(), 0)?;
     let mut tails = Vec::new(alloc);
-    graph.tails(&mut tails)?;
+    fill_tails(alloc, &mut tails, graph)?;
     let lasts = rests_of(alloc, &tails, limit)?;
     Ok(Windows { firsts, lasts })
 }
@@ -179,15 +179,6 @@ fn search_upwards(
     Ok(())
 }
 
-/// What is found of how many cycles a block takes.
-#[derive(Clone, Copy, Debug, Drop, PartialEq, Eq)]
-pub struct Sought {
-    /// How many the best schedule takes that was found.
-    pub best: u32,
-    /// No lawful schedule of the block takes fewer.
-    pub bound: u32,
-}
-
 /// Finds the best schedules of blocks, one after another.
 #[derive(Drop)]
 pub struct Optimizer {
@@ -210,7 +201,7 @@ impl Optimizer {
     /// After a refusal the next block is scheduled as after any other.
     ///
     /// Promise: The schedule is lawful, with the block's outcome on every memory, and takes at most as many cycles as each
-    /// greedy one. No lawful schedule takes fewer cycles than the bound, which is at least that of `iloc_sched::least`.
+    /// greedy one. No lawful schedule takes fewer cycles than the bound, which is at least that of `iloc_bound::least`.
     pub fn optimize(
         &mut self,
         block: &Block,
@@ -220,7 +211,7 @@ impl Optimizer {
         requires { graph.now.ops ≡ renamed block.now.ops }
         ensures { IfOk result (IsOptimumOf graph.now.latencies block.now.ops) }
     {
-        let mut optimum = best_of_orders(&mut self.scheduler, block, graph)?;
+        let mut optimum = best_of_orders(self.alloc, &mut self.scheduler, block, graph)?;
         search_upwards(
             self.alloc,
             &mut self.scheduler,

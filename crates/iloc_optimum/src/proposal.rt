@@ -6,13 +6,13 @@ pub(crate) mod spans;
 
 use crate::proposal::nests::NestProposer;
 use crate::proposal::spans::SpanProposer;
+use iloc_bound::Share;
 use iloc_ops::NoMemory;
-use iloc_sched::Share;
 use iloc_timed::Kind;
 use std::alloc::Global;
 
 /// The cycles from the first to the last.
-#[derive(Clone, Copy, Debug)]
+#[derive(Clone, Copy)]
 pub(crate) struct Span {
     pub from: u32,
     pub to: u32,
@@ -36,7 +36,7 @@ impl Proposer {
 }
 
 /// The window of an operation of this kind.
-#[derive(Clone, Copy, Debug)]
+#[derive(Clone, Copy)]
 struct Window {
     from: u32,
     to: u32,

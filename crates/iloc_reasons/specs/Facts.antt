@@ -9,7 +9,7 @@ use Rattle.iloc_timed.specs.declared.latencies.Latencies.{Latencies}
 use Rattle.iloc_timed.specs.declared.row.Row.{Row}
 use Rattle.iloc_timed.specs.Kinds.{kind}
 use Rattle.iloc_timed.specs.Rows.{issue_cycle}
-use Rattle.iloc_sched.specs.Delays.{keeps_order}
+use Rattle.iloc_rules.specs.Delays.{keeps_order}
 use Rattle.iloc_validation.specs.declared.lawfulness.Issue.{Issue}
 use Rattle.iloc_validation.specs.ByTheBook.{due, given, label, read}
 use Rattle.iloc_validation.specs.Lawfulness.{issue_of}

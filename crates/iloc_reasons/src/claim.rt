@@ -2,7 +2,7 @@
 ghost use Rattle.std.specs.Prelude.{◌≡◌, ◌<◌, ◌⊎◌, true, Some, IfSome, slice_get};
 ghost use Rattle.iloc_ops.specs.Registers.{used};
 ghost use Rattle.iloc_timed.specs.declared.kind.Kind.TheVariants as kinds;
-ghost use Rattle.iloc_sched.specs.Delays.{keeps_order};
+ghost use Rattle.iloc_rules.specs.Delays.{keeps_order};
 ghost use Rattle.iloc_reasons.specs.Facts.{IsFact, HasBeenThere};
 ghost use Rattle.iloc_reasons.specs.Steps.Likeness.{TellApart};
 ghost use Rattle.iloc_reasons.specs.Steps.Sides.{AreNoted, AreRead, source_at};
@@ -17,14 +17,14 @@ use iloc_validation::{Issue, Sources, have_one_label};
 use std::collections::BTreeMap;
 
 /// What may be a fact of operation k of rows.
-#[derive(Clone, Copy, Debug, PartialEq, Eq)]
+#[derive(Clone, Copy, PartialEq, Eq)]
 pub(crate) struct Claim {
     pub k: usize,
     pub what: What,
 }
 
 /// What may be said of an operation.
-#[derive(Clone, Copy, Debug, PartialEq, Eq)]
+#[derive(Clone, Copy, PartialEq, Eq)]
 pub(crate) enum What {
     /// It is issued while this store is under way.
     While { store: usize },

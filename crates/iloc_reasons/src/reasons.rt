@@ -1,6 +1,6 @@
 //! Why rows aren't issued as their block asks for.
 ghost use Rattle.std.specs.Prelude.{◌≤◌, length, IfOk, All};
-ghost use Rattle.iloc_sched.specs.Renaming.{without_nops as ops_of};
+ghost use Rattle.iloc_rules.specs.Renaming.{without_nops as ops_of};
 ghost use Rattle.iloc_validation.specs.Lawfulness.{AreLeftOut, AreAdded};
 ghost use Rattle.iloc_reasons.specs.Facts.{IsFact};
 ghost use Rattle.iloc_reasons.specs.Reasons.{AreReasons};

@@ -53,7 +53,7 @@ pub(crate) fn at(numbers: &[u64], place: usize) -> u64
 }
 
 /// The numbers of what an operation reads, left to right; 0 for the start of a register.
-#[derive(Clone, Copy, Debug, PartialEq, Eq)]
+#[derive(Clone, Copy, PartialEq, Eq)]
 pub(crate) enum Values {
     Nothing,
     One(u64),

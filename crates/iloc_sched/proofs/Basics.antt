@@ -1,11 +1,4 @@
 -- Lists, numbers, rows and cases: lemmas of no stage, for the other folders.
 pub mod Cases
-pub mod Members
-pub mod Maxima
-pub mod Ordered
-pub mod Rising
 pub mod LastOnes
-pub mod Registers
-pub mod Slots
-pub mod IssueCycles
 pub mod CountedRanges

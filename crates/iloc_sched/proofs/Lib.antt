@@ -1,10 +1,7 @@
 pub mod Basics
 pub mod Renamed
-pub mod DelayPairs
 pub mod KeptEdges
 pub mod Walking
 pub mod PriorityValues
 pub mod Ranks
 pub mod Choice
-pub mod Outcome
-pub mod Bounds

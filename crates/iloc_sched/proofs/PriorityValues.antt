@@ -1,13 +1,8 @@
 -- The priorities.
 pub mod Chains
-pub mod Longest
-pub mod Starts
 pub mod Found
 pub mod Dependents
 pub mod DependentsFound
 pub mod DependentsCounted
 pub mod Successors
 pub mod UsesCounted
-pub mod Named
-pub mod Tails
-pub mod TailsFound

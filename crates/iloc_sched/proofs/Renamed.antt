@@ -1,9 +1,5 @@
 -- The renamed block: `rename`, and `Names::rename_block` below it.
-pub mod Sources
-pub mod MentionedSources
 pub mod GivenNames
 pub mod OneMoreOperation
 pub mod RenamingLoop
-pub mod SameOutcome
-pub mod WithoutNops
-pub mod RenamedBlocks
+pub mod NewRegisters

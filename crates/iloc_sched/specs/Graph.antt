@@ -1,4 +1,3 @@
 -- The dependence graph of a block.
 pub mod GraphOf
 pub mod Near
-pub mod Pairs

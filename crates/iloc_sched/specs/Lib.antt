@@ -1,11 +1,3 @@
-pub mod Renaming
-pub mod Delays
-pub mod Priority
-pub mod Lawful
-pub mod Greedy
-pub mod Heuristics
 pub mod Scheduled
-pub mod Laws
 pub mod Steps
 pub mod Graph
-pub mod LowerBound

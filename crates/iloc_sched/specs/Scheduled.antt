@@ -9,9 +9,9 @@ use Rattle.iloc_timed.specs.Latency.{latency}
 use Rattle.iloc_timed.specs.Rows.{issue_cycle}
 use Rattle.iloc_timed.specs.Schedule.{Table}
 use Rattle.iloc_timed.specs.Timed.{timed_outcome}
-use Rattle.iloc_sched.specs.Priority.{priority}
-use Rattle.iloc_sched.specs.Lawful.{IsLawful}
-use Rattle.iloc_sched.specs.Greedy.{IsGreedyBy}
+use Rattle.iloc_rules.specs.Priority.{priority}
+use Rattle.iloc_rules.specs.Lawful.{IsLawful}
+use Rattle.iloc_rules.specs.Greedy.{IsGreedyBy}
 
 -- This is the schedule of the block by priorities, one for each renamed operation, that those may determine.
 pub record IsTheSchedule (by : List Op → List ℕ) (lat : Latencies) (block : List Op) (s : Table) : Type 0 where

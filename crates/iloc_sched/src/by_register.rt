@@ -12,7 +12,7 @@ use std::collections::BTreeMap;
 const MORE: usize = 16;
 
 /// A number, and at which turn a register got it.
-#[derive(Clone, Copy, Debug)]
+#[derive(Clone, Copy)]
 struct Slot {
     turn: u32,
     number: u32,
@@ -20,7 +20,7 @@ struct Slot {
 
 /// A number for each of some registers. With a map alone `counts` executes 41 % more instructions on 65,535 blocks of some
 /// ten operations, and almost twice as many on blocks of a hundred.
-#[derive(Debug, Drop)]
+#[derive(Drop)]
 pub struct ByRegister {
     // Of the registers below its length: those that got a number at this turn have it. It grows as registers below the limit
     // get numbers. Where each clear takes numbers back slot by slot, `counts` executes 3 % more instructions on blocks of some

@@ -14,15 +14,15 @@ pub mod plan;
 pub mod waiting;
 pub mod words;
 
-use crate::cycle::calendar::LONGEST_DELAY;
 use crate::cycle::class::Class;
 use crate::cycle::plan::Plan;
 use crate::cycle::waiting::Waiting;
 use iloc_ops::NoMemory;
+use iloc_rules::LONGEST_DELAY;
 use iloc_timed::{Kind, Row};
 
 /// An operation that is chosen for a row.
-#[derive(Clone, Copy, Debug)]
+#[derive(Clone, Copy)]
 pub struct Choice {
     pub number: u32,
     pub kind: Kind,

@@ -11,9 +11,8 @@ ghost use Rattle.iloc_timed.specs.declared.latencies.Latencies.{Latencies};
 ghost use Rattle.iloc_timed.specs.Kinds.{kind as kind_of};
 ghost use Rattle.iloc_timed.specs.Latency.{latency};
 ghost use Rattle.iloc_meaning.specs.Trace.{op_at};
-ghost use Rattle.iloc_sched.specs.Renaming.{IsRenamed};
+ghost use Rattle.iloc_rules.specs.Renaming.{IsRenamed};
 
-pub mod delay_pairs;
 pub(crate) mod kinds;
 pub mod lasts;
 pub mod later;
@@ -52,7 +51,7 @@ pub struct Edges {
 
 impl Edges {
     ghost use Rattle.std.specs.Prelude.{None, ◌++◌, ◌∷◌, []};
-    ghost use Rattle.iloc_sched.specs.Steps.Members.{In};
+    ghost use Rattle.iloc_rules.specs.Steps.Members.{In};
     ghost use Rattle.iloc_sched.specs.Steps.Graph.{IsGraphOf};
     ghost use Rattle.iloc_sched.specs.Steps.Edges.Lasts.{IsNext, loads_before};
     ghost use Rattle.iloc_sched.specs.Steps.Renaming.Registers.{listed};

@@ -2,27 +2,25 @@
 ghost use Rattle.std.specs.Prelude.{ℕ, ◌≡◌, ◌≤◌, ◌<◌, ◌+◌, List, [], length, map, All, Any, IfErr, IfOk, OnOk};
 ghost use Rattle.iloc_ops.specs.declared.op.Op.{Op};
 ghost use Rattle.iloc_timed.specs.Kinds.{kind};
-ghost use Rattle.iloc_sched.specs.Delays.{IsDelayPair};
+ghost use Rattle.iloc_rules.specs.Delays.{IsDelayPair};
 ghost use Rattle.iloc_sched.specs.Graph.GraphOf.{GraphOf, of_block};
-ghost use Rattle.iloc_sched.specs.Heuristics.{priorities_by};
-ghost use Rattle.iloc_sched.specs.LowerBound.Least.{tails, least_of};
+ghost use Rattle.iloc_rules.specs.Heuristics.{priorities_by};
 ghost use Rattle.iloc_sched.specs.Graph.Near.{IsNearPair};
-ghost use Rattle.iloc_sched.specs.Priority.{priorities};
-ghost use Rattle.iloc_sched.specs.Renaming.{renamed};
-ghost use Rattle.iloc_sched.specs.LowerBound.Starts.{starts};
+ghost use Rattle.iloc_rules.specs.Priority.{priorities};
+ghost use Rattle.iloc_rules.specs.Renaming.{renamed};
+ghost use Rattle.iloc_rules.specs.Starts.{starts};
 ghost use Rattle.iloc_sched.specs.declared.edges.Edge.{Edge as edge_value};
 ghost use Rattle.iloc_sched.specs.Steps.Edges.SoundGraph.{IsSound};
 
 use crate::edges::Edge;
 use crate::edges::lasts::Lasts;
-use crate::lower_bound::least_by;
-use crate::lower_bound::starts::fill_starts;
-use crate::lower_bound::tails::fill_tails;
-use crate::ranking::heuristic::{Heuristic, fill_ranks};
+use crate::ranking::heuristic::fill_ranks;
 use crate::ranking::priority::fill_chains;
+use crate::ranking::starts::fill_starts;
 use crate::renaming::Names;
 use crate::tables::Tables;
 use iloc_ops::{Block, MAX_OPS, NoMemory, Op};
+use iloc_rules::Heuristic;
 use iloc_timed::{Kind, Latencies};
 use std::alloc::Global;
 use std::marker::Model;
@@ -138,20 +136,6 @@ impl Graph {
         ensures { OnOk result (found.new.items ≡ starts self.now.latencies self.now.ops) }
     {
         fill_starts(found, &self.tables)
-    }
-
-    /// Fills a list with the tails of the operations: how many cycles are left at least from the issue of each.
-    pub fn tails(&self, found: &mut Vec<u32>) -> Result<(), NoMemory>
-        ensures { OnOk result (found.new.items ≡ tails self.now.latencies self.now.ops) }
-    {
-        fill_tails(found, self.alloc, &self.tables)
-    }
-
-    /// A lower bound on the cycles of the block's lawful schedules, as `least` gives it.
-    pub fn least(&self) -> Result<u64, NoMemory>
-        ensures { IfOk result (λ n. n ≡ least_of self.now.latencies self.now.ops) }
-    {
-        least_by(self.alloc, self)
     }
 
     /// Fills a list with the priorities of the operations by a heuristic.

@@ -1,19 +1,21 @@
 //! The priorities of renamed operations, by each heuristic.
 ghost use Rattle.std.specs.Prelude.{◌≡◌, ◌≤◌, length, IfOk};
-ghost use Rattle.iloc_sched.specs.Priority.{priorities};
-ghost use Rattle.iloc_sched.specs.Heuristics.{priorities_by};
-ghost use Rattle.iloc_sched.specs.Renaming.{IsRenamed};
+ghost use Rattle.iloc_rules.specs.Priority.{priorities};
+ghost use Rattle.iloc_rules.specs.Heuristics.{priorities_by};
+ghost use Rattle.iloc_rules.specs.Renaming.{IsRenamed};
 
 pub mod descendants;
 pub mod heuristic;
 pub mod priority;
 pub mod slack;
+pub mod starts;
 pub mod successors;
 
 use crate::edges::lasts::Lasts;
-use crate::ranking::heuristic::{Heuristic, fill_ranks};
+use crate::ranking::heuristic::fill_ranks;
 use crate::tables::Tables;
 use iloc_ops::{MAX_OPS, NoMemory, Op};
+use iloc_rules::Heuristic;
 use iloc_timed::Latencies;
 use std::alloc::Global;
 

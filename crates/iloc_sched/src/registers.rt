@@ -6,7 +6,7 @@ ghost use Rattle.iloc_sched.specs.Steps.Renaming.Registers.{listed};
 use iloc_ops::{Op, Reg, defines, uses};
 
 /// The registers that an operation uses, left to right.
-#[derive(Clone, Copy, Debug)]
+#[derive(Clone, Copy)]
 pub enum Uses {
     Nothing,
     One(Reg),
@@ -14,7 +14,7 @@ pub enum Uses {
 }
 
 /// The registers that an operation uses and the one that it defines.
-#[derive(Clone, Copy, Debug)]
+#[derive(Clone, Copy)]
 pub struct OperandRegisters {
     pub uses: Uses,
     pub defines: Option<Reg>,

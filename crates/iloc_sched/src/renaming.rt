@@ -2,7 +2,7 @@
 ghost use Rattle.std.specs.Prelude.{◌≡◌, ◌+◌, ◌-◌, ◌^◌, ◌<◌, ◌≤◌, List, ℤ, [], ◌∷◌, ◌++◌, length, IfOk, OnOk};
 ghost use Rattle.iloc_ops.specs.declared.op.Op.{Op};
 ghost use Rattle.iloc_meaning.specs.Outcome.{outcome};
-ghost use Rattle.iloc_sched.specs.Renaming.{is_nop, renamed, IsRenamed};
+ghost use Rattle.iloc_rules.specs.Renaming.{is_nop, renamed, IsRenamed};
 
 use crate::by_register::ByRegister;
 use crate::registers::{OperandRegisters, Uses};

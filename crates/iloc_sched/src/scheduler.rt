@@ -3,20 +3,20 @@ ghost use Rattle.std.specs.Prelude.{◌≡◌, ◌≤◌, ◌+◌, ◌*◌, List
 ghost use Rattle.iloc_ops.specs.declared.op.Op.{Op};
 ghost use Rattle.iloc_timed.specs.declared.latencies.Latencies.{Latencies as latencies_value};
 ghost use Rattle.iloc_sched.specs.Graph.GraphOf.{of_block};
-ghost use Rattle.iloc_sched.specs.Greedy.{IsGreedyBy};
-ghost use Rattle.iloc_sched.specs.Heuristics.{priorities_by};
-ghost use Rattle.iloc_sched.specs.Priority.{priorities};
-ghost use Rattle.iloc_sched.specs.Renaming.{renamed};
+ghost use Rattle.iloc_rules.specs.Greedy.{IsGreedyBy};
+ghost use Rattle.iloc_rules.specs.Heuristics.{priorities_by};
+ghost use Rattle.iloc_rules.specs.Priority.{priorities};
+ghost use Rattle.iloc_rules.specs.Renaming.{renamed};
 ghost use Rattle.iloc_sched.specs.Scheduled.{IsTheSchedule};
 ghost use Rattle.iloc_sched.specs.Steps.Cycle.SoFar.{IsPlan};
 
-use crate::cycle::calendar::{LONGEST_DELAY, SHORT};
+use crate::cycle::calendar::SHORT;
 use crate::cycle::order::Order;
 use crate::cycle::plan::Plan;
 use crate::cycle::waiting::Waiting;
 use crate::graph::Graph;
-use crate::ranking::heuristic::Heuristic;
 use iloc_ops::{Block, MAX_OPS, NoMemory, Op};
+use iloc_rules::{Heuristic, LONGEST_DELAY};
 use iloc_timed::{Latencies, Row, Schedule};
 use std::alloc::Global;
 use std::mem;

@@ -1,7 +1,7 @@
 //! The tables of a dependence graph.
 ghost use Rattle.std.specs.Prelude.{ℕ, false, ◌≡◌, ◌+◌, ◌-◌, ◌^◌, ◌<◌, ◌≤◌, List, [], ◌∷◌, ◌++◌, length, OnOk};
 ghost use Rattle.iloc_ops.specs.declared.op.Op.{Op};
-ghost use Rattle.iloc_sched.specs.Renaming.{is_nop, renamed, without_nops, IsRenamed};
+ghost use Rattle.iloc_rules.specs.Renaming.{is_nop, renamed, without_nops, IsRenamed};
 
 use crate::edges::Edges;
 use crate::edges::kinds::{Operations, fill_kinds};

@@ -18,7 +18,7 @@ use Rattle.iloc_timed.specs.declared.row.Row.{Row}
 use Rattle.iloc_timed.specs.Rows.{empty_row, row_at, slots}
 use Rattle.iloc_timed.specs.Timed.{Issued, arrived, executed_in, issue, issue_all, issued_before, register_in, word_in}
 use Rattle.iloc_timed.proofs.WholeRuns.{fault_later}
-use Rattle.iloc_sched.proofs.Outcome.UsedEffects.{only_outputs_emit}
+use Rattle.iloc_rules.proofs.Outcome.UsedEffects.{only_outputs_emit}
 use Rattle.iloc_trace.specs.declared.event.Place.{Place}
 use Rattle.iloc_trace.specs.declared.event.Place.TheVariants.{Word}
 use Rattle.iloc_trace.specs.declared.event.Read.{Read}

@@ -21,14 +21,14 @@ use Rattle.iloc_timed.specs.Latency.{latency}
 use Rattle.iloc_timed.specs.Rows.{row_at, slots, issue_cycle, IsTable}
 use Rattle.iloc_timed.specs.Timed.{Issued, arrived, executed_in, issue, issued_before, register_in}
 use Rattle.iloc_timed.proofs.Issues.{holds_one, holds_zero}
-use Rattle.iloc_sched.specs.Renaming.{IsRenamed}
-use Rattle.iloc_sched.specs.Steps.Members.{In}
-use Rattle.iloc_sched.proofs.Basics.Members.{contains_from, in_from}
-use Rattle.iloc_sched.proofs.Basics.Registers.{is_register_same}
-use Rattle.iloc_sched.proofs.Basics.Slots.{cycle_is, from_holds, within}
-use Rattle.iloc_sched.proofs.DelayPairs.WaitedFor.{Waits, kept_in_order, read_then_store, stored_in_time, used_in_time}
-use Rattle.iloc_sched.proofs.Outcome.UsedEffects.{only_stores_write, reads_memory}
-use Rattle.iloc_sched.proofs.Renamed.RenamedBlocks.{renamed_is_renamed}
+use Rattle.iloc_rules.specs.Renaming.{IsRenamed}
+use Rattle.iloc_rules.specs.Steps.Members.{In}
+use Rattle.iloc_rules.proofs.Basics.Members.{contains_from, in_from}
+use Rattle.iloc_rules.proofs.Basics.Registers.{is_register_same}
+use Rattle.iloc_rules.proofs.Basics.Slots.{cycle_is, from_holds, within}
+use Rattle.iloc_rules.proofs.DelayPairs.WaitedFor.{Waits, kept_in_order, read_then_store, stored_in_time, used_in_time}
+use Rattle.iloc_rules.proofs.Outcome.UsedEffects.{only_stores_write, reads_memory}
+use Rattle.iloc_rules.proofs.Renamed.RenamedBlocks.{renamed_is_renamed}
 use Rattle.iloc_trace.specs.declared.event.Place.{Place}
 use Rattle.iloc_trace.specs.declared.event.Place.TheVariants.{Register, Word}
 use Rattle.iloc_trace.specs.Places.{address_read, goes_to, is_place, once, places_read, target_of}

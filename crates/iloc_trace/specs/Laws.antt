@@ -7,7 +7,7 @@ use Rattle.iloc_meaning.specs.Outcome.{shown}
 use Rattle.iloc_timed.specs.declared.latencies.Latencies.{Latencies}
 use Rattle.iloc_timed.specs.declared.row.Row.{Row}
 use Rattle.iloc_timed.specs.Timed.{timed_outcome}
-use Rattle.iloc_sched.specs.Lawful.{IsLawful}
+use Rattle.iloc_rules.specs.Lawful.{IsLawful}
 use Rattle.iloc_trace.specs.declared.event.Read.{Read}
 use Rattle.iloc_trace.specs.Events.{Event, arrives, is_issued, events}
 

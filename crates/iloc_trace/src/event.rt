@@ -4,7 +4,7 @@ ghost use Rattle.std.specs.Prelude.{◌≡◌};
 use iloc_ops::Reg;
 
 /// A register, or the word at an address.
-#[derive(Clone, Copy, Debug, PartialEq, Eq)]
+#[derive(Clone, Copy, PartialEq, Eq)]
 pub(crate) enum Place {
     /// This register.
     Register(Reg),
@@ -34,7 +34,7 @@ impl Default for Place {
 }
 
 /// What was read, and the cycle at which the next result for it is due, if one is under way.
-#[derive(Clone, Copy, Debug, Default, PartialEq, Eq)]
+#[derive(Clone, Copy, Default, PartialEq, Eq)]
 pub(crate) struct Read {
     /// What was read.
     pub place: Place,
@@ -45,7 +45,7 @@ pub(crate) struct Read {
 }
 
 /// A result arrives.
-#[derive(Clone, Copy, Debug, PartialEq, Eq)]
+#[derive(Clone, Copy, PartialEq, Eq)]
 pub(crate) struct Write {
     /// When.
     pub cycle: u64,

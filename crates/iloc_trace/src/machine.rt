@@ -25,7 +25,7 @@ use std::alloc::Global;
 const MOST_CYCLES: usize = MAX_ROWS + LONGEST;
 
 /// An operation that is issued.
-#[derive(Clone, Copy, Debug)]
+#[derive(Clone, Copy)]
 pub(crate) struct Executed {
     pub(crate) op: Op,
     pub(crate) effect: Effect,

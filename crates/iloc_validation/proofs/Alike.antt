@@ -6,7 +6,7 @@ use Rattle.iloc_meaning.specs.Memory.{word_at}
 use Rattle.iloc_meaning.specs.Trace.{is_write_to, writes_to, written_or}
 use Rattle.iloc_meaning.specs.Outcome.{is_fault, emitted_by, has_fault, emitted}
 use Rattle.iloc_timed.specs.Timed.{Issued, arrived, later, last_due, word_in, executed_in, timed_outcome_of}
-use Rattle.iloc_sched.specs.Steps.Members.{In}
+use Rattle.iloc_rules.specs.Steps.Members.{In}
 
 pub record Alike (x y : Issued) : Type 0 where
   pub due : x.due ≡ y.due

@@ -9,9 +9,9 @@ use Rattle.iloc_timed.specs.declared.kind.Kind.TheVariants as K
 use Rattle.iloc_timed.specs.declared.latencies.Latencies.{Latencies}
 use Rattle.iloc_timed.specs.Kinds.{kind}
 use Rattle.iloc_timed.proofs.Greatest.{le_fold_max}
-use Rattle.iloc_sched.specs.Steps.Members.{In}
-use Rattle.iloc_sched.proofs.Basics.Members.{in_map, from_map}
-use Rattle.iloc_sched.proofs.Basics.Maxima.{fold_max_each, fold_max_reached}
+use Rattle.iloc_rules.specs.Steps.Members.{In}
+use Rattle.iloc_rules.proofs.Basics.Members.{in_map, from_map}
+use Rattle.iloc_rules.proofs.Basics.Maxima.{fold_max_each, fold_max_reached}
 use Rattle.iloc_validation.specs.declared.verification.waits.Waits.{Waits}
 use Rattle.iloc_validation.specs.Steps.Waits.{memory_by, earliest, wait_of, noted}
 

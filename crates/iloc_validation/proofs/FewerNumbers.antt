@@ -4,10 +4,10 @@ use Rattle.std.specs.Prelude.{count_by}
 use Rattle.std.proofs.lemmas.Bool.{cases_eq, cases_lt}
 use Rattle.std.proofs.lemmas.List.Sums.{sum_by-append, sum_by-cons}
 use Rattle.iloc_timed.specs.declared.row.Row.{Row}
-use Rattle.iloc_sched.specs.Steps.Members.{In}
-use Rattle.iloc_sched.proofs.Basics.Members.{from_append, in_left, in_right}
-use Rattle.iloc_sched.proofs.Basics.Ordered.{Ordered, ordered_append}
-use Rattle.iloc_sched.proofs.Basics.Slots.{numbers_before}
+use Rattle.iloc_rules.specs.Steps.Members.{In}
+use Rattle.iloc_rules.proofs.Basics.Members.{from_append, in_left, in_right}
+use Rattle.iloc_rules.proofs.Basics.Ordered.{Ordered, ordered_append}
+use Rattle.iloc_rules.proofs.Basics.Slots.{numbers_before}
 use Rattle.iloc_validation.specs.ByTheBook.{issued_before}
 use Rattle.iloc_validation.specs.Steps.FirstColours.{numbers_below}
 

@@ -14,16 +14,16 @@ use Rattle.iloc_timed.specs.Latency.{latency}
 use Rattle.iloc_timed.specs.Kinds.{kind}
 use Rattle.iloc_timed.specs.Rows.{issue_cycle, IsTable}
 use Rattle.iloc_timed.proofs.WholeRuns.{some_latency}
-use Rattle.iloc_sched.specs.Renaming.{Source, source, numbering, name_of, renamed_by, IsRenamed}
-use Rattle.iloc_sched.specs.Renaming.Source.{Start, Result}
-use Rattle.iloc_sched.specs.Steps.Members.{In}
-use Rattle.iloc_sched.proofs.Basics.Members.{in_filter, from_filter, empty_from, in_map}
-use Rattle.iloc_sched.proofs.Basics.Registers.{is_register_same, is_register_from}
-use Rattle.iloc_sched.proofs.Basics.Slots.{early_issued, issued_early}
-use Rattle.iloc_sched.proofs.Renamed.Sources.{name_apart}
-use Rattle.iloc_sched.proofs.Renamed.MentionedSources.{source_earlier, use_numbered, definition_numbered, renamed_op_at, length-renamed_by}
-use Rattle.iloc_sched.proofs.DelayPairs.WaitedFor.{Waits, used_in_time}
-use Rattle.iloc_sched.proofs.Renamed.RenamedBlocks.{defined_at, named_defined}
+use Rattle.iloc_rules.specs.Renaming.{Source, source, numbering, name_of, renamed_by, IsRenamed}
+use Rattle.iloc_rules.specs.Renaming.Source.{Start, Result}
+use Rattle.iloc_rules.specs.Steps.Members.{In}
+use Rattle.iloc_rules.proofs.Basics.Members.{in_filter, from_filter, empty_from, in_map}
+use Rattle.iloc_rules.proofs.Basics.Registers.{is_register_same, is_register_from}
+use Rattle.iloc_rules.proofs.Basics.Slots.{early_issued, issued_early}
+use Rattle.iloc_rules.proofs.Renamed.Sources.{name_apart}
+use Rattle.iloc_rules.proofs.Renamed.MentionedSources.{source_earlier, use_numbered, definition_numbered, renamed_op_at, length-renamed_by}
+use Rattle.iloc_rules.proofs.DelayPairs.WaitedFor.{Waits, used_in_time}
+use Rattle.iloc_rules.proofs.Renamed.RenamedBlocks.{defined_at, named_defined}
 use Rattle.iloc_validation.specs.ByTheBook.{issued_before, due, last_of, defining, arrived, read, result_in, given}
 use Rattle.iloc_validation.proofs.Issues.{numbers_from_issued, issued_from_numbers}
 use Rattle.iloc_validation.proofs.ReadValues.{only_one}

@@ -6,13 +6,13 @@ use Rattle.iloc_meaning.specs.Trace.{op_at}
 use Rattle.iloc_timed.specs.declared.latencies.Latencies.{Latencies}
 use Rattle.iloc_timed.specs.declared.row.Row.{Row}
 use Rattle.iloc_timed.specs.Rows.{issue_cycle, IsTable}
-use Rattle.iloc_sched.specs.Lawful.{IsLawful}
-use Rattle.iloc_sched.specs.Renaming.{without_nops, numbering}
-use Rattle.iloc_sched.proofs.Basics.Slots.{issued_early}
-use Rattle.iloc_sched.proofs.DelayPairs.WaitedFor.{Waits}
-use Rattle.iloc_sched.proofs.Renamed.MentionedSources.{length-renamed_by}
-use Rattle.iloc_sched.proofs.Renamed.OneMoreOperation.{map_same}
-use Rattle.iloc_sched.proofs.Renamed.RenamedBlocks.{renamed_is_renamed}
+use Rattle.iloc_rules.specs.Lawful.{IsLawful}
+use Rattle.iloc_rules.specs.Renaming.{without_nops, numbering}
+use Rattle.iloc_rules.proofs.Basics.Slots.{issued_early}
+use Rattle.iloc_rules.proofs.DelayPairs.WaitedFor.{Waits}
+use Rattle.iloc_rules.proofs.Renamed.MentionedSources.{length-renamed_by}
+use Rattle.iloc_rules.proofs.Basics.Members.{map_same}
+use Rattle.iloc_rules.proofs.Renamed.RenamedBlocks.{renamed_is_renamed}
 use Rattle.iloc_validation.specs.ByTheBook.{label, read, given, IsScheduleUnder}
 use Rattle.iloc_validation.proofs.Issues.{numbers_from_issued}
 use Rattle.iloc_validation.proofs.ReadValues.{read_in}

@@ -8,10 +8,10 @@ use Rattle.iloc_timed.specs.declared.row.Row.{Row}
 use Rattle.iloc_timed.specs.Rows.{row_at, slots, issue_cycle, IsTable}
 use Rattle.iloc_timed.specs.Timed as timed
 use Rattle.iloc_timed.specs.Timed.{Issued, issue}
-use Rattle.iloc_sched.specs.Steps.Members.{In}
-use Rattle.iloc_sched.proofs.Basics.Members.{from_append, in_left, in_right}
-use Rattle.iloc_sched.proofs.Basics.Slots.{numbers_before, cycle_is}
-use Rattle.iloc_sched.proofs.Renamed.OneMoreOperation.{map_same}
+use Rattle.iloc_rules.specs.Steps.Members.{In}
+use Rattle.iloc_rules.proofs.Basics.Members.{from_append, in_left, in_right}
+use Rattle.iloc_rules.proofs.Basics.Slots.{numbers_before, cycle_is}
+use Rattle.iloc_rules.proofs.Basics.Members.{map_same}
 use Rattle.iloc_validation.specs.ByTheBook.{in_order, issued_before}
 
 -- operation k as it is issued

@@ -9,9 +9,9 @@ use Rattle.iloc_timed.specs.Kinds.{kind}
 use Rattle.iloc_timed.specs.Limits.{MAX_ROWS}
 use Rattle.iloc_timed.specs.Rows.{issue_cycle}
 use Rattle.iloc_timed.specs.Schedule.{Table}
-use Rattle.iloc_sched.specs.Delays.{memory_delays}
-use Rattle.iloc_sched.proofs.Basics.Members.{in_from, contains_from}
-use Rattle.iloc_sched.proofs.Basics.Slots.{issued_within}
+use Rattle.iloc_rules.specs.Delays.{memory_delays}
+use Rattle.iloc_rules.proofs.Basics.Members.{in_from, contains_from}
+use Rattle.iloc_rules.proofs.Basics.Slots.{issued_within}
 use Rattle.iloc_validation.specs.declared.reading.Reading.{Reading}
 use Rattle.iloc_validation.specs.declared.reading.sources.Sources.{Sources}
 use Rattle.iloc_validation.specs.ByTheBook.{read, given, IsScheduleUnder}

@@ -5,9 +5,9 @@ use Rattle.iloc_ops.specs.declared.op.Reg.{Reg}
 use Rattle.iloc_ops.specs.declared.op.Op.{Op}
 use Rattle.iloc_timed.specs.declared.latencies.Latencies.{Latencies}
 use Rattle.iloc_timed.specs.Schedule.{Table}
-use Rattle.iloc_sched.specs.Renaming.{Source}
-use Rattle.iloc_sched.specs.Renaming.Source.{Start, Result}
-use Rattle.iloc_sched.proofs.Renamed.MentionedSources.{source_earlier}
+use Rattle.iloc_rules.specs.Renaming.{Source}
+use Rattle.iloc_rules.specs.Renaming.Source.{Start, Result}
+use Rattle.iloc_rules.proofs.Renamed.MentionedSources.{source_earlier}
 use Rattle.iloc_validation.specs.declared.colours.Coloured.{Coloured}
 use Rattle.iloc_validation.specs.declared.colours.issue_order.IssueOrder.{IssueOrder}
 use Rattle.iloc_validation.specs.declared.reading.Reading.{Reading}

@@ -4,8 +4,8 @@ use Rattle.std.proofs.lemmas.Bool.{cases_lt}
 use Rattle.iloc_ops.specs.declared.op.Op.{Op}
 use Rattle.iloc_timed.specs.declared.row.Row.{Row}
 use Rattle.iloc_timed.specs.Rows.{row_at, slots, issue_cycle, times_issued, IsTable}
-use Rattle.iloc_sched.specs.Steps.Members.{In}
-use Rattle.iloc_sched.proofs.Basics.Slots.{issued_within, stands_there, cycle_is, count_in, count_in_twice, count_in_within}
+use Rattle.iloc_rules.specs.Steps.Members.{In}
+use Rattle.iloc_rules.proofs.Basics.Slots.{issued_within, stands_there, cycle_is, count_in, count_in_twice, count_in_within}
 use Rattle.iloc_validation.specs.Steps.Numbers.{with_number, AreNotedBefore}
 use Rattle.iloc_validation.proofs.SameIssues.{slot_cases, in_first, in_second}
 

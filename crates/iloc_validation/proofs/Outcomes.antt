@@ -1,5 +1,5 @@
 -- What rows by the book have in common with the lawful schedule that has the block's own operations in their slots; for
--- `laws::by_the_book_keeps_the_outcome`, `laws::by_the_book_takes_the_least`.
+-- `laws::by_the_book_keeps_the_outcome`, and in the judge for `laws::by_the_book_takes_the_least`.
 use Rattle.std.proofs.Common.{◌≡◌, ℕ, zero, suc, ◌+◌, ◌<◌, ◌≤◌, ℤ, IsTrue, List, map, length, Option, Some, None, option_map, inl, inr, refl, ap, ap₂, sym, ◌∙◌, subst, arith, leb-true}
 use Rattle.std.specs.List.{range_with_len}
 use Rattle.std.proofs.lemmas.Bool.{cases_eq}
@@ -19,23 +19,21 @@ use Rattle.iloc_timed.specs.Cycles.{cycles}
 use Rattle.iloc_timed.specs.Rows.{row_at, slots, issue_cycle, times_issued, keeps_units, IsTable}
 use Rattle.iloc_timed.specs.Timed as timed
 use Rattle.iloc_timed.specs.Timed.{Issued, register_in, word_in, timed_outcome}
-use Rattle.iloc_sched.specs.Delays.{uses_result, when, memory_delays, delays}
-use Rattle.iloc_sched.specs.Lawful.{IsLawful}
-use Rattle.iloc_sched.specs.LowerBound.Least.{least}
-use Rattle.iloc_sched.specs.Renaming.{source, numbering, name_of, without_nops, renamed, IsRenamed}
-use Rattle.iloc_sched.specs.Renaming.Source.{Result}
-use Rattle.iloc_sched.specs.Steps.Members.{In}
-use Rattle.iloc_sched.proofs.Basics.Members.{in_from, contains_from, from_append, from_map, in_map, from_any, in_range_from, from_range}
-use Rattle.iloc_sched.proofs.Basics.Maxima.{fold_max_each, fold_max_reached}
-use Rattle.iloc_sched.proofs.Basics.Registers.{is_register_same}
-use Rattle.iloc_sched.proofs.Basics.Slots.{within, issued_early}
-use Rattle.iloc_sched.proofs.Bounds.LeastBound.{least_bound}
-use Rattle.iloc_sched.proofs.DelayPairs.WaitedFor.{Waits}
-use Rattle.iloc_sched.proofs.Outcome.LawfulOutcomes.{lawful_same_outcome}
-use Rattle.iloc_sched.proofs.Renamed.MentionedSources.{renamed_op_at, length-renamed_by}
-use Rattle.iloc_sched.proofs.Renamed.OneMoreOperation.{map_same}
-use Rattle.iloc_sched.proofs.Renamed.RenamedBlocks.{renamed_is_renamed}
-use Rattle.iloc_sched.proofs.DelayPairs.DelayBounds.{from_when}
+use Rattle.iloc_rules.specs.Delays.{uses_result, when, memory_delays, delays}
+use Rattle.iloc_rules.specs.Lawful.{IsLawful}
+use Rattle.iloc_rules.specs.Renaming.{source, numbering, name_of, without_nops, renamed, IsRenamed}
+use Rattle.iloc_rules.specs.Renaming.Source.{Result}
+use Rattle.iloc_rules.specs.Steps.Members.{In}
+use Rattle.iloc_rules.proofs.Basics.Members.{in_from, contains_from, from_append, from_map, in_map, from_any, in_range_from, from_range}
+use Rattle.iloc_rules.proofs.Basics.Maxima.{fold_max_each, fold_max_reached}
+use Rattle.iloc_rules.proofs.Basics.Registers.{is_register_same}
+use Rattle.iloc_rules.proofs.Basics.Slots.{within, issued_early}
+use Rattle.iloc_rules.proofs.DelayPairs.WaitedFor.{Waits}
+use Rattle.iloc_rules.proofs.Outcome.LawfulOutcomes.{lawful_same_outcome}
+use Rattle.iloc_rules.proofs.Renamed.MentionedSources.{renamed_op_at, length-renamed_by}
+use Rattle.iloc_rules.proofs.Basics.Members.{map_same}
+use Rattle.iloc_rules.proofs.Renamed.RenamedBlocks.{renamed_is_renamed}
+use Rattle.iloc_rules.proofs.DelayPairs.DelayBounds.{from_when}
 use Rattle.iloc_validation.specs.ByTheBook.{due, read, given, result_in, IsScheduleUnder, IsByTheBook}
 use Rattle.iloc_validation.specs.OwnRows.{renumber}
 use Rattle.iloc_validation.specs.Steps.Waits.{memory_by}
@@ -282,12 +280,3 @@ pub keeps_the_outcome : (lat : Latencies) (block ops : List Op) (rows : List Row
 keeps_the_outcome lat block ops rows memory by =
     own_outcome lat (without_nops block) ops rows by.0 by.1 (renamed_is_renamed block) by.2 memory
     ∙ lawful_same_outcome lat block (renamed block) (map (renumber by.0) rows) memory (own_lawful lat block ops rows by)
-
-pub takes_the_least : (lat : Latencies) (block ops : List Op) (rows : List Row) → IsByTheBook lat block ops rows
-    → least lat block ≤ cycles lat ops rows
-takes_the_least lat block ops rows by =
-    let bound : least lat block ≤ cycles lat (renamed block) (map (renumber by.0) rows) =
-    least_bound lat block (renamed block) (map (renumber by.0) rows) (own_lawful lat block ops rows by) in
-    let same : cycles lat (renamed block) (map (renumber by.0) rows) ≤ cycles lat ops rows =
-    own_cycles lat (without_nops block) ops rows by.0 by.1 (renamed_is_renamed block) by.2 in
-    omega arith

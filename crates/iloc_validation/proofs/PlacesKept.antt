@@ -13,11 +13,11 @@ use Rattle.iloc_timed.specs.declared.latencies.Latencies.{Latencies}
 use Rattle.iloc_timed.specs.declared.row.Row.{Row}
 use Rattle.iloc_timed.specs.Kinds.{kind, is_store, is_output}
 use Rattle.iloc_timed.specs.Rows.{row_at, issue_cycle, IsTable}
-use Rattle.iloc_sched.specs.Steps.Members.{In}
-use Rattle.iloc_sched.proofs.Basics.Members.{in_filter, from_filter}
-use Rattle.iloc_sched.proofs.Basics.Ordered.{Ordered, ordered_filter}
-use Rattle.iloc_sched.proofs.Basics.Slots.{numbers_before, ComesLater, issued_in_order, issued_early, early_issued}
-use Rattle.iloc_sched.proofs.KeptEdges.NearPairs.{store_is, output_is}
+use Rattle.iloc_rules.specs.Steps.Members.{In}
+use Rattle.iloc_rules.proofs.Basics.Members.{in_filter, from_filter}
+use Rattle.iloc_rules.proofs.Basics.Ordered.{Ordered, ordered_filter}
+use Rattle.iloc_rules.proofs.Basics.Slots.{numbers_before, ComesLater, issued_in_order, issued_early, early_issued}
+use Rattle.iloc_rules.proofs.Basics.Kinds.{store_is, output_is}
 use Rattle.iloc_validation.specs.declared.decision.first_colours.Places.{Places}
 use Rattle.iloc_validation.specs.ByTheBook.{issued_before, IsScheduleUnder}
 use Rattle.iloc_validation.specs.Steps.Colours.{AreKept}

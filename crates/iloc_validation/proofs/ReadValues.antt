@@ -13,9 +13,9 @@ use Rattle.iloc_timed.specs.declared.row.Row.{Row}
 use Rattle.iloc_timed.specs.Rows.{row_at, IsTable}
 use Rattle.iloc_timed.specs.Timed as timed
 use Rattle.iloc_timed.specs.Timed.{Issued, later, last_due, register_in}
-use Rattle.iloc_sched.specs.Steps.Members.{In}
-use Rattle.iloc_sched.proofs.Basics.Members.{from_filter}
-use Rattle.iloc_sched.proofs.Basics.Slots.{numbers_before}
+use Rattle.iloc_rules.specs.Steps.Members.{In}
+use Rattle.iloc_rules.proofs.Basics.Members.{from_filter}
+use Rattle.iloc_rules.proofs.Basics.Slots.{numbers_before}
 use Rattle.iloc_validation.specs.ByTheBook.{issued_before, due, last_of, defining, arrived, read}
 use Rattle.iloc_validation.proofs.Issues.{issued_at, log_is}
 

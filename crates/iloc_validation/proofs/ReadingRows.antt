@@ -8,9 +8,9 @@ use Rattle.iloc_meaning.specs.Trace.{op_at}
 use Rattle.iloc_timed.specs.declared.latencies.Latencies.{Latencies}
 use Rattle.iloc_timed.specs.declared.row.Row.{Row}
 use Rattle.iloc_timed.specs.Rows.{row_at, slots, issue_cycle, IsTable}
-use Rattle.iloc_sched.specs.Steps.Members.{In}
-use Rattle.iloc_sched.proofs.Basics.Members.{from_append, in_left, in_right}
-use Rattle.iloc_sched.proofs.Basics.Slots.{stands_there, issued_within, cycle_is}
+use Rattle.iloc_rules.specs.Steps.Members.{In}
+use Rattle.iloc_rules.proofs.Basics.Members.{from_append, in_left, in_right}
+use Rattle.iloc_rules.proofs.Basics.Slots.{stands_there, issued_within, cycle_is}
 use Rattle.iloc_validation.specs.declared.reading.Reading.{Reading}
 use Rattle.iloc_validation.specs.declared.reading.run.Run.{Run}
 use Rattle.iloc_validation.specs.Steps.Tracks.Holders.{holder}

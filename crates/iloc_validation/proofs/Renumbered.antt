@@ -9,9 +9,9 @@ use Rattle.iloc_meaning.specs.Trace.{op_at}
 use Rattle.iloc_timed.specs.declared.row.Row.{Row}
 use Rattle.iloc_timed.specs.Kinds.{kind}
 use Rattle.iloc_timed.specs.Rows.{row_at, slots, holds, issue_cycle, times_issued, kind_in, keeps_units}
-use Rattle.iloc_sched.specs.Steps.Members.{In}
-use Rattle.iloc_sched.proofs.Basics.Members.{in_left, in_right}
-use Rattle.iloc_sched.proofs.Basics.Slots.{numbers_before, count_by-cons, times_issued-cons}
+use Rattle.iloc_rules.specs.Steps.Members.{In}
+use Rattle.iloc_rules.proofs.Basics.Members.{in_left, in_right}
+use Rattle.iloc_rules.proofs.Basics.Slots.{numbers_before, count_by-cons, times_issued-cons}
 use Rattle.iloc_validation.specs.OwnRows.{renumber}
 
 pub slots_of : (f : ℕ → ℕ) (one zero : Option ℕ)

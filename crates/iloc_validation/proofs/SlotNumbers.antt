@@ -5,8 +5,8 @@ use Rattle.iloc_timed.specs.declared.latencies.Latencies.{Latencies}
 use Rattle.iloc_timed.specs.declared.row.Row.{Row}
 use Rattle.iloc_timed.specs.Rows.{row_at, IsTable, AreNumbered}
 use Rattle.iloc_timed.proofs.Arrivals.{table_numbered}
-use Rattle.iloc_sched.specs.Lawful.{IsLawful}
-use Rattle.iloc_sched.specs.Renaming.{without_nops}
+use Rattle.iloc_rules.specs.Lawful.{IsLawful}
+use Rattle.iloc_rules.specs.Renaming.{without_nops}
 use Rattle.iloc_validation.specs.declared.pairing.Pairing.{Pairing}
 use Rattle.iloc_validation.specs.ByTheBook.{IssueTheSame}
 use Rattle.iloc_validation.specs.Decision.{IsScheduleBy}

@@ -10,10 +10,10 @@ use Rattle.iloc_timed.specs.declared.row.Row.{Row}
 use Rattle.iloc_timed.specs.Kinds.{kind, is_store}
 use Rattle.iloc_timed.specs.Latency.{latency_of}
 use Rattle.iloc_timed.specs.Rows.{row_at, slots, issue_cycle, kind_in, is_some_kind, IsTable}
-use Rattle.iloc_sched.specs.Delays.{reads_stored}
-use Rattle.iloc_sched.specs.Steps.Members.{In}
-use Rattle.iloc_sched.proofs.Basics.Slots.{within, cycle_is}
-use Rattle.iloc_sched.proofs.KeptEdges.NearPairs.{store_is}
+use Rattle.iloc_rules.specs.Delays.{reads_stored}
+use Rattle.iloc_rules.specs.Steps.Members.{In}
+use Rattle.iloc_rules.proofs.Basics.Slots.{within, cycle_is}
+use Rattle.iloc_rules.proofs.Basics.Kinds.{store_is}
 use Rattle.iloc_validation.specs.UnderWay.{IsUnderWay}
 use Rattle.iloc_validation.specs.Steps.Stores.{IsStoredUntil}
 use Rattle.iloc_validation.proofs.SameIssues.{in_first, in_second}

@@ -21,8 +21,8 @@ use Rattle.iloc_timed.specs.Steps.Machine.{landed}
 use Rattle.iloc_timed.proofs.Following.{all_land_later}
 use Rattle.iloc_timed.proofs.Landing.{register_more, landed-later, landed_is_arrived}
 use Rattle.iloc_timed.proofs.Turning.{cleared, pushed}
-use Rattle.iloc_sched.proofs.Basics.Slots.{numbers_before, cycle_is}
-use Rattle.iloc_sched.proofs.Basics.Members.{in_left, in_right}
+use Rattle.iloc_rules.proofs.Basics.Slots.{numbers_before, cycle_is}
+use Rattle.iloc_rules.proofs.Basics.Members.{in_left, in_right}
 use Rattle.iloc_validation.specs.declared.reading.holders.Holders.{Holders}
 use Rattle.iloc_validation.specs.declared.reading.run.Arrival.{Arrival}
 use Rattle.iloc_validation.specs.declared.reading.run.Run.{Run}

@@ -9,9 +9,9 @@ use Rattle.iloc_timed.specs.declared.latencies.Latencies.{Latencies}
 use Rattle.iloc_timed.specs.declared.row.Row.{Row}
 use Rattle.iloc_timed.specs.Latency.{latency}
 use Rattle.iloc_timed.specs.Rows.{row_at, issue_cycle, IsTable}
-use Rattle.iloc_sched.specs.Delays.{memory_delays}
-use Rattle.iloc_sched.specs.Renaming.{Source, source, without_nops}
-use Rattle.iloc_sched.specs.Renaming.Source.{Start, Result}
+use Rattle.iloc_rules.specs.Delays.{memory_delays}
+use Rattle.iloc_rules.specs.Renaming.{Source, source, without_nops}
+use Rattle.iloc_rules.specs.Renaming.Source.{Start, Result}
 
 -- What is read
 

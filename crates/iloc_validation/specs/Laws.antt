@@ -4,12 +4,10 @@ use Rattle.iloc_ops.specs.declared.op.Op.{Op}
 use Rattle.iloc_meaning.specs.Outcome.{outcome}
 use Rattle.iloc_timed.specs.declared.latencies.Latencies.{Latencies}
 use Rattle.iloc_timed.specs.declared.row.Row.{Row}
-use Rattle.iloc_timed.specs.Cycles.{cycles}
 use Rattle.iloc_timed.specs.Rows.{AreNumbered}
 use Rattle.iloc_timed.specs.Timed.{timed_outcome}
-use Rattle.iloc_sched.specs.Lawful.{IsLawful}
-use Rattle.iloc_sched.specs.LowerBound.Least.{least}
-use Rattle.iloc_sched.specs.Renaming.{without_nops}
+use Rattle.iloc_rules.specs.Lawful.{IsLawful}
+use Rattle.iloc_rules.specs.Renaming.{without_nops}
 use Rattle.iloc_validation.specs.ByTheBook.{IsByTheBook, IssueTheSame}
 use Rattle.iloc_validation.specs.Counts.{count_like}
 use Rattle.iloc_validation.specs.UnderWay.{IsUnderWay}
@@ -18,11 +16,6 @@ use Rattle.iloc_validation.specs.UnderWay.{IsUnderWay}
 abbrev pub ByTheBookKeepsTheOutcome : Type 0
 ByTheBookKeepsTheOutcome = (lat : Latencies) (block ops : List Op) (rows : List Row) (memory : List ℤ)
     → IsByTheBook lat block ops rows → timed_outcome lat ops rows memory ≡ outcome block memory
-
--- they take no fewer cycles than a lawful schedule
-abbrev pub ByTheBookTakesTheLeast : Type 0
-ByTheBookTakesTheLeast = (lat : Latencies) (block ops : List Op) (rows : List Row)
-    → IsByTheBook lat block ops rows → least lat block ≤ cycles lat ops rows
 
 -- each lawful schedule is by the book
 abbrev pub LawfulSchedulesAreByTheBook : Type 0

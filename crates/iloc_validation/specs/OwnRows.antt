@@ -5,7 +5,7 @@ use Rattle.iloc_meaning.specs.Trace.{op_at}
 use Rattle.iloc_timed.specs.declared.latencies.Latencies.{Latencies}
 use Rattle.iloc_timed.specs.declared.row.Row.{Row}
 use Rattle.iloc_timed.specs.Schedule.{Table}
-use Rattle.iloc_sched.specs.Renaming.{renamed, without_nops}
+use Rattle.iloc_rules.specs.Renaming.{renamed, without_nops}
 use Rattle.iloc_validation.specs.ByTheBook.{IsScheduleUnder}
 
 -- a row in which each number is another

@@ -1,6 +1,6 @@
 //! Whether rows that somebody made are a schedule of a block by the book.
 ghost use Rattle.std.specs.Prelude.{◌≡◌, true, length, IfNone, IfOk, IfSome};
-ghost use Rattle.iloc_sched.specs.Lawful.{IsLawful};
+ghost use Rattle.iloc_rules.specs.Lawful.{IsLawful};
 ghost use Rattle.iloc_validation.specs.ByTheBook.{IsScheduleUnder, IssueTheSame};
 ghost use Rattle.iloc_validation.specs.Decision.{IsDecision, IsFoundLawful, IsScheduleBy};
 ghost use Rattle.iloc_validation.specs.Steps.Decisions.{IsDecisionOf, IsExcluded};

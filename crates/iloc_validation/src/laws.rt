@@ -1,5 +1,5 @@
 //! Laws of schedules by the book, as contracts of functions that do nothing.
-ghost use Rattle.iloc_validation.specs.Laws.{ByTheBookKeepsTheOutcome, ByTheBookTakesTheLeast};
+ghost use Rattle.iloc_validation.specs.Laws.{ByTheBookKeepsTheOutcome};
 ghost use Rattle.iloc_validation.specs.Laws.{LawfulSchedulesAreByTheBook, OwnRowsAreByTheBook};
 ghost use Rattle.iloc_validation.specs.Laws.{CountsThatDifferExcludeByTheBook, WhatIsUnderWayExcludesByTheBook};
 
@@ -8,13 +8,6 @@ ghost use Rattle.iloc_validation.specs.Laws.{CountsThatDifferExcludeByTheBook, W
 /// Promise: rows by the book do what the block does, on every memory, whatever registers they use.
 pub fn by_the_book_keeps_the_outcome()
     ensures { ByTheBookKeepsTheOutcome }
-{}
-
-/// They take no fewer cycles than `least` of the block.
-///
-/// Promise: no rows by the book take fewer cycles than the bound.
-pub fn by_the_book_takes_the_least()
-    ensures { ByTheBookTakesTheLeast }
 {}
 
 /// Each lawful schedule of a block is one by the book.

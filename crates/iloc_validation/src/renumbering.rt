@@ -2,7 +2,7 @@
 ghost use Rattle.std.specs.Prelude.{◌≡◌, map, option_map, slice_index, IfOk};
 ghost use Rattle.iloc_meaning.specs.Trace.{op_at};
 ghost use Rattle.iloc_timed.specs.declared.latencies.Latencies.{Latencies as Table};
-ghost use Rattle.iloc_sched.specs.Renaming.{renamed, without_nops};
+ghost use Rattle.iloc_rules.specs.Renaming.{renamed, without_nops};
 ghost use Rattle.iloc_validation.specs.Decision.{IsScheduleBy};
 ghost use Rattle.iloc_validation.specs.OwnRows.{renumber, AreOwnRows};
 

@@ -1,5 +1,6 @@
 use crate::written::{SEVEN_OPERATIONS, Times, USUAL, block_of, latencies};
-use iloc_sched::{Pair, pairs, rename};
+use iloc_rules::{Pair, pairs};
+use iloc_sched::rename;
 use std::alloc::Global;
 use std::process::Abort;
 use std::test::Fail;

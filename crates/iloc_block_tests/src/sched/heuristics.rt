@@ -1,6 +1,8 @@
 //! Schedules by other priorities than the longest chains.
 use crate::written::{USUAL, block_of, latencies};
-use iloc_sched::{Graph, Heuristic, Scheduler, least, priorities_by, rename, schedule_as};
+use iloc_bound::{least, least_of};
+use iloc_rules::Heuristic;
+use iloc_sched::{Graph, Scheduler, priorities_by, rename, schedule_as};
 use iloc_timed::cycles;
 use std::test::Fail;
 
@@ -57,7 +59,7 @@ fn lends_by_one_graph(rt: HostRuntime) -> Result<(), Fail> {
         assert!(rt; cycles(&schedule, &times) == *wanted, "{heuristic:?}");
         scheduler.take_back(schedule);
     }
-    assert!(rt; graph.least()? == 21);
+    assert!(rt; least_of(rt.alloc(), &graph)? == 21);
     Ok(())
 }
 

@@ -4,7 +4,7 @@ use Rattle.std.specs.List.{list_any}
 use Rattle.iloc_ops.specs.declared.op.Op.{Op}
 use Rattle.iloc_meaning.specs.Trace.{op_at}
 use Rattle.iloc_timed.specs.declared.latencies.Latencies.{Latencies}
-use Rattle.iloc_sched.specs.Delays.{delays}
+use Rattle.iloc_rules.specs.Delays.{delays}
 
 -- whether operation j waits for operation i for so many cycles
 abbrev pub waits_for : Latencies → List Op → ℕ → ℕ → ℕ → Bool

@@ -4,7 +4,7 @@ use Rattle.iloc_ops.specs.declared.file.Block.{Block}
 use Rattle.iloc_ops.specs.declared.op.Op.{Op}
 use Rattle.iloc_timed.specs.declared.latencies.Latencies.{Latencies}
 use Rattle.iloc_optimum.specs.declared.optimizer.Optimum.{Optimum}
-use Rattle.iloc_optimum.specs.declared.optimizer.Sought.{Sought}
+use Rattle.iloc_rules.specs.declared.sought.Sought.{Sought}
 use Rattle.iloc_optimum.specs.Optimum.{IsOptimumOf, IsSought}
 use Rattle.iloc_farm.specs.Listing.{bound_comment, cycles_of, schedule_entry, total_of_all}
 use Rattle.iloc_farm.specs.Commands.Record.{Command, Shared, of_files}

@@ -2,7 +2,7 @@
 use Rattle.std.specs.Prelude.{ℕ, ◌+◌, ◌*◌}
 use Rattle.iloc_ops.specs.Limits.{MAX_OPS}
 use Rattle.iloc_timed.specs.Limits.{MAX_ROWS}
-use Rattle.iloc_sched.specs.declared.cycle.calendar.TheConstants.{LONGEST_DELAY}
+use Rattle.iloc_rules.specs.declared.delay_pairs.TheConstants.{LONGEST_DELAY}
 
 -- the greedy schedule of a block: the longest latency for each operation
 abbrev pub most_cycles : ℕ

@@ -1,6 +1,6 @@
 -- What is summed over blocks that are compared.
 use Rattle.std.specs.Prelude.{ℕ}
-use Rattle.iloc_sched.specs.declared.ranking.heuristic.Heuristic.{Heuristic}
+use Rattle.iloc_rules.specs.declared.heuristic.Heuristic.{Heuristic}
 use Rattle.iloc_farm.specs.declared.commands.compare.ComparedCycles.{ComparedCycles}
 use Rattle.iloc_farm.specs.declared.commands.compare.Limit.{Limit}
 use Rattle.iloc_farm.specs.declared.commands.compare.Limit.TheVariants as limit

@@ -15,12 +15,14 @@ use crate::listing::json::push_json_head;
 use crate::listing::table::push_head;
 use crate::rows::RowLister;
 use iloc_args::Request;
+use iloc_bound::least_of;
 use iloc_judge::{CheckOptions, Checked, Form, Judging, Task, push_check, push_unread};
 use iloc_meaning::Memory;
 use iloc_ops::{Block, Name, NoMemory};
 use iloc_optimum::Optimizer;
 use iloc_rows::Proposal;
-use iloc_sched::{Graph, Heuristic, Scheduler};
+use iloc_rules::Heuristic;
+use iloc_sched::{Graph, Scheduler};
 use iloc_timed::MAX_ROWS;
 use std::alloc::Global;
 
@@ -187,6 +189,7 @@ impl RowLister for CheckLister {
         let latencies = &request.latencies;
         prove!(proposal.rows().len() <= MAX_ROWS);
         self.graph.refill(block, latencies)?;
+        let least = least_of(alloc, &self.graph)?;
         let sought = sought_if(&mut self.optimizer, block, &self.graph, request.nodes)?;
         let ours = self.scheduler.lend_as(&self.graph, Heuristic::Chain)?;
         push_check_head(text, form_of(request), number, block.name.as_ref())?;
@@ -197,9 +200,9 @@ impl RowLister for CheckLister {
         };
         let task = Task {
             block,
-            graph: &self.graph,
             ours: &ours,
             sought,
+            least,
             latencies,
         };
         let checked = push_judged(alloc, text, &judging, &task, proposal)?;

@@ -5,8 +5,8 @@ ghost use Rattle.iloc_ops.specs.Limits.{MAX_BLOCKS};
 ghost use Rattle.iloc_ops.specs.declared.file.Block.{Block as block_value};
 ghost use Rattle.iloc_timed.specs.declared.latencies.Latencies.{Latencies as latencies_value};
 ghost use Rattle.iloc_sched.specs.Graph.GraphOf.{of_block};
-ghost use Rattle.iloc_sched.specs.Heuristics.Listed.{heuristics};
-ghost use Rattle.iloc_sched.specs.declared.ranking.heuristic.Heuristic.{Heuristic as heuristic_value};
+ghost use Rattle.iloc_rules.specs.Heuristics.Listed.{heuristics};
+ghost use Rattle.iloc_rules.specs.declared.heuristic.Heuristic.{Heuristic as heuristic_value};
 ghost use Rattle.iloc_farm.specs.Commands.Compare as compare;
 ghost use Rattle.iloc_farm.specs.Commands.Compare.{AreCounts};
 ghost use Rattle.iloc_farm.specs.Listing.{opening_as};
@@ -19,13 +19,15 @@ use crate::listing::table::{push_field, push_head};
 use crate::listing::text::Listing;
 use crate::listing::{count_of, push_numbered};
 use iloc_args::{Request, priority_name};
+use iloc_bound::least_of;
 use iloc_ops::{Block, Blocks, Name, NoMemory};
-use iloc_optimum::{Optimizer, Sought};
-use iloc_sched::{Graph, HEURISTIC_COUNT, HEURISTICS, Heuristic, Scheduler};
+use iloc_optimum::Optimizer;
+use iloc_rules::{HEURISTIC_COUNT, HEURISTICS, Heuristic, Sought};
+use iloc_sched::{Graph, Scheduler};
 use std::alloc::Global;
 
 /// The bound on a block's cycles, and the cycles of its schedules by each heuristic.
-#[derive(Clone, Copy, Debug, Drop)]
+#[derive(Clone, Copy, Drop)]
 pub struct ComparedCycles {
     /// How many cycles a lawful schedule takes at least.
     pub least: u32,
@@ -363,7 +365,7 @@ fn counts(scheduler: &mut Scheduler, graph: &Graph) -> Result<[u32; HEURISTIC_CO
 }
 
 impl FarmedLister for CompareLister {
-    ghost use Rattle.iloc_sched.specs.declared.ranking.heuristic.Heuristic.TheVariants.{Chain};
+    ghost use Rattle.iloc_rules.specs.declared.heuristic.Heuristic.TheVariants.{Chain};
     ghost use Rattle.iloc_farm.specs.Commands.Compare.{IsCompareListing, IsComparedCycles, cycles_by};
     ghost use Rattle.iloc_farm.specs.Entries.{AreListed};
 
@@ -385,13 +387,13 @@ impl FarmedLister for CompareLister {
 
     fn answer(
         &mut self,
-        _alloc: Global,
+        alloc: Global,
         request: &Request,
         _number: usize,
         block: &Block,
     ) -> Result<ComparedCycles, NoMemory> {
         self.graph.refill(block, &request.latencies)?;
-        let least = self.graph.least()?;
+        let least = least_of(alloc, &self.graph)?;
         let sought = sought_if(&mut self.optimizer, block, &self.graph, request.nodes)?;
         let cycles = counts(&mut self.scheduler, &self.graph)?;
         Ok(ComparedCycles {

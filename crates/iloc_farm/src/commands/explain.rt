@@ -1,13 +1,67 @@
 //! `explain`: why blocks' schedules take their cycles.
+ghost use Rattle.std.specs.Prelude.{ℕ, ◌≡◌, ◌++◌, List, length, IfOk, OnOk};
+ghost use Rattle.iloc_rules.specs.Renaming.{renamed};
+ghost use Rattle.iloc_explain.specs.Listing.{IsExplanation};
+ghost use Rattle.iloc_explain.specs.Measures.{AreMeasures};
+
 pub(crate) mod rows;
 
 use crate::lister::Lister;
 use crate::listing::{count_of, push_block_head, push_total_of};
 use iloc_args::Request;
-use iloc_explain::push_explanation;
-use iloc_ops::{Block, NoMemory};
+use iloc_bound::least_of;
+use iloc_explain::{Measures, push_explanation};
+use iloc_ops::{Block, NoMemory, Op};
+use iloc_rules::Heuristic;
 use iloc_sched::{Graph, Scheduler};
+use iloc_timed::Schedule;
 use std::alloc::Global;
+
+/// What an explanation needs to know of the operations of a graph, ranked by a heuristic.
+fn measure(alloc: Global, graph: &Graph, heuristic: Heuristic) -> Result<Measures, NoMemory>
+    ensures heuristic { IfOk result (λ measures. measures.heuristic ≡ heuristic) }
+    ensures measures { IfOk result (AreMeasures graph.now.latencies graph.now.ops) }
+{
+    let mut ranks = Vec::new(alloc);
+    graph.rank(heuristic, &mut ranks)?;
+    let mut chains = Vec::new(alloc);
+    graph.chains(&mut chains)?;
+    let mut starts = Vec::new(alloc);
+    graph.starts(&mut starts)?;
+    let least = least_of(alloc, graph)?;
+    Ok(Measures {
+        heuristic,
+        ranks,
+        chains,
+        starts,
+        least,
+    })
+}
+
+/// Appends what explains a schedule of the block of this graph, whose operations are the block's renamed ones, ranked by a
+/// heuristic. The lines show each operation as it is `issued`.
+///
+/// Promise: What is appended is a text that explains the schedule.
+pub(crate) fn explain_by_graph(
+    alloc: Global,
+    text: &mut Vec<u8>,
+    block: &Block,
+    graph: &Graph,
+    schedule: &Schedule,
+    issued: &[Op],
+    heuristic: Heuristic,
+) -> Result<(), NoMemory>
+    requires graph { graph.now.ops ≡ renamed block.now.ops }
+    requires names { schedule.now.ops ≡ renamed block.now.ops }
+    requires issued { length issued.now ≡ length schedule.now.ops }
+    ensures { OnOk result ((entry : List ℕ)
+        × IsExplanation heuristic graph.now.latencies block.now.ops schedule.now.ops schedule.now.rows issued.now entry
+        × (text.new.items ≡ text.old.items ++ entry)) }
+{
+    let measures = measure(alloc, graph, heuristic)?;
+    let latencies = graph.latencies();
+    push_explanation(alloc, text, block, latencies, &measures, schedule, issued)
+}
 
 /// Schedules each block, and lists why its schedule takes its cycles.
 #[derive(Drop)]
@@ -51,7 +105,7 @@ impl Lister for ExplainLister {
         push_block_head(text, number, block.name.as_ref())?;
         text.push(b'\n')?;
         let issued = schedule.ops();
-        push_explanation(alloc, text, block, &self.graph, &schedule, issued, priority)?;
+        explain_by_graph(alloc, text, block, &self.graph, &schedule, issued, priority)?;
         self.scheduler.take_back(schedule);
         Ok(cycles)
     }

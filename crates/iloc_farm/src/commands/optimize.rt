@@ -1,7 +1,7 @@
 //! `optimize`: the best schedules that are found, with a bound on the cycles of every one.
 ghost use Rattle.std.specs.Prelude.{◌≡◌, ◌≤◌, length, IfOk};
 ghost use Rattle.iloc_ops.specs.Limits.{MAX_BLOCKS};
-ghost use Rattle.iloc_sched.specs.Renaming.{renamed};
+ghost use Rattle.iloc_rules.specs.Renaming.{renamed};
 ghost use Rattle.iloc_farm.specs.Commands.Optimize.{IsSoughtIf};
 
 use crate::farmed::FarmedLister;
@@ -9,7 +9,8 @@ use crate::listing::scheduled::{EntryMaker, with_total};
 use crate::listing::text::{Listing, ScheduleEntry};
 use iloc_args::Request;
 use iloc_ops::{Block, Blocks, NoMemory};
-use iloc_optimum::{Optimizer, Sought};
+use iloc_optimum::Optimizer;
+use iloc_rules::Sought;
 use iloc_sched::Graph;
 use std::alloc::Global;
 

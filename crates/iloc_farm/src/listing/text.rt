@@ -26,7 +26,7 @@ const PIECE: usize = 65536;
 const MOST_JOINED: usize = 65536;
 
 /// Rows without an operation that follow one another.
-#[derive(Clone, Copy, Debug, Drop)]
+#[derive(Clone, Copy, Drop)]
 struct EmptyRows {
     /// How many bytes precede them after the empty rows before.
     bytes: usize,

@@ -5,7 +5,7 @@ use crate::asserted::assert_list;
 use iloc_board::{FreeGate, Gate, NoDesk};
 use iloc_farm::{BlockJobs, farm_out, schedule_all, schedules_of};
 use iloc_ops::{Op, Reg};
-use iloc_sched::Heuristic;
+use iloc_rules::Heuristic;
 use iloc_text::laws::files_are_within_limits;
 use iloc_text::read_file;
 use iloc_timed::{Latencies, Row, Schedule};

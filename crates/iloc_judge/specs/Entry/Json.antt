@@ -9,7 +9,7 @@ use Rattle.iloc_timed.specs.declared.row.Row.{Row}
 use Rattle.iloc_timed.specs.Rows.{row_at}
 use Rattle.iloc_timed.specs.Spelling.{row_spelling}
 use Rattle.iloc_rows.specs.declared.proposal.unread.Unread.{Unread}
-use Rattle.iloc_optimum.specs.declared.optimizer.Sought.{Sought}
+use Rattle.iloc_rules.specs.declared.sought.Sought.{Sought}
 use Rattle.iloc_validation.specs.declared.lawfulness.Added.{Added}
 use Rattle.iloc_validation.specs.declared.lawfulness.Issue.{Issue}
 use Rattle.iloc_validation.specs.declared.lawfulness.LeftOut.{LeftOut}

@@ -8,7 +8,7 @@ use Rattle.iloc_ops.specs.Spelling.{spelling}
 use Rattle.iloc_timed.specs.declared.row.Row.{Row}
 use Rattle.iloc_timed.specs.Rows.{row_at}
 use Rattle.iloc_timed.specs.Spelling.{row_spelling}
-use Rattle.iloc_optimum.specs.declared.optimizer.Sought.{Sought}
+use Rattle.iloc_rules.specs.declared.sought.Sought.{Sought}
 use Rattle.iloc_judge.specs.declared.verdict.comparison.Comparison.{Comparison}
 use Rattle.iloc_judge.specs.declared.verdict.comparison.Comparison.TheVariants as of
 use Rattle.iloc_judge.specs.declared.verdict.difference.Difference.{Difference}

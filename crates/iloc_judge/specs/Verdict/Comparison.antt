@@ -7,8 +7,10 @@ use Rattle.iloc_timed.specs.declared.row.Row.{Row}
 use Rattle.iloc_timed.specs.Timed.{timed_outcome}
 use Rattle.iloc_judge.specs.declared.verdict.comparison.Comparison.{Comparison}
 use Rattle.iloc_judge.specs.declared.verdict.comparison.Comparison.TheVariants as of
-use Rattle.iloc_judge.specs.Verdict.Memory.{IsMemory, memory_of}
-use Rattle.iloc_judge.specs.Verdict.Difference.{AreAlike, IsDifference}
+use Rattle.iloc_judge.specs.Verdict.Memory.{memory_of}
+use Rattle.iloc_terms.specs.Agreement.{IsMemory}
+use Rattle.iloc_judge.specs.Verdict.Difference.{IsDifference}
+use Rattle.iloc_terms.specs.Agreement.{AreAlike}
 use Rattle.iloc_judge.specs.Verdict.Void.{CanBeJudged, IsVoid}
 
 -- on a memory the rows have the block's outcome or, where outputs alone are compared, show what the block shows

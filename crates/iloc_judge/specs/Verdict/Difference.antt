@@ -2,16 +2,10 @@
 use Rattle.std.specs.Prelude.{ℕ, ◌≡◌, ◌≢◌, ◌<◌, Bool, true, false, List, Option, slice_get, IsTrue, ℤ, pos}
 use Rattle.iloc_meaning.specs.declared.outcome.Outcome.{Outcome}
 use Rattle.iloc_meaning.specs.declared.outcome.Outcome.TheVariants as O
-use Rattle.iloc_meaning.specs.Outcome.{shown}
 use Rattle.iloc_meaning.specs.Address.{is_good}
 use Rattle.iloc_meaning.specs.Memory.{word_at}
 use Rattle.iloc_judge.specs.declared.verdict.difference.Difference.{Difference}
 use Rattle.iloc_judge.specs.declared.verdict.difference.Difference.TheVariants.{Output, Word, Fault, NoFault}
-
--- the outcomes are equal or, where outputs alone are compared, show the same: both are faults, or emit the same words
-abbrev pub AreAlike : Bool → Outcome → Outcome → Type 0
-AreAlike true got wanted = shown got ≡ shown wanted
-AreAlike false got wanted = got ≡ wanted
 
 -- the first output that differs, with both words; nothing where there is none
 pub record IsFirstOutput (gots wanteds : List ℤ) (index : ℕ) (got wanted : Option ℤ) : Type 0 where

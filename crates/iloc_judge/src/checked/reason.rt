@@ -199,7 +199,7 @@ fn push_more(text: &mut Vec<u8>, more: usize) -> Result<(), NoMemory>
 }
 
 /// Appends the lines that say why rows aren't a schedule of their block.
-pub(crate) fn push_reasons(text: &mut Vec<u8>, reasons: &Reasons) -> Result<(), NoMemory>
+pub fn push_reasons(text: &mut Vec<u8>, reasons: &Reasons) -> Result<(), NoMemory>
     ensures { OnOk result (text.new.items ≡ text.old.items ++ told.reasons_told reasons.now) }
 {
     push_left_out(text, reasons.left_out)?;

@@ -6,7 +6,7 @@ use iloc_ops::{NoMemory, Op};
 use iloc_timed::{Kind, Row, kind_in};
 
 /// A rule of the units.
-#[derive(Clone, Copy, Debug, PartialEq, Eq)]
+#[derive(Clone, Copy, PartialEq, Eq)]
 pub enum UnitRule {
     /// A row has one load or store at most.
     OneMemory,

@@ -4,7 +4,7 @@ ghost use Rattle.iloc_judge.specs.Entry.Listing as listed;
 
 use crate::checked::Checked;
 use iloc_ops::{NoMemory, push_column, push_number};
-use iloc_optimum::Sought;
+use iloc_rules::Sought;
 
 /// Appends ` claimed X` where a number of cycles is claimed and isn't this one.
 fn push_wrong_claim(text: &mut Vec<u8>, cycles: u64, claimed: Option<u32>) -> Result<(), NoMemory>

@@ -1,22 +1,16 @@
 //! What memories are made up of.
 
-use crate::judgement::agreement::{is_marked, marks};
-use crate::table::Table;
-use crate::table::node::Node;
-use iloc_meaning::{Memory, WORDS};
+use iloc_meaning::WORDS;
 use iloc_ops::NoMemory;
+use iloc_terms::Mentions;
 use std::alloc::Global;
 
-/// The known words of two runs, as patterns of 32 bits.
-#[derive(Debug, Drop)]
+/// What two runs mention, and what follows from it.
+#[derive(Drop)]
 pub(crate) struct Clues {
-    /// The good addresses at which something is done.
-    pub(crate) addresses: Vec<u32>,
-    /// The other words.
-    pub(crate) constants: Vec<u32>,
-    /// The offsets from unknown words at which something is done.
-    pub(crate) offsets: Vec<u32>,
-    /// Those addresses, and as far below each as an offset says, rising: what an unknown word would be to meet one.
+    pub(crate) mentions: Mentions,
+    /// The addresses that are mentioned, and as far below each as an offset says, rising: what an unknown word would be to
+    /// meet one.
     pub(crate) bases: Vec<u32>,
     /// The numbers of the words that memories are made up of: round those addresses and those bases, rising.
     pub(crate) places: Vec<u32>,
@@ -93,45 +87,14 @@ fn places(
 }
 
 impl Clues {
-    /// The known words of a table, where something is done at the addresses with these numbers, for memories that span so
-    /// many words.
-    pub(crate) fn of(
-        alloc: Global,
-        table: &Table,
-        addresses: &[u32],
-        other_addresses: &[u32],
-        span: usize,
-    ) -> Result<Clues, NoMemory> {
-        let one = marks(alloc, addresses, table.len())?;
-        let other = marks(alloc, other_addresses, table.len())?;
-        let mut clues = Clues {
-            addresses: Vec::new(alloc),
-            constants: Vec::new(alloc),
-            offsets: Vec::new(alloc),
-            bases: Vec::new(alloc),
-            places: Vec::new(alloc),
-        };
-        for (number, node) in (0..u32::MAX).zip(table.nodes()) {
-            let is_address = is_marked(&one, number) || is_marked(&other, number);
-            clues.add(node, is_address)?;
-        }
-        clues.bases = bases(alloc, &clues.addresses, &clues.offsets)?;
-        clues.places = places(alloc, &clues.addresses, &clues.bases, span)?;
-        Ok(clues)
-    }
-
-    /// Adds what a node says.
-    fn add(&mut self, node: &Node, is_address: bool) -> Result<(), NoMemory> {
-        match *node {
-            Node::Known(word) if is_address && Memory::is_good(word) => {
-                self.addresses.push(word.cast_unsigned())?;
-            }
-            Node::Known(word) => self.constants.push(word.cast_unsigned())?,
-            Node::Offset { constant, .. } if is_address => {
-                self.offsets.push(constant.cast_unsigned())?;
-            }
-            _ => {}
-        }
-        Ok(())
+    /// What follows from what two runs mention, for memories that span so many words.
+    pub(crate) fn of(alloc: Global, mentions: Mentions, span: usize) -> Result<Clues, NoMemory> {
+        let bases = bases(alloc, &mentions.addresses, &mentions.offsets)?;
+        let places = places(alloc, &mentions.addresses, &bases, span)?;
+        Ok(Clues {
+            mentions,
+            bases,
+            places,
+        })
     }
 }

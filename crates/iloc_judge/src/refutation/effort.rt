@@ -17,7 +17,7 @@ const MOST_WORDS: usize = 1 << 24;
 
 /// How much is spent on the memories that are made up for a block: less for each where there are many blocks. It depends
 /// on nothing else, so it is the same in whatever order the blocks are judged.
-#[derive(Clone, Copy, Debug)]
+#[derive(Clone, Copy)]
 pub(crate) struct Effort {
     /// How many memories are tried.
     pub(crate) tries: usize,

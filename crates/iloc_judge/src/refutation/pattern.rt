@@ -3,7 +3,7 @@
 use crate::refutation::clues::Clues;
 
 /// How the words of a made-up memory follow one another.
-#[derive(Clone, Copy, Debug, PartialEq, Eq)]
+#[derive(Clone, Copy, PartialEq, Eq)]
 pub(crate) enum Pattern {
     /// 1, 2, 3 and so on.
     Small,
@@ -58,8 +58,8 @@ impl Pattern {
 
     /// The word at a place of a made-up memory, which is so many of its places, from 0.
     pub(crate) fn word(self, clues: &Clues, place: u32, number: u32) -> u32 {
-        let address = |number: u32| in_turn(&clues.addresses, number);
-        let constant = |number: u32| in_turn(&clues.constants, number);
+        let address = |number: u32| in_turn(&clues.mentions.addresses, number);
+        let constant = |number: u32| in_turn(&clues.mentions.constants, number);
         let base = |number: u32| in_turn(&clues.bases, number);
         let is_even = number % 2 == 0;
         match self {
@@ -72,7 +72,7 @@ impl Pattern {
             Pattern::Bases => base(number.wrapping_add(1)),
             Pattern::LaterBases => base(number.wrapping_add(2)),
             Pattern::LaterAddresses => address(number.wrapping_add(3)),
-            Pattern::OneBase => address(0).wrapping_sub(in_turn(&clues.offsets, 1)),
+            Pattern::OneBase => address(0).wrapping_sub(in_turn(&clues.mentions.offsets, 1)),
             Pattern::AddressesAndConstants if is_even => address(number / 2),
             Pattern::ConstantsAndAddresses if !is_even => address(number / 2),
             Pattern::AddressesAndConstants | Pattern::ConstantsAndAddresses => constant(number / 2),

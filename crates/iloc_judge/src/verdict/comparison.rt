@@ -2,7 +2,7 @@
 ghost use Rattle.std.specs.Prelude.{IfOk};
 ghost use Rattle.iloc_judge.specs.Verdict.Comparison.{IsComparison};
 
-use crate::judgement::TwoRuns;
+use crate::refutation::clues::Clues;
 use crate::refutation::effort::Effort;
 use crate::refutation::probe::Probe;
 use crate::refutation::{Refutation, Trial, difference_on, refute};
@@ -10,6 +10,7 @@ use crate::task::{Judging, Task};
 use crate::verdict::difference::Difference;
 use crate::verdict::void::{Void, why_void};
 use iloc_ops::NoMemory;
+use iloc_terms::{Agreement, compare};
 use iloc_timed::Schedule;
 use std::alloc::Global;
 
@@ -50,13 +51,11 @@ pub(crate) fn compared(
     if let Some(why) = why_void(alloc, outputs_alone, block, memory)? {
         return Ok(Comparison::Void(why));
     }
-    let runs = TwoRuns::of(alloc, ours, theirs, latencies)?;
-    if runs.agree(alloc, false)? {
-        return Ok(Comparison::Same);
-    }
-    if outputs_alone && runs.agree(alloc, true)? {
-        return Ok(Comparison::Prints);
-    }
+    let mentions = match compare(alloc, outputs_alone, ours, theirs, latencies)? {
+        Agreement::Same => return Ok(Comparison::Same),
+        Agreement::Prints => return Ok(Comparison::Prints),
+        Agreement::Unseen(mentions) => mentions,
+    };
     let trial = Trial {
         outputs_alone,
         block,
@@ -67,7 +66,7 @@ pub(crate) fn compared(
         return Ok(Comparison::Differs(difference));
     }
     let effort = Effort::on_one_of(blocks, block, theirs);
-    let clues = runs.clues(alloc, effort.span)?;
+    let clues = Clues::of(alloc, mentions, effort.span)?;
     match refute(alloc, &trial, &clues, effort)? {
         Some(Refutation { probe, difference }) => Ok(Comparison::DiffersOn(probe, difference)),
         None => Ok(Comparison::Agrees),

@@ -1,6 +1,7 @@
 //! Where two outcomes differ.
 ghost use Rattle.std.specs.Prelude.{◌≡◌, MatchOption};
-ghost use Rattle.iloc_judge.specs.Verdict.Difference.{AreAlike, IsDifference};
+ghost use Rattle.iloc_judge.specs.Verdict.Difference.{IsDifference};
+ghost use Rattle.iloc_terms.specs.Agreement.{AreAlike};
 ghost use Rattle.iloc_judge.specs.Steps.Difference.{IsOutput, IsWord};
 
 use iloc_meaning::{Memory, Outcome};

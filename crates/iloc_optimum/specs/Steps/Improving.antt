@@ -3,8 +3,8 @@ use Rattle.std.specs.Prelude.{◌≤◌, List}
 use Rattle.iloc_ops.specs.declared.op.Op.{Op}
 use Rattle.iloc_timed.specs.declared.latencies.Latencies.{Latencies}
 use Rattle.iloc_timed.specs.Schedule.{Table}
-use Rattle.iloc_sched.specs.declared.ranking.heuristic.Heuristic.{Heuristic}
-use Rattle.iloc_sched.specs.Lawful.{IsLawful}
+use Rattle.iloc_rules.specs.declared.heuristic.Heuristic.{Heuristic}
+use Rattle.iloc_rules.specs.Lawful.{IsLawful}
 use Rattle.iloc_optimum.specs.Optimum.{cycles_of, IsAsShortAs}
 
 -- a schedule in place of another, as short as that and as the one that is greedy by this heuristic

@@ -2,7 +2,7 @@
 use Rattle.std.specs.Prelude.{ℕ, ◌≡◌, ◌≤◌, ◌&&◌, nat_le, Bool, List, length, slice_index, count_by}
 use Rattle.std.specs.List.{range_with_len}
 use Rattle.iloc_timed.specs.declared.kind.Kind.{Kind}
-use Rattle.iloc_sched.specs.declared.lower_bound.share.Share.{Share}
+use Rattle.iloc_bound.specs.declared.share.Share.{Share}
 use Rattle.iloc_optimum.specs.Timing.{belongs, FitsShares, Within}
 
 -- whether operation i of the share has its window from a to e

@@ -3,8 +3,8 @@ ghost use Rattle.std.specs.Prelude.{◌≡◌, length};
 
 use crate::nests::Nest;
 use crate::proposal::{Span, Window, ends_before, take_windows};
+use iloc_bound::Share;
 use iloc_ops::NoMemory;
-use iloc_sched::Share;
 use iloc_timed::Kind;
 use std::alloc::Global;
 
@@ -12,14 +12,14 @@ use std::alloc::Global;
 const ONE_UNIT: [Share; 2] = [Share::Memory, Share::Products];
 
 /// Cycles, and by how many the windows within them are more than one in a row.
-#[derive(Clone, Copy, Debug)]
+#[derive(Clone, Copy)]
 struct Inner {
     span: Span,
     excess: u32,
 }
 
 /// What is known of a cycle while the ends of nests rise.
-#[derive(Clone, Copy, Debug)]
+#[derive(Clone, Copy)]
 struct Begin {
     /// How many of the windows that end by now begin here: of the share, and others.
     members: u32,

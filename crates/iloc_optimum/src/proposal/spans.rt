@@ -2,13 +2,13 @@
 ghost use Rattle.std.specs.Prelude.{◌≡◌, length};
 
 use crate::proposal::{Span, Window, ends_before, take_windows};
+use iloc_bound::Share;
 use iloc_ops::NoMemory;
-use iloc_sched::Share;
 use iloc_timed::Kind;
 use std::alloc::Global;
 
 /// What is known of a cycle while the ends of spans rise.
-#[derive(Clone, Copy, Debug)]
+#[derive(Clone, Copy)]
 struct Begin {
     /// How many of the windows that end by now begin here, and how many of the later ones.
     ended: u32,

@@ -8,7 +8,7 @@ use std::alloc::Global;
 use std::collections::BTreeMap;
 
 /// Why an operation reads something else at a place than it is meant to.
-#[derive(Clone, Copy, Debug)]
+#[derive(Clone, Copy)]
 pub(crate) enum Cause {
     /// What this says.
     Said(Claim),
@@ -20,7 +20,7 @@ pub(crate) enum Cause {
 pub(crate) type Causes = (Option<Cause>, Option<Cause>);
 
 /// What is claimed unless others are found to read wrongly what this operation brings.
-#[derive(Clone, Copy, Debug)]
+#[derive(Clone, Copy)]
 pub(crate) struct Doubt {
     pub claim: Claim,
     pub brought: usize,

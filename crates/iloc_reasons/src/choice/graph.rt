@@ -9,7 +9,7 @@ use std::alloc::Global;
 
 /// What memory and outputs fix of an operation: how many stores are before a load, a store or an output, and how many
 /// outputs before an output.
-#[derive(Clone, Copy, Debug, Default, PartialEq, Eq)]
+#[derive(Clone, Copy, Default, PartialEq, Eq)]
 pub(crate) struct Place {
     pub stores: usize,
     pub outputs: usize,

@@ -13,7 +13,7 @@ use std::alloc::Global;
 const MOST: usize = 3;
 
 /// What a use may have been meant to read.
-#[derive(Clone, Copy, Debug)]
+#[derive(Clone, Copy)]
 pub(crate) struct Guess {
     /// The number of it.
     pub value: u64,
@@ -183,7 +183,7 @@ impl Looking<'_> {
 }
 
 /// What an operation may have been meant to read at all its uses.
-#[derive(Clone, Copy, Debug)]
+#[derive(Clone, Copy)]
 pub(crate) struct Pick {
     pub values: Values,
     pub cost: u32,

@@ -12,7 +12,7 @@ use std::alloc::Global;
 const FAR: u32 = 12;
 
 /// What an operation of the rows is meant to be, besides its label.
-#[derive(Clone, Copy, Debug)]
+#[derive(Clone, Copy)]
 pub(crate) struct Wanted {
     pub place: u64,
     pub values: Values,

@@ -22,7 +22,7 @@ pub(crate) struct Strays<'a> {
 }
 
 /// An operation that brings what is wanted, in another register.
-#[derive(Clone, Copy, Debug)]
+#[derive(Clone, Copy)]
 pub(crate) enum Stray {
     NeverRead(usize),
     Read(usize),

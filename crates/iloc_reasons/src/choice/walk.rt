@@ -30,7 +30,7 @@ fn are_known(causes: Causes) -> bool {
 }
 
 /// The cheapest change that makes an operation one that is missing.
-#[derive(Clone, Copy, Debug)]
+#[derive(Clone, Copy)]
 struct Change {
     cost: u32,
     /// The operation of the block that it is then.

@@ -8,23 +8,23 @@ use Rattle.iloc_timed.specs.declared.kind.Kind.{Kind}
 use Rattle.iloc_timed.specs.declared.row.Row.{Row}
 use Rattle.iloc_timed.specs.Kinds.{kind, is_memory}
 use Rattle.iloc_timed.specs.Rows.{is_some_kind, kind_in}
-use Rattle.iloc_sched.specs.Greedy.{ready, first_of_all, may_stand_beside, chosen}
+use Rattle.iloc_rules.specs.Greedy.{ready, first_of_all, may_stand_beside, chosen}
 use Rattle.iloc_sched.specs.declared.cycle.Choice.{Choice}
 use Rattle.iloc_sched.specs.declared.cycle.class.Class.{Class}
 use Rattle.iloc_sched.specs.declared.cycle.class.Class.TheVariants as C
 use Rattle.iloc_sched.specs.declared.cycle.plan.Plan.{Plan}
 use Rattle.iloc_sched.specs.declared.cycle.waiting.Waiting.{Waiting}
 use Rattle.iloc_sched.specs.Steps.Cycle.Calendar.{has}
-use Rattle.iloc_sched.specs.Steps.Cycle.Choosing.{GoesBefore, IsChosenSoFar}
-use Rattle.iloc_sched.specs.Steps.Members.{In}
+use Rattle.iloc_rules.specs.Steps.Choosing.{GoesBefore, IsChosenSoFar}
+use Rattle.iloc_rules.specs.Steps.Members.{In}
 use Rattle.iloc_sched.specs.Steps.Cycle.Classes.{class_of, excludes}
 use Rattle.iloc_sched.specs.Steps.Cycle.Progress.{MatchesRows}
 use Rattle.iloc_sched.specs.Steps.Views.{graph_of, progress_of}
 use Rattle.iloc_sched.specs.Steps.Cycle.SoFar.{class_at, rank_of, IsPlan, IsUnderWay, IsOpen, IsBest, Issues, number_of, needs_zero_choice, row_with}
-use Rattle.iloc_sched.proofs.Basics.Members.{in_filter, from_filter}
-use Rattle.iloc_sched.proofs.Basics.Ordered.{ordered_filter}
-use Rattle.iloc_sched.proofs.Choice.Ready.{ready_means, ready_rises}
-use Rattle.iloc_sched.proofs.Choice.FirstOfAll.{first_is, first_none}
+use Rattle.iloc_rules.proofs.Basics.Members.{in_filter, from_filter}
+use Rattle.iloc_rules.proofs.Basics.Ordered.{ordered_filter}
+use Rattle.iloc_rules.proofs.Choice.Ready.{ready_means, ready_rises}
+use Rattle.iloc_rules.proofs.Choice.FirstOfAll.{first_is, first_none}
 use Rattle.iloc_sched.proofs.Choice.IssuableIsReady.{ready_when, when_ready}
 use Rattle.iloc_sched.proofs.Choice.IssuedChoice.{issued_at}
 

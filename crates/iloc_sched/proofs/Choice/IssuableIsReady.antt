@@ -4,16 +4,16 @@ use Rattle.iloc_ops.specs.declared.op.Op.{Op}
 use Rattle.iloc_timed.specs.declared.latencies.Latencies.{Latencies}
 use Rattle.iloc_timed.specs.declared.row.Row.{Row}
 use Rattle.iloc_timed.specs.Rows.{slots, issue_cycle}
-use Rattle.iloc_sched.specs.Delays.{IsDelayPair}
-use Rattle.iloc_sched.specs.Greedy.{ready}
-use Rattle.iloc_sched.specs.Steps.Cycle.Choosing.{IsChosenSoFar}
-use Rattle.iloc_sched.specs.Steps.Members.{In}
+use Rattle.iloc_rules.specs.Delays.{IsDelayPair}
+use Rattle.iloc_rules.specs.Greedy.{ready}
+use Rattle.iloc_rules.specs.Steps.Choosing.{IsChosenSoFar}
+use Rattle.iloc_rules.specs.Steps.Members.{In}
 use Rattle.iloc_sched.specs.Graph.Near.{IsNear}
 use Rattle.iloc_sched.specs.Steps.Graph.{Graph, IsGraphOf}
 use Rattle.iloc_sched.specs.Steps.Cycle.Progress.{Progress, Waits, CanIssue, MatchesRows, count_from}
-use Rattle.iloc_sched.proofs.Choice.Ready.{IsReady, ready_means, ready_from}
-use Rattle.iloc_sched.proofs.Basics.Slots.{stands_there}
-use Rattle.iloc_sched.proofs.Choice.ChosenRows.{chosen_in}
+use Rattle.iloc_rules.proofs.Choice.Ready.{IsReady, ready_means, ready_from}
+use Rattle.iloc_rules.proofs.Basics.Slots.{stands_there}
+use Rattle.iloc_rules.proofs.Choice.ChosenRows.{chosen_in}
 use Rattle.iloc_sched.proofs.Basics.Cases.{by_lt, none_of}
 use Rattle.iloc_sched.proofs.Walking.EdgeWalk.{within_count}
 use Rattle.iloc_sched.proofs.Walking.UnmetEdges.{count_none, count_some}

@@ -8,22 +8,22 @@ use Rattle.iloc_timed.specs.Kinds.{kind}
 use Rattle.iloc_timed.specs.Latency.{latency}
 use Rattle.iloc_timed.specs.declared.row.Row.{Row}
 use Rattle.iloc_timed.specs.Rows.{empty_row, row_at, slots, holds}
-use Rattle.iloc_sched.specs.Renaming.{renamed}
-use Rattle.iloc_sched.specs.Greedy.{IsGreedyBy}
+use Rattle.iloc_rules.specs.Renaming.{renamed}
+use Rattle.iloc_rules.specs.Greedy.{IsGreedyBy}
 use Rattle.iloc_sched.specs.declared.cycle.plan.Plan.{Plan}
 use Rattle.iloc_sched.specs.declared.cycle.Choice.{Choice}
 use Rattle.iloc_sched.specs.declared.cycle.class.Class.TheVariants as C
 use Rattle.iloc_sched.specs.declared.cycle.waiting.Waiting.{Waiting}
-use Rattle.iloc_sched.specs.Steps.Members.{In}
+use Rattle.iloc_rules.specs.Steps.Members.{In}
 use Rattle.iloc_sched.specs.Steps.Cycle.Classes.{class_of}
 use Rattle.iloc_sched.specs.Steps.Cycle.Progress.{MatchesRows}
 use Rattle.iloc_sched.specs.Steps.Views.{issued_list, progress_of}
 use Rattle.iloc_sched.specs.Steps.Cycle.SoFar.{IsPlan, IsUnderWay, IsSoFar, IsBest, Issues, IssuesAny, number_of, row_with, slot_count, waiting_count}
-use Rattle.iloc_sched.proofs.Basics.IssueCycles.{issue_cycle_more, issue_cycle_last, issue_cycle_beyond}
-use Rattle.iloc_sched.proofs.Basics.Slots.{holds_from, from_holds}
-use Rattle.iloc_sched.proofs.Choice.ChosenRows.{in_option}
-use Rattle.iloc_sched.proofs.Choice.RowAfterRow.{chosen_more, chosen_is_greedy}
-use Rattle.iloc_sched.proofs.Bounds.BusyCycles.{rows_bound}
+use Rattle.iloc_rules.proofs.Basics.IssueCycles.{issue_cycle_more, issue_cycle_last, issue_cycle_beyond}
+use Rattle.iloc_rules.proofs.Basics.Slots.{holds_from, from_holds}
+use Rattle.iloc_rules.proofs.Choice.ChosenRows.{in_option}
+use Rattle.iloc_rules.proofs.Choice.RowAfterRow.{chosen_more, chosen_is_greedy}
+use Rattle.iloc_rules.proofs.Bounds.BusyCycles.{rows_bound}
 use Rattle.iloc_sched.proofs.Choice.IssuedChoice.{issued_at, issued_other}
 use Rattle.iloc_sched.proofs.Walking.TableReads.{issued_size}
 use Rattle.iloc_sched.proofs.Choice.ChosenByRanks.{chosen_none, chosen_row}

@@ -4,12 +4,12 @@ use Rattle.iloc_ops.specs.declared.op.Op.{Op}
 use Rattle.iloc_timed.specs.declared.latencies.Latencies.{Latencies}
 use Rattle.iloc_timed.specs.declared.row.Row.{Row}
 use Rattle.iloc_timed.specs.Schedule.{Table}
-use Rattle.iloc_sched.specs.Greedy.{IsGreedyBy}
+use Rattle.iloc_rules.specs.Greedy.{IsGreedyBy}
 use Rattle.iloc_sched.specs.Scheduled.{IsTheSchedule}
-use Rattle.iloc_sched.proofs.Bounds.PriorityBound.{priority_bound}
-use Rattle.iloc_sched.proofs.Bounds.BusyCycles.{busy_bound_by}
-use Rattle.iloc_sched.proofs.Outcome.LawfulOutcomes.{lawful_same_outcome}
-use Rattle.iloc_sched.proofs.Choice.OneGreedy.{greedy_same_as}
+use Rattle.iloc_rules.proofs.Bounds.PriorityBound.{priority_bound}
+use Rattle.iloc_rules.proofs.Bounds.BusyCycles.{busy_bound_by}
+use Rattle.iloc_rules.proofs.Outcome.LawfulOutcomes.{lawful_same_outcome}
+use Rattle.iloc_rules.proofs.Choice.OneGreedy.{greedy_same_as}
 
 -- the same operations and rows in other places
 pub handed_out : (prios : List ℕ) (lat : Latencies) (block ops ops' : List Op) (rows rows' : List Row) → ops' ≡ ops

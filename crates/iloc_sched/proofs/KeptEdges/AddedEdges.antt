@@ -10,17 +10,17 @@ use Rattle.iloc_timed.specs.declared.kind.Kind.TheVariants as K
 use Rattle.iloc_timed.specs.declared.latencies.Latencies.{Latencies}
 use Rattle.iloc_timed.specs.Kinds.{kind}
 use Rattle.iloc_timed.specs.Latency.{latency}
-use Rattle.iloc_sched.specs.Renaming.{IsRenamed}
+use Rattle.iloc_rules.specs.Renaming.{IsRenamed}
 use Rattle.iloc_sched.specs.declared.edges.Edge.{Edge}
 use Rattle.iloc_sched.specs.declared.edges.lasts.Lasts.{Lasts}
-use Rattle.iloc_sched.specs.Steps.Members.{In}
+use Rattle.iloc_rules.specs.Steps.Members.{In}
 use Rattle.iloc_sched.specs.Graph.Near.{IsNearPair}
 use Rattle.iloc_sched.specs.Steps.Graph.{Graph}
 use Rattle.iloc_sched.specs.Steps.Edges.Lasts.{IsLasts}
 use Rattle.iloc_sched.specs.Steps.Renaming.ByRegister.{number_at}
 use Rattle.iloc_sched.specs.Steps.Edges.PartialGraph.{IsPartialGraph, HasOneMore, Grows, AddsFrom, CoversUse, CoversUses, CoversMemory}
 use Rattle.iloc_sched.specs.Steps.Views.{no_edge}
-use Rattle.iloc_sched.proofs.Basics.Members.{in_from, in_left, in_right, from_append}
+use Rattle.iloc_rules.proofs.Basics.Members.{in_from, in_left, in_right, from_append}
 use Rattle.iloc_sched.proofs.Basics.Cases.{same_some}
 use Rattle.iloc_sched.proofs.KeptEdges.PartialGraphs.{grows_by_one, has_new, grows_then}
 use Rattle.iloc_sched.proofs.KeptEdges.NearPairs.{covers_load, covers_output, covers_store, covers_use, store_before, output_before, load_before_store, use_pair}

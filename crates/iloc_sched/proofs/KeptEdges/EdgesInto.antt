@@ -4,7 +4,7 @@ use Rattle.std.specs.Prelude.{All, Any}
 use Rattle.std.proofs.lemmas.List.{get_or-drop, get_or-take, get_or_default, length-drop, length-take}
 use Rattle.iloc_ops.specs.declared.op.Op.{Op}
 use Rattle.iloc_timed.specs.declared.latencies.Latencies.{Latencies}
-use Rattle.iloc_sched.specs.Delays.{IsDelayPair}
+use Rattle.iloc_rules.specs.Delays.{IsDelayPair}
 use Rattle.iloc_sched.specs.Graph.Near.{IsNearPair}
 use Rattle.iloc_sched.specs.declared.edges.Edge.{Edge}
 use Rattle.iloc_sched.specs.declared.edges.Edges.{Edges}

@@ -7,12 +7,12 @@ use Rattle.iloc_timed.specs.declared.kind.Kind.TheVariants as K
 use Rattle.iloc_timed.specs.declared.latencies.Latencies.{Latencies}
 use Rattle.iloc_timed.specs.Kinds.{kind, is_output, is_store}
 use Rattle.iloc_timed.specs.Latency.{latency}
-use Rattle.iloc_sched.specs.Delays.{uses_result, when, memory_delays, IsDelayPair}
-use Rattle.iloc_sched.specs.Steps.Members.{In}
+use Rattle.iloc_rules.specs.Delays.{uses_result, when, memory_delays, IsDelayPair}
+use Rattle.iloc_rules.specs.Steps.Members.{In}
 use Rattle.iloc_sched.specs.Graph.Near.{takes_over, IsNear}
 use Rattle.std.proofs.lemmas.Bool.{cases_lt}
-use Rattle.iloc_sched.proofs.Basics.Members.{contains_from, in_from, in_right, from_append}
-use Rattle.iloc_sched.proofs.DelayPairs.DelayBounds.{delay_at_least, kind_delays}
+use Rattle.iloc_rules.proofs.Basics.Members.{contains_from, in_from, in_right, from_append}
+use Rattle.iloc_rules.proofs.DelayPairs.DelayBounds.{delay_at_least, kind_delays}
 use Rattle.iloc_meaning.proofs.Cases.{by_bool}
 use Rattle.iloc_sched.proofs.Basics.Cases.{by_eq}
 
@@ -93,6 +93,20 @@ near_or_by_way lat ops i j d pair =
         | inr none ↦ inl (inr (contains_from _ _ memory, none))
       ]
     ]
+
+-- Numbers that keep the near pairs out of the operations from `low` on keep all delay pairs out of these.
+module _ (lat : Latencies) (ops : List Op) (a b : ℕ → ℕ) (low : ℕ)
+    (near : (i j d : ℕ) → low ≤ i → IsDelayPair lat ops i j d → IsNear lat ops i j d → d + a i + b j ≤ a j + b i) where
+  kept_within : (n i j d : ℕ) → j ≤ i + n → low ≤ i → IsDelayPair lat ops i j d → d + a i + b j ≤ a j + b i
+  kept_within zero i j d few high pair = let order : i < j = pair.order in absurd (omega arith)
+  kept_within (suc n) i j d few high pair = elim (near_or_by_way lat ops i j d pair) [
+    | inl is ↦ near i j d high pair is
+    | inr by ↦
+        grind (arith, kept_within n i by.way by.first_delay, kept_within n by.way j by.second_delay)
+  ]
+
+  pub all_are_kept : (i j d : ℕ) → low ≤ i → IsDelayPair lat ops i j d → d + a i + b j ≤ a j + b i
+  all_are_kept i j d high pair = kept_within j i j d (omega arith) high pair
 
 module _ (lat : Latencies) (ops : List Op) (t : ℕ → ℕ) (c j : ℕ)
     (waited : (i h d : ℕ) → IsDelayPair lat ops i h d → t h < c → t i + d ≤ t h)

@@ -11,12 +11,12 @@ use Rattle.iloc_timed.specs.Kinds.{kind, is_load, is_store, is_output}
 use Rattle.iloc_sched.specs.declared.by_register.ByRegister.{ByRegister}
 use Rattle.iloc_sched.specs.Steps.Renaming.ByRegister.{number_at}
 use Rattle.iloc_sched.specs.declared.edges.lasts.Lasts.{Lasts}
-use Rattle.iloc_sched.specs.Steps.Members.{In}
+use Rattle.iloc_rules.specs.Steps.Members.{In}
 use Rattle.iloc_sched.specs.Steps.Graph.{IsLast}
 use Rattle.iloc_sched.specs.Steps.Edges.Lasts.{NotesDefiner, NotesKind, IsLasts, NoStoreBetween}
-use Rattle.iloc_sched.proofs.Basics.Registers.{is_register_same, is_register_from}
+use Rattle.iloc_rules.proofs.Basics.Registers.{is_register_same, is_register_from}
 use Rattle.iloc_meaning.proofs.Cases.{by_bool}
-use Rattle.iloc_sched.proofs.Basics.Members.{in_left, in_right, from_append}
+use Rattle.iloc_rules.proofs.Basics.Members.{in_left, in_right, from_append}
 use Rattle.iloc_sched.proofs.Basics.LastOnes.{last_here, last_before}
 
 pub definers_noted : (ops : List Op) (j : ℕ) (old new : ByRegister)

@@ -11,25 +11,20 @@ use Rattle.iloc_timed.specs.declared.kind.Kind.TheVariants as K
 use Rattle.iloc_timed.specs.declared.latencies.Latencies.{Latencies}
 use Rattle.iloc_timed.specs.Kinds.{kind, is_load, is_store, is_output}
 use Rattle.iloc_timed.specs.Latency.{latency}
-use Rattle.iloc_sched.specs.Renaming.{IsRenamed}
-use Rattle.iloc_sched.specs.Delays.{uses_result, when, memory_delays, delays, IsDelayPair}
+use Rattle.iloc_rules.specs.Renaming.{IsRenamed}
+use Rattle.iloc_rules.specs.Delays.{uses_result, when, memory_delays, delays, IsDelayPair}
 use Rattle.iloc_sched.specs.declared.edges.lasts.Lasts.{Lasts}
-use Rattle.iloc_sched.specs.Steps.Members.{In}
+use Rattle.iloc_rules.specs.Steps.Members.{In}
 use Rattle.iloc_sched.specs.Graph.Near.{NoneBetween, IsNear, IsNearPair}
 use Rattle.iloc_sched.specs.Steps.Graph.{Graph}
 use Rattle.iloc_sched.specs.Steps.Edges.Lasts.{IsLasts}
 use Rattle.iloc_sched.specs.Steps.Renaming.ByRegister.{number_at}
 use Rattle.iloc_sched.specs.Steps.Edges.PartialGraph.{HasEdge, CoversUse, CoversUses, CoversMemory}
-use Rattle.iloc_sched.proofs.Basics.Members.{contains_from, in_from, any_at, from_any, in_left, in_right}
-use Rattle.iloc_sched.proofs.Basics.Registers.{is_register_same, is_register_from}
+use Rattle.iloc_rules.proofs.Basics.Members.{contains_from, in_from, any_at, from_any, in_left, in_right}
+use Rattle.iloc_rules.proofs.Basics.Registers.{is_register_same, is_register_from}
 use Rattle.iloc_sched.proofs.Basics.LastOnes.{last_is}
-use Rattle.iloc_sched.proofs.DelayPairs.DelayBounds.{kind_delays}
-
-pub store_is : (k : Kind) → is_store k ≡ true → k ≡ K.Store
-store_is k holds = grind arith
-
-pub output_is : (k : Kind) → is_output k ≡ true → k ≡ K.Output
-output_is k holds = grind arith
+use Rattle.iloc_rules.proofs.DelayPairs.DelayBounds.{kind_delays}
+use Rattle.iloc_rules.proofs.Basics.Kinds.{store_is, output_is}
 
 load_is : (k : Kind) → is_load k ≡ true → k ≡ K.Load
 load_is k holds = grind arith

@@ -10,9 +10,9 @@ use Rattle.iloc_meaning.specs.Trace.{op_at}
 use Rattle.iloc_timed.specs.declared.latencies.Latencies.{Latencies}
 use Rattle.iloc_timed.specs.Kinds.{kind, is_load, is_store, is_output}
 use Rattle.iloc_timed.specs.Latency.{latency}
-use Rattle.iloc_sched.specs.Delays.{uses_result, memory_delays, delays, IsDelayPair}
+use Rattle.iloc_rules.specs.Delays.{uses_result, memory_delays, delays, IsDelayPair}
 use Rattle.iloc_timed.specs.declared.kind.Kind.{Kind}
-use Rattle.iloc_sched.specs.Renaming.{IsRenamed}
+use Rattle.iloc_rules.specs.Renaming.{IsRenamed}
 use Rattle.iloc_sched.specs.declared.edges.Edge.{Edge}
 use Rattle.iloc_sched.specs.declared.edges.Edges.{Edges}
 use Rattle.iloc_sched.specs.declared.edges.lasts.Lasts.{Lasts}

@@ -1,17 +1,15 @@
 -- The kept edges grow edge by edge and operation by operation; for `Edges::fill`.
-use Rattle.std.proofs.Common.{◌≡◌, ℕ, ◌+◌, ◌<◌, ◌≤◌, List, length, ◌∙◌, ap, subst, arith}
+use Rattle.std.proofs.Common.{◌≡◌, ℕ, ◌+◌, ◌<◌, ◌≤◌, List, length, ◌∙◌, ap, subst, sym, arith}
 use Rattle.iloc_ops.specs.declared.op.Op.{Op}
 use Rattle.iloc_meaning.specs.Trace.{op_at}
 use Rattle.iloc_timed.specs.declared.latencies.Latencies.{Latencies}
-use Rattle.iloc_timed.specs.Latency.{latency}
-use Rattle.iloc_sched.specs.Delays.{IsDelayPair}
+use Rattle.iloc_rules.specs.Delays.{IsDelayPair}
 use Rattle.iloc_sched.specs.Graph.Near.{IsNear, IsNearPair}
 use Rattle.iloc_sched.specs.Steps.Graph.{Graph, IsLast, IsGraphOf}
 use Rattle.iloc_sched.specs.Steps.Edges.PartialGraph.{IsPartialGraph, HasEdge, HasOneMore, Grows}
-use Rattle.iloc_sched.proofs.DelayPairs.DelayBounds.{delay_at_least, delay_at_most}
+use Rattle.iloc_rules.proofs.DelayPairs.DelayBounds.{delay_at_least, short_delay}
 use Rattle.iloc_sched.proofs.Basics.Cases.{by_eq, by_lt}
 use Rattle.iloc_sched.proofs.Basics.LastOnes.{last_same, last_here, last_before}
-use Rattle.iloc_timed.proofs.WholeRuns.{short_latency}
 
 pair_along : (lat : Latencies) (ops : List Op) (i i' j j' d d' : ℕ) → i' ≡ i → j' ≡ j → d' ≡ d
     → IsNearPair lat ops i j d → IsNearPair lat ops i' j' d'
@@ -100,10 +98,17 @@ module _ (lat : Latencies) (ops : List Op) (graph : Graph) (j : ℕ) (is : IsPar
 
 module _ (lat : Latencies) (ops : List Op) (graph : Graph) (is : IsPartialGraph lat ops graph (length ops)) where
   none_behind : (x : ℕ) → graph.start (length ops) ≤ x → x < graph.count → ⊥
-  none_behind x after there = grind (arith, graph.to x < length ops, graph.to x, is.sound x there, is.into_last x after there)
+  none_behind x after there =
+      let low : graph.to x < length ops = (is.sound x there).within in
+      let at : graph.to x ≡ length ops = is.into_last x after there in
+      absurd (omega arith)
 
   at_end : graph.start (length ops) ≡ graph.count
-  at_end = grind (arith, none_behind (graph.start (length ops)), graph.start (length ops), graph.start (length ops) ≤ graph.count)
+  at_end =
+      let top : graph.start (length ops) ≤ graph.count = is.top in
+      by_lt (graph.start (length ops)) graph.count
+      (λ less. absurd (none_behind (graph.start (length ops)) (omega arith) less))
+      (λ more. omega arith)
 
   -- all operations have their edges
   pub kept_at_end : IsGraphOf lat ops graph
@@ -112,18 +117,21 @@ module _ (lat : Latencies) (ops : List Op) (graph : Graph) (is : IsPartialGraph 
       rises = λ i j order most. is.rises i j order (subst (λ n. j ≤ n) is.size most);
       last = ap graph.start is.size ∙ at_end;
       into = λ j x below. is.into j x (subst (λ n. j < n) is.size below);
-      to_there = grind (arith, at_end);
+      to_there = λ x there.
+          let h = is.to_there x (subst (λ n. x < n) (sym at_end) there) in
+          (subst (λ n. graph.to x < n) (sym is.size) h.0, h.1, h.2);
       earlier = λ x there. (is.sound x there).order;
       delays = λ x there.
-          let pair : IsNearPair lat ops (graph.from x) (graph.to x) (graph.delay x) = is.sound x there in
-          let most : graph.delay x ≤ latency lat (op_at ops (graph.from x)) =
-          delay_at_most lat (op_at ops (graph.from x)) (op_at ops (graph.to x)) (graph.delay x) pair.delay in
-          grind (arith, delay_at_least, short_latency);
+          let pair : IsNearPair lat ops (graph.from x) (graph.to x) (graph.delay x) = is.sound x there in (
+            delay_at_least lat (op_at ops (graph.from x)) (op_at ops (graph.to x)) (graph.delay x) pair.delay,
+            short_delay lat (op_at ops (graph.from x)) (op_at ops (graph.to x)) (graph.delay x) pair.delay,
+          );
       heads = is.heads;
       previous_edges = is.previous_edges;
     };
     size = is.size;
-    sound = λ x there. let pair = is.sound x there in grind arith;
+    sound = λ x there. let pair = is.sound x there in
+        record { order = pair.order; within = pair.within; delay = pair.delay };
     near = λ x there. (is.sound x there).near;
     all = λ i j d pair near.
         let h = is.all i j d pair.within pair near in

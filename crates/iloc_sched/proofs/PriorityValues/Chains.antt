@@ -1,41 +1,23 @@
--- Longest chains are the least numbers that keep all pairs, and numbers that edges raise become them; for priorities,
--- starts, tails and the bounds.
+-- Numbers that edges raise become the longest chains; for priorities and starts.
 use Rattle.std.proofs.Common.{◌≡◌, ◌≢◌, ℕ, zero, suc, ◌+◌, ◌<◌, ◌≤◌, max, List, length, set, get_or, inl, inr, arith}
 use Rattle.std.proofs.lemmas.List.{get_or-set_same, get_or-set_other, length-set}
 use Rattle.iloc_ops.specs.declared.op.Op.{Op}
 use Rattle.iloc_timed.specs.declared.latencies.Latencies.{Latencies}
-use Rattle.iloc_sched.specs.Delays.{IsDelayPair}
-use Rattle.iloc_sched.specs.Steps.Chains.{IsChain, IsRaised, IsFrom, IsBefore}
+use Rattle.iloc_rules.specs.Delays.{IsDelayPair}
+use Rattle.iloc_sched.specs.Steps.Chains.{IsRaised, IsFrom, IsBefore}
+use Rattle.iloc_rules.specs.Steps.Chains.{IsChain}
 use Rattle.iloc_sched.specs.Steps.Graph.{Graph, IsGraphOf}
-use Rattle.iloc_sched.proofs.KeptEdges.FarPairs.{near_or_by_way}
-
--- what is at least the base and keeps the pairs is at least the chain, where pairs lead to a lower rank
-module _ (size : ℕ) (Pair : ℕ → ℕ → ℕ → Type 0) (base value : ℕ → ℕ) (is : IsChain size Pair base value value)
-    (rank : ℕ → ℕ) (falls : (i j d : ℕ) → Pair i j d → (j < size) × (rank j < rank i)) (other : ℕ → ℕ)
-    (own : (i : ℕ) → i < size → base i ≤ other i) (pairs : (i j d : ℕ) → Pair i j d → d + other j ≤ other i) where
-  least_below : (n i : ℕ) → rank i < n → i < size → value i ≤ other i
-  least_below zero i low below = absurd (omega arith)
-  least_below (suc n) i low below = elim (is.reached i below) [
-    | inl alone ↦ let least = own i below in let same : value i ≡ base i = alone in omega arith
-    | inr long ↦
-        let fall = falls i long.0 long.1 long.2 in
-        let rest : value long.0 ≤ other long.0 = least_below n long.0 (omega arith) fall.0 in
-        let least = pairs i long.0 long.1 long.2 in
-        omega arith
-  ]
-
-  pub least : (i : ℕ) → i < size → value i ≤ other i
-  least i below = least_below (suc (rank i)) i (omega arith) below
+use Rattle.iloc_sched.proofs.KeptEdges.FarPairs.{all_are_kept}
 
 -- the number of `at` is put to v, which is no less
 module _ (found : List ℕ) (at v : ℕ) (there : at < length found) (up : get_or found at 0 ≤ v) where
-  here : get_or (set found at v) at 0 ≡ v
+  pub here : get_or (set found at v) at 0 ≡ v
   here = get_or-set_same found at v 0 there
 
-  away : (k : ℕ) → k ≢ at → get_or (set found at v) k 0 ≡ get_or found k 0
+  pub away : (k : ℕ) → k ≢ at → get_or (set found at v) k 0 ≡ get_or found k 0
   away k apart = get_or-set_other found at k v 0 apart
 
-  grown : (k : ℕ) → get_or found k 0 ≤ get_or (set found at v) k 0
+  pub grown : (k : ℕ) → get_or found k 0 ≤ get_or (set found at v) k 0
   grown k = grind (arith, away, here)
 
 module _ (size : ℕ) (base chain value place other delay : ℕ → ℕ) (Pair : ℕ → ℕ → ℕ → Type 0)
@@ -92,15 +74,7 @@ module _ (lat : Latencies) (ops : List Op) (graph : Graph) (is : IsGraphOf lat o
   -- where all edges out of the operations from `low` on are kept, so are all delay pairs out of these
   module _ (a b : ℕ → ℕ) (low : ℕ) (over : (y : ℕ) → y < graph.count → low ≤ graph.from y
       → graph.delay y + a (graph.from y) + b (graph.to y) ≤ a (graph.to y) + b (graph.from y)) where
-    over_within : (n i j d : ℕ) → j ≤ i + n → low ≤ i → IsDelayPair lat ops i j d → d + a i + b j ≤ a j + b i
-    over_within zero i j d few high pair = let order : i < j = pair.order in absurd (omega arith)
-    over_within (suc n) i j d few high pair = elim (near_or_by_way lat ops i j d pair) [
-      | inl near ↦
-          let edge = is.all i j d pair near in
-          grind arith
-      | inr by ↦
-          grind (arith, over_within n i by.way by.first_delay, over_within n by.way j by.second_delay)
-    ]
-
     pub over_pairs : (i j d : ℕ) → low ≤ i → IsDelayPair lat ops i j d → d + a i + b j ≤ a j + b i
-    over_pairs i j d high pair = over_within j i j d (omega arith) high pair
+    over_pairs = all_are_kept lat ops a b low (λ i j d high pair near.
+        let edge = is.all i j d pair near in
+        grind arith)

@@ -5,11 +5,11 @@ use Rattle.std.specs.List.{range_with_len}
 use Rattle.std.proofs.lemmas.Bool.{ltb-true, lt-ltb, and_parts, eq-eqb, true≢false, eqb-true, and_from, or_cases}
 use Rattle.iloc_ops.specs.declared.op.Op.{Op}
 use Rattle.iloc_timed.specs.declared.latencies.Latencies.{Latencies}
-use Rattle.iloc_sched.specs.Delays.{IsDelayPair}
-use Rattle.iloc_sched.specs.Heuristics.{waits_for, depends, depends_on}
-use Rattle.iloc_sched.specs.Steps.Members.{In}
+use Rattle.iloc_rules.specs.Delays.{IsDelayPair}
+use Rattle.iloc_rules.specs.Heuristics.{waits_for, depends, depends_on}
+use Rattle.iloc_rules.specs.Steps.Members.{In}
 use Rattle.iloc_sched.specs.Steps.Ranking.Dependents.{Reaches}
-use Rattle.iloc_sched.proofs.Basics.Members.{contains_from, in_from, any_at, from_any, in_range_from, from_range}
+use Rattle.iloc_rules.proofs.Basics.Members.{contains_from, in_from, any_at, from_any, in_range_from, from_range}
 
 either : (a b : Bool) → (a ≡ true) ⊎ (b ≡ true) → (a || b) ≡ true
 either a b one = grind (arith, true≢false)

@@ -12,7 +12,7 @@ use Rattle.std.proofs.lemmas.List.FromFn.{length-map-range_with_len, get_or-map-
 use Rattle.iloc_ops.specs.declared.op.Op.{Op}
 use Rattle.iloc_timed.specs.declared.latencies.Latencies.{Latencies}
 use Rattle.iloc_meaning.proofs.Cases.{by_bool}
-use Rattle.iloc_sched.specs.Heuristics.{depends_on, descendants}
+use Rattle.iloc_rules.specs.Heuristics.{depends_on, descendants}
 use Rattle.iloc_sched.specs.Steps.Ranking.Dependents.{AreMarked}
 use Rattle.iloc_sched.proofs.Basics.CountedRanges.{count_range, none_in_range}
 use Rattle.iloc_sched.proofs.PriorityValues.Dependents.{depends_within}

@@ -6,17 +6,18 @@ use Rattle.iloc_ops.specs.declared.op.Op.{Op}
 use Rattle.iloc_meaning.specs.Trace.{op_at}
 use Rattle.iloc_timed.specs.declared.latencies.Latencies.{Latencies}
 use Rattle.iloc_timed.specs.Latency.{latency}
-use Rattle.iloc_sched.specs.Priority.{priorities}
-use Rattle.iloc_sched.specs.LowerBound.Starts.{starts}
+use Rattle.iloc_rules.specs.Priority.{priorities}
+use Rattle.iloc_rules.specs.Starts.{starts}
 use Rattle.iloc_sched.specs.declared.edges.Edge.{Edge}
 use Rattle.iloc_sched.specs.declared.tables.Tables.{Tables}
-use Rattle.iloc_sched.specs.Steps.Chains.{IsChainOut, AreRaised, ArePrioritiesFrom, AreStartsBefore}
+use Rattle.iloc_sched.specs.Steps.Chains.{AreRaised, ArePrioritiesFrom, AreStartsBefore}
+use Rattle.iloc_rules.specs.Steps.Chains.{IsChainOut}
 use Rattle.iloc_sched.specs.Steps.Graph.{Graph, IsGraphOf}
 use Rattle.iloc_sched.specs.Steps.Edges.SoundGraph.{IsSound}
 use Rattle.iloc_sched.specs.Steps.Views.{graph_of, edge_at}
 use Rattle.iloc_sched.proofs.PriorityValues.Chains.{ends_within, raise_from, over_pairs}
-use Rattle.iloc_sched.proofs.PriorityValues.Longest.{length-priorities, priority_least}
-use Rattle.iloc_sched.proofs.PriorityValues.Starts.{length-starts, start_least}
+use Rattle.iloc_rules.proofs.PriorityValues.Longest.{length-priorities, priority_least}
+use Rattle.iloc_rules.proofs.PriorityValues.Starts.{length-starts, start_least}
 
 -- what is known of an edge that was read
 pub read_edge : (t : Tables) → IsSound t → (x : ℕ) (edge : Edge) → x < length t.edges.edges.items

@@ -12,15 +12,15 @@ use Rattle.iloc_timed.specs.declared.latencies.Latencies.{Latencies}
 use Rattle.iloc_timed.specs.Kinds.{kind}
 use Rattle.iloc_timed.specs.Latency.{latency}
 use Rattle.iloc_meaning.proofs.Cases.{by_bool}
-use Rattle.iloc_sched.specs.Delays.{delays, uses_result, when, memory_delays, IsDelayPair}
-use Rattle.iloc_sched.specs.Heuristics.{waits_for, successors}
+use Rattle.iloc_rules.specs.Delays.{delays, uses_result, when, memory_delays, IsDelayPair}
+use Rattle.iloc_rules.specs.Heuristics.{waits_for, successors}
 use Rattle.iloc_sched.specs.declared.edges.later.Later.{Later}
-use Rattle.iloc_sched.specs.Steps.Members.{In}
+use Rattle.iloc_rules.specs.Steps.Members.{In}
 use Rattle.iloc_sched.specs.Graph.Near.{IsNear}
 use Rattle.iloc_sched.specs.Steps.Ranking.Successors.{waits_by_kind, waits_by_use, waiting_for, from_on, AreNoted, AreCounted}
 use Rattle.iloc_sched.proofs.Basics.Cases.{by_eq}
 use Rattle.iloc_sched.proofs.Basics.CountedRanges.{count_first, count_range, none_in_range, count_sum, count_most}
-use Rattle.iloc_sched.proofs.Basics.Members.{contains_from, in_left}
+use Rattle.iloc_rules.proofs.Basics.Members.{contains_from, in_left}
 
 -- there is a delay just where the result is used, or memory or outputs ask for one
 some_delay : (a b c : Bool) (d : ℕ) → nat_lt 0 (length (when a d ++ (when b d ++ when c 1))) ≡ (a || (b || c))

@@ -9,8 +9,8 @@ use Rattle.iloc_timed.specs.declared.latencies.Latencies.{Latencies}
 use Rattle.iloc_timed.specs.Kinds.{kind}
 use Rattle.iloc_timed.specs.Latency.{latency}
 use Rattle.iloc_meaning.proofs.Cases.{by_bool}
-use Rattle.iloc_sched.specs.Delays.{IsDelayPair}
-use Rattle.iloc_sched.specs.Heuristics.{waits_for}
+use Rattle.iloc_rules.specs.Delays.{IsDelayPair}
+use Rattle.iloc_rules.specs.Heuristics.{waits_for}
 use Rattle.iloc_sched.specs.Steps.Graph.{Graph, IsGraphOf}
 use Rattle.iloc_sched.specs.Steps.Ranking.Successors.{waits_by_kind, waits_by_use, leads_into, adds_one, IsCounting}
 use Rattle.iloc_sched.proofs.Basics.Cases.{by_eq, by_lt, by_option}

@@ -1,5 +1,5 @@
 -- The calendar of a plan, as ranks are put into it, released and taken.
-use Rattle.std.proofs.Common.{◌≡◌, ◌≢◌, ℕ, ◌+◌, ◌<◌, ◌≤◌, ◌||◌, Bool, true, false, eqb, length, sym, ◌∙◌, ap, arith}
+use Rattle.std.proofs.Common.{◌≡◌, ◌≢◌, ℕ, ◌+◌, ◌<◌, ◌≤◌, ◌||◌, Bool, true, false, eqb, length, sym, ◌∙◌, ap, arith, inl, inr}
 use Rattle.std.proofs.lemmas.Bool.{true≢false, or_cases}
 use Rattle.iloc_sched.specs.declared.cycle.calendar.Calendar.{Calendar}
 use Rattle.iloc_sched.specs.declared.cycle.class.Class.{Class}
@@ -73,7 +73,27 @@ module _ (p : Plan) (plan : IsPlan p) where
     }
 
     pub calendar_released : (b : ℕ) → b < 32 → Releases c c' b → KeepsRoom c c' → IsCalendar p c'
-    calendar_released b low released keeps = grind (arith, or_cases, place_small, room_kept, short_kept, true≢false)
+    calendar_released b low released keeps = record {
+      room = room_kept c c' (length p.tables.now.ops.items) keeps is.room;
+      ranked = λ s r s_low held. by_eq s 32
+          (λ same. elim (or_cases (has c 32 r) (has c b r)
+          (sym (released.union r) ∙ ap (λ t. has c' t r) (sym same) ∙ held)) [
+            | inl h ↦ is.ranked 32 r (omega arith) h
+            | inr h ↦ is.ranked b r (omega arith) h
+          ])
+          (λ apart. by_eq s b
+          (λ same. absurd (true≢false (sym held ∙ ap (λ t. has c' t r) same ∙ released.empty r)))
+          (λ other. is.ranked s r s_low (sym (released.others s r (omega arith) apart other) ∙ held)));
+      kept = record {
+        each = λ k j below.
+            released.others (33 + place_of k) (rank_of p j) (omega (arith, place_small k)) (omega arith) (omega arith)
+            ∙ is.kept.each k j below;
+        only = λ k r held. is.kept.only k r
+            (sym (released.others (33 + place_of k) r (omega (arith, place_small k)) (omega arith) (omega arith))
+            ∙ held);
+      };
+      short = short_kept c c' p.short keeps is.short;
+    }
 
   -- operation j goes into bucket b if it has come to its last edge
   pub puts_enters : (c c' : Calendar) (b j : ℕ) (ready : Bool) (at_end : Type 0) → b < 32 → j < length p.tables.now.ops.items

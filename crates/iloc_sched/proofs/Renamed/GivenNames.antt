@@ -5,10 +5,11 @@ use Rattle.std.specs.List.{list_any}
 use Rattle.std.proofs.lemmas.List.Folds.{list_any-append}
 use Rattle.iloc_ops.specs.declared.op.Reg.{Reg}
 use Rattle.iloc_meaning.proofs.Cases.{by_bool}
-use Rattle.iloc_sched.specs.Renaming.{Source, is_source, struck, place_of}
-use Rattle.iloc_sched.specs.Renaming.Source.{Start, Result}
-use Rattle.iloc_sched.specs.Steps.Renaming.NamingWalk.{Stands, also, also_all, number_of, Follows, NamesNext}
-use Rattle.iloc_sched.proofs.Renamed.Sources.{is_source-refl, is_source-true, is_source-false, stands_left, stands_right}
+use Rattle.iloc_rules.specs.Renaming.{Source, is_source, struck, place_of}
+use Rattle.iloc_rules.specs.Renaming.Source.{Start, Result}
+use Rattle.iloc_sched.specs.Steps.Renaming.NamingWalk.{also, also_all, number_of, Follows, NamesNext}
+use Rattle.iloc_rules.specs.Steps.Stands.{Stands}
+use Rattle.iloc_rules.proofs.Renamed.Sources.{is_source-refl, is_source-true, is_source-false, stands_left, stands_right}
 
 abbrev unless : Bool → Source → List Source
 unless b s = if b then [] else s ∷ []

@@ -7,15 +7,12 @@ use Rattle.iloc_ops.specs.declared.op.Op.{Op}
 use Rattle.iloc_ops.specs.declared.op.Op.TheVariants.{Nop}
 use Rattle.iloc_ops.specs.Registers.{used, defined}
 use Rattle.iloc_meaning.specs.Trace.{op_at}
-use Rattle.iloc_sched.specs.Renaming.{Source, source, own_source, mentions, mentions_before, numbering, place_of, name_of}
-use Rattle.iloc_sched.specs.Steps.Renaming.NamingWalk.{Stands, also, also_all, numbering_with}
-use Rattle.iloc_sched.specs.Steps.Members.{In}
-use Rattle.iloc_sched.proofs.Renamed.Sources.{is_source-refl, stands_left, stands_right}
+use Rattle.iloc_rules.specs.Renaming.{Source, source, own_source, mentions, mentions_before, numbering, place_of, name_of}
+use Rattle.iloc_sched.specs.Steps.Renaming.NamingWalk.{also, also_all, numbering_with}
+use Rattle.iloc_rules.specs.Steps.Stands.{Stands}
+use Rattle.iloc_rules.specs.Steps.Members.{In}
+use Rattle.iloc_rules.proofs.Renamed.Sources.{is_source-refl, stands_left, stands_right}
 use Rattle.iloc_sched.proofs.Renamed.GivenNames.{struck_more, place_kept}
-
-pub map_same : {X Y : Type 0} (f g : X → Y) (xs : List X) → ((x : X) → In xs x → f x ≡ g x) → map f xs ≡ map g xs
-map_same f g [] same = refl
-map_same f g (x ∷ xs) same = rw (same x (inl refl), map_same f g xs (λ y there. same y (inr there))) refl
 
 -- looking back does not see an operation that comes later
 pub op_at_kept : (done : List Op) (op : Op) (i : ℕ) → i < length done → op_at (done ++ op ∷ []) i ≡ op_at done i

@@ -13,14 +13,16 @@ use Rattle.iloc_ops.specs.Operands.{operands_in}
 use Rattle.iloc_ops.specs.Registers.{used, defined, used_in, defined_in, renumbered, with_registers}
 use Rattle.iloc_ops.proofs.Renaming.{with_registers-same}
 use Rattle.iloc_meaning.specs.Trace.{op_at, is_register}
-use Rattle.iloc_sched.specs.Renaming.{Source, is_source, source, own_source, numbering, name_of, renamed_op, renamed_by, is_nop, without_nops, renamed}
-use Rattle.iloc_sched.specs.Renaming.Source.{Result}
-use Rattle.iloc_sched.specs.Steps.Renaming.NamingWalk.{Stands, also, also_all, Follows, NamesNext, NamesUse, NamesDefinition, Named, numbering_with, UsesNamed, NextNamed, NamesAll, next_renamed}
-use Rattle.iloc_sched.specs.Steps.Members.{In}
-use Rattle.iloc_sched.proofs.Basics.Members.{in_map}
-use Rattle.iloc_sched.proofs.Renamed.MentionedSources.{use_numbered, definition_numbered, length-renamed_by}
+use Rattle.iloc_rules.specs.Renaming.{Source, is_source, source, own_source, numbering, name_of, renamed_op, renamed_by, is_nop, without_nops, renamed}
+use Rattle.iloc_rules.specs.Renaming.Source.{Result}
+use Rattle.iloc_sched.specs.Steps.Renaming.NamingWalk.{also, also_all, Follows, NamesNext, NamesUse, NamesDefinition, Named, numbering_with, UsesNamed, NextNamed, NamesAll, next_renamed}
+use Rattle.iloc_rules.specs.Steps.Stands.{Stands}
+use Rattle.iloc_rules.specs.Steps.Members.{In}
+use Rattle.iloc_rules.proofs.Basics.Members.{in_map}
+use Rattle.iloc_rules.proofs.Renamed.MentionedSources.{use_numbered, definition_numbered, length-renamed_by}
 use Rattle.iloc_sched.proofs.Renamed.GivenNames.{place_new, define_new}
-use Rattle.iloc_sched.proofs.Renamed.OneMoreOperation.{map_same, op_at_kept, op_at_last, source_kept, length_more, also_all-append, numbering_more, name_also_all, used_stands}
+use Rattle.iloc_sched.proofs.Renamed.OneMoreOperation.{op_at_kept, op_at_last, source_kept, length_more, also_all-append, numbering_more, name_also_all, used_stands}
+use Rattle.iloc_rules.proofs.Basics.Members.{map_same}
 
 -- before the uses of the next operation
 pub uses_begin : (done : List Op) (given : ℕ) (current : Reg → Option ℕ) → Named done given current

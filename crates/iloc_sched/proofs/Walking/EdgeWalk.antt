@@ -106,7 +106,9 @@ moves graph w f i x c p t unmet' earliest' bucket' is waits there from_i now at_
           (λ same. subst (λ k. unmet' k ≡ count_from (without waits.is_unmet x) (graph.start k)
           (graph.start (k + 1) - graph.start k)) (sym same) (at_unmet ∙ omega arith))
           (λ apart. other_unmet k apart ∙ others_same graph w f i x is waits there from_i k within apart);
-      ahead = grind (arith, previous_below, without_other);
+      ahead = λ y below same up.
+          let less : y < x = previous_below graph is x y there up in
+          without_other waits.is_unmet x y (omega arith) ∙ waits.ahead y below same (omega arith);
       stuck = λ y within yes. by_eq y x
           (λ same. not_true (without waits.is_unmet x y)
           (subst (λ a. without waits.is_unmet x a ≡ false) (sym same) (without_it waits.is_unmet x)) yes)
@@ -126,14 +128,38 @@ moves graph w f i x c p t unmet' earliest' bucket' is waits there from_i now at_
           ))
           (λ apart.
           let h = waits.past y within (sym (without_other waits.is_unmet x y apart) ∙ no) in
-          grind arith);
+          let le : h.0 + graph.delay y ≤ w.earliest (graph.to y) = h.2 in (
+            h.0,
+            h.1,
+            by_eq (graph.to y) j
+                (λ same.
+                let e : earliest' (graph.to y) ≡ t = ap earliest' same ∙ at_earliest in
+                let o : w.earliest (graph.to y) ≡ w.earliest j = ap w.earliest same in
+                omega arith)
+                (λ other.
+                let e : earliest' (graph.to y) ≡ w.earliest (graph.to y) = other_earliest (graph.to y) other in
+                omega arith),
+          ));
       reached = λ k within. by_eq k j
           (λ same. let at_k : earliest' k ≡ t = ap earliest' same ∙ at_earliest in
           by_lt (w.earliest j) (c + graph.delay x)
           (λ later. inr (x, c, there, sym same, issued_x, omega arith))
-          (grind arith))
-          (grind arith);
-      complete = λ k u within was. grind arith;
+          (λ sooner.
+          let o : w.earliest k ≡ w.earliest j = ap w.earliest same in
+          let e : earliest' k ≡ w.earliest k = omega arith in
+          elim (waits.reached k within) [
+            | inl none ↦ inl (e ∙ none)
+            | inr h ↦ inr (h.0, h.1, h.2, h.3, h.4, e ∙ h.5)
+          ]))
+          (λ apart.
+          let e : earliest' k ≡ w.earliest k = other_earliest k apart in
+          elim (waits.reached k within) [
+            | inl none ↦ inl (e ∙ none)
+            | inr h ↦ inr (h.0, h.1, h.2, h.3, h.4, e ∙ h.5)
+          ]);
+      complete = λ k u within was. by_eq k j
+          (λ same. absurd (waiting u (ap w.issued (sym same) ∙ was)))
+          (λ apart. other_unmet k apart ∙ waits.complete k u within was);
       times = waits.times;
       waits = λ k within none all late_k. by_eq k j
           (λ same. let at_k : earliest' k ≡ t = ap earliest' same ∙ at_earliest in

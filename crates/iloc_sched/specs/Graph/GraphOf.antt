@@ -2,7 +2,7 @@
 use Rattle.std.specs.Prelude.{List}
 use Rattle.iloc_ops.specs.declared.op.Op.{Op}
 use Rattle.iloc_timed.specs.declared.latencies.Latencies.{Latencies}
-use Rattle.iloc_sched.specs.Renaming.{renamed}
+use Rattle.iloc_rules.specs.Renaming.{renamed}
 
 -- renamed operations, and how long they take
 pub record GraphOf : Type 0 where

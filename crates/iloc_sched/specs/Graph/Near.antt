@@ -5,7 +5,7 @@ use Rattle.iloc_meaning.specs.Trace.{op_at}
 use Rattle.iloc_timed.specs.declared.latencies.Latencies.{Latencies}
 use Rattle.iloc_timed.specs.Kinds.{kind, is_store, is_output}
 use Rattle.iloc_timed.specs.Latency.{latency}
-use Rattle.iloc_sched.specs.Delays.{uses_result, memory_delays, delays}
+use Rattle.iloc_rules.specs.Delays.{uses_result, memory_delays, delays}
 
 -- whether k takes the place of i for what comes later: an output takes that of an output, a store that of any other
 abbrev pub takes_over : Op → Op → Bool

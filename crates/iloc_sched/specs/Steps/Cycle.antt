@@ -1,6 +1,5 @@
 -- How one cycle after another is filled.
 pub mod Calendar
-pub mod Choosing
 pub mod Classes
 pub mod Counting
 pub mod Opening

@@ -12,10 +12,8 @@ use crate::cycle::words::{
     take_out_if,
 };
 use iloc_ops::{MAX_OPS, NoMemory};
+use iloc_rules::LONGEST_DELAY;
 use std::alloc::Global;
-
-/// No delay is longer, since no latency is.
-pub const LONGEST_DELAY: usize = 16;
 
 // More than the longest delay, so the operations of one bucket become ready at the same cycle.
 const BUCKETS: usize = 2 * LONGEST_DELAY;
@@ -37,7 +35,7 @@ const OF_REST: usize = SETS - 1;
 
 /// Sets of ranks. Where one word a set is enough there is no summary: with one, blocks of fifteen operations take 64 instructions
 /// more for each of them.
-#[derive(Debug, Drop)]
+#[derive(Drop)]
 pub struct Calendar {
     words: Vec<u64>,
     /// By bucket a bit for each of its words: whether it has any. By class a bit for each word that may have what is ready and

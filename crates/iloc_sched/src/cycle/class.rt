@@ -4,7 +4,7 @@ ghost use Rattle.std.specs.Prelude.{◌≡◌, ◌<◌};
 use iloc_timed::Kind;
 
 /// A class of operations. Of a class that isn't the rest at most one is issued in a cycle.
-#[derive(Clone, Copy, Debug)]
+#[derive(Clone, Copy)]
 pub enum Class {
     /// Loads and stores, which need unit 0.
     Memory,

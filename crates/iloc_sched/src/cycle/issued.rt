@@ -7,7 +7,7 @@ use std::marker::Model;
 
 /// By operation the cycle at which it was issued, for the proofs alone: it takes no memory, and its methods do nothing at run
 /// time.
-#[derive(Debug, Drop)]
+#[derive(Drop)]
 pub struct Issued {
     pub ghost cycles: { List (Option ℕ) },
 }

@@ -12,7 +12,7 @@ const COUNTED: usize = 16;
 
 /// The operations by rank, and the rank of each. Lists only grow, so they may have numbers more behind those: to fill them with
 /// zeros for each block takes 0.25 mispredicted branches and 8 instructions for each operation of a block of ten.
-#[derive(Debug, Drop)]
+#[derive(Drop)]
 pub struct Order {
     pub by_rank: Vec<u32>,
     pub ranks: Vec<u32>,

@@ -7,15 +7,16 @@ ghost use Rattle.std.specs.Prelude.{ℕ, false, ◌≡◌, ◌+◌, ◌^◌, ◌
 ghost use Rattle.iloc_sched.specs.Steps.Cycle.Calendar.{has};
 ghost use Rattle.iloc_sched.specs.Steps.Cycle.SoFar.{IsPlan};
 
-use crate::cycle::calendar::{Calendar, LONGEST_DELAY};
+use crate::cycle::calendar::Calendar;
 use crate::cycle::class::Class;
 use crate::cycle::issued::Issued;
 use crate::cycle::plan::Plan;
 use iloc_ops::NoMemory;
+use iloc_rules::LONGEST_DELAY;
 use std::alloc::Global;
 
 /// The state of an operation while a schedule is made.
-#[derive(Clone, Copy, Debug)]
+#[derive(Clone, Copy)]
 struct OperationState {
     /// How many edges into it there are whose sources aren't issued.
     unmet: u32,
@@ -24,7 +25,7 @@ struct OperationState {
 }
 
 /// The states of all operations.
-#[derive(Debug, Drop)]
+#[derive(Drop)]
 pub struct Waiting {
     states: Vec<OperationState>,
     /// When each was issued, for the proofs alone.

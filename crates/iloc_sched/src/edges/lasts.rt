@@ -11,7 +11,7 @@ use iloc_timed::Kind;
 use std::alloc::Global;
 
 /// The last definitions, store, output and loads before an operation.
-#[derive(Debug, Drop)]
+#[derive(Drop)]
 pub struct Lasts {
     /// By register the last operation that defines it.
     pub definers: ByRegister,

@@ -6,7 +6,7 @@ ghost use Rattle.iloc_timed.specs.declared.kind.Kind.TheVariants.{Store as Store
 use iloc_timed::Kind;
 
 /// How many operations of each kind that memory and outputs order come later.
-#[derive(Clone, Copy, Debug)]
+#[derive(Clone, Copy)]
 pub struct Later {
     loads: u32,
     stores: u32,

@@ -2,7 +2,7 @@
 ghost use Rattle.std.specs.Prelude.{ℕ, ◌≡◌, ◌<◌, ◌+◌, ◌^◌, length, map, slice_index, replicate, count_ones, OnOk};
 ghost use Rattle.std.specs.Int.{bit_at};
 ghost use Rattle.std.specs.List.{range_with_len};
-ghost use Rattle.iloc_sched.specs.Heuristics.{descendants};
+ghost use Rattle.iloc_rules.specs.Heuristics.{descendants};
 ghost use Rattle.iloc_sched.specs.Steps.Ranking.Dependents.{AreMarked};
 ghost use Rattle.iloc_sched.specs.Steps.Edges.SoundGraph.{IsSound};
 

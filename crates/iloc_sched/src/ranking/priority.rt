@@ -1,7 +1,7 @@
 //! The longest chains of delays from operations.
 ghost use Rattle.std.specs.Prelude.{◌≡◌, map, OnOk};
 ghost use Rattle.iloc_timed.specs.Latency.{latency, latency_of};
-ghost use Rattle.iloc_sched.specs.Priority.{priorities};
+ghost use Rattle.iloc_rules.specs.Priority.{priorities};
 ghost use Rattle.iloc_sched.specs.Steps.Edges.SoundGraph.{IsSound};
 
 use crate::tables::Tables;

@@ -1,11 +1,11 @@
 //! The longest chain of delays through each operation: what is left to the longest of all is the operation's slack.
 ghost use Rattle.std.specs.Prelude.{ℕ, ◌≡◌, ◌<◌, ◌+◌, ◌^◌, length, map, slice_index, OnOk};
 ghost use Rattle.std.specs.List.{range_with_len};
-ghost use Rattle.iloc_sched.specs.Heuristics.{through};
+ghost use Rattle.iloc_rules.specs.Heuristics.{through};
 ghost use Rattle.iloc_sched.specs.Steps.Edges.SoundGraph.{IsSound};
 
-use crate::lower_bound::starts::fill_starts;
 use crate::ranking::priority::fill_chains;
+use crate::ranking::starts::fill_starts;
 use crate::tables::Tables;
 use iloc_ops::NoMemory;
 use std::alloc::Global;

@@ -1,15 +1,15 @@
 //! How many operations wait for each directly.
 ghost use Rattle.std.specs.Prelude.{ℕ, ◌≡◌, ◌≤◌, ◌<◌, ◌+◌, ◌*◌, if◌then◌else◌, length, map, slice_index, replicate};
 ghost use Rattle.std.specs.List.{range_with_len};
-ghost use Rattle.iloc_sched.specs.Heuristics.{successors};
+ghost use Rattle.iloc_rules.specs.Heuristics.{successors};
 ghost use Rattle.iloc_sched.specs.Steps.Edges.SoundGraph.{IsSound};
 ghost use Rattle.iloc_sched.specs.Steps.Ranking.Successors.{waits_by_kind, waits_by_use, adds_one};
 ghost use Rattle.iloc_sched.specs.Steps.Views.{graph_of};
 
-use crate::edges::delay_pairs::{keeps_order, reads_stored};
 use crate::edges::later::Later;
 use crate::tables::Tables;
 use iloc_ops::MAX_OPS;
+use iloc_rules::{keeps_order, reads_stored};
 use iloc_timed::Kind;
 
 /// Whether an operation of the second kind waits for each earlier one of the first.

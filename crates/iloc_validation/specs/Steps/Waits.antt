@@ -7,7 +7,7 @@ use Rattle.iloc_timed.specs.declared.kind.Kind.TheVariants as K
 use Rattle.iloc_timed.specs.declared.latencies.Latencies.{Latencies}
 use Rattle.iloc_timed.specs.Kinds.{kind}
 use Rattle.iloc_timed.specs.Latency.{latency_of}
-use Rattle.iloc_sched.specs.Delays.{reads_stored, keeps_order, when}
+use Rattle.iloc_rules.specs.Delays.{reads_stored, keeps_order, when}
 use Rattle.iloc_validation.specs.declared.verification.waits.Waits.{Waits}
 
 -- the delays by memory and outputs that an operation of a kind puts on a later one of another

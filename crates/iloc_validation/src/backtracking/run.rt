@@ -8,7 +8,7 @@ use iloc_ops::NoMemory;
 use std::alloc::Global;
 
 /// What the search does next.
-#[derive(Clone, Copy, Debug)]
+#[derive(Clone, Copy)]
 enum Step {
     /// Makes a pair that follows.
     Follow,
@@ -21,7 +21,7 @@ enum Step {
 }
 
 /// How far the search has looked for readers without a partner.
-#[derive(Clone, Copy, Debug)]
+#[derive(Clone, Copy)]
 struct Looked {
     /// How many pairs have none.
     pairs: usize,
@@ -30,7 +30,7 @@ struct Looked {
 }
 
 /// A partner for a reader, which can be taken back.
-#[derive(Clone, Copy, Debug)]
+#[derive(Clone, Copy)]
 struct Choice {
     /// What the partner is to be like; the operation is the reader of the block.
     wanted: Reader,

@@ -32,7 +32,7 @@ fn label_colour(op: &Op) -> u64
 }
 
 /// How many stores and outputs there are so far, modulo 2⁶⁴.
-#[derive(Clone, Copy, Debug)]
+#[derive(Clone, Copy)]
 pub(crate) struct Places {
     stores: u64,
     outputs: u64,

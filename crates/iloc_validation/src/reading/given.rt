@@ -2,7 +2,7 @@
 ghost use Rattle.std.specs.Prelude.{◌≡◌, ◌<◌, ℕ, length, IfOk};
 ghost use Rattle.iloc_ops.specs.Registers.{used};
 ghost use Rattle.iloc_meaning.specs.Trace.{op_at};
-ghost use Rattle.iloc_sched.specs.Renaming.{without_nops};
+ghost use Rattle.iloc_rules.specs.Renaming.{without_nops};
 ghost use Rattle.iloc_validation.specs.ByTheBook.{given};
 ghost use Rattle.iloc_validation.specs.Readings.{sources_of, sources_at};
 

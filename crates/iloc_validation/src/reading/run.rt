@@ -12,7 +12,7 @@ use iloc_timed::{Lands, Latencies, MAX_ROWS, Wheel, latency};
 use std::alloc::Global;
 
 /// A result on its way to a register.
-#[derive(Clone, Copy, Debug)]
+#[derive(Clone, Copy)]
 pub(crate) struct Arrival {
     pub register: Reg,
     pub op: usize,

@@ -11,7 +11,7 @@ use iloc_timed::{Kind, Latencies, MAX_ROWS};
 use std::alloc::Global;
 
 /// From which cycle on memory and outputs let the next operation of a block be issued, by its kind.
-#[derive(Clone, Copy, Debug)]
+#[derive(Clone, Copy)]
 pub(crate) struct Waits {
     load: usize,
     store: usize,

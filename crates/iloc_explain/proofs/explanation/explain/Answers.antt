@@ -1,8 +1,8 @@
 use Rattle.std.proofs.Common.{◌<◌, ◌≤◌, length, ap, arith, ◌∙◌, ◌≡◌, ℕ, zero, suc, ◌+◌, List, [], ◌∷◌, ◌++◌, length-append, get_or, Some, refl}
 use Rattle.std.specs.Prelude.{slice_index, slice_get}
-use Rattle.iloc_sched.specs.declared.cycle.calendar.TheConstants.{LONGEST_DELAY}
-use Rattle.iloc_sched.proofs.PriorityValues.Longest.{length-priorities}
-use Rattle.iloc_sched.proofs.PriorityValues.Starts.{length-starts}
+use Rattle.iloc_rules.specs.declared.delay_pairs.TheConstants.{LONGEST_DELAY}
+use Rattle.iloc_rules.proofs.PriorityValues.Longest.{length-priorities}
+use Rattle.iloc_rules.proofs.PriorityValues.Starts.{length-starts}
 use Rattle.iloc_timed.specs.Rows.{row_at, issue_cycle, IsTable}
 use Rattle.iloc_explain.proofs.LatestOnes.{none_latest, one_more_latest}
 use Rattle.std.proofs.lemmas.List.{get_or_default}
@@ -13,7 +13,7 @@ use Rattle.iloc_timed.specs.declared.row.Row.{Row}
 use Rattle.iloc_timed.specs.Latency.{latency}
 use Rattle.iloc_timed.proofs.Arrivals.{issued_within}
 use Rattle.iloc_meaning.specs.Trace.{op_at}
-use Rattle.iloc_sched.specs.LowerBound.Starts.{start}
+use Rattle.iloc_rules.specs.Starts.{start}
 use Rattle.iloc_explain.specs.declared.explanation.Explained.{Explained}
 use Rattle.iloc_explain.specs.declared.latest.Latest.{Latest}
 use Rattle.iloc_explain.specs.Explained.{IsExplained, slack_in, unit_of}

@@ -4,15 +4,16 @@ use Rattle.iloc_ops.specs.declared.file.Block.{Block}
 use Rattle.iloc_timed.specs.declared.latencies.Latencies.{Latencies}
 use Rattle.iloc_timed.specs.Schedule.{Table}
 use Rattle.iloc_rows.specs.declared.proposal.Proposed.{Proposed}
-use Rattle.iloc_sched.specs.declared.ranking.heuristic.Heuristic.{Heuristic}
-use Rattle.iloc_judge.specs.declared.explained.ExplainedRows.{ExplainedRows}
-use Rattle.iloc_judge.specs.RowsExplained.{IsRowsExplanation}
+use Rattle.iloc_rules.specs.declared.heuristic.Heuristic.{Heuristic}
+use Rattle.iloc_farm.specs.declared.commands.explain.rows.explained.ExplainedRows.{ExplainedRows}
+use Rattle.iloc_farm.specs.Commands.Explain.Rows.Explained.{IsRowsExplanation}
 use Rattle.iloc_farm.specs.Listing.{block_head, total_of}
 use Rattle.iloc_farm.specs.Listing.Rows.{ListsRows}
 use Rattle.iloc_farm.specs.Schedules.{IsTheGreedy}
 use Rattle.iloc_farm.specs.declared.commands.Finding.{Finding}
 use Rattle.iloc_args.specs.declared.request.Request.{Request}
 use Rattle.iloc_rows.specs.EitherSlot.{placed}
+pub mod Explained
 
 -- The entry of block k and its proposal: the block's number and its name, and what explains the proposal, beside the block's
 -- greedy schedule.

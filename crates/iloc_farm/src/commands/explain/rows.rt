@@ -2,14 +2,16 @@
 ghost use Rattle.std.specs.Prelude.{◌≡◌, ◌≤◌, ◌<◌, ◌^◌, length, sum_by};
 ghost use Rattle.std.specs.List.{All};
 ghost use Rattle.iloc_ops.specs.Limits.{MAX_BLOCKS};
-ghost use Rattle.iloc_judge.specs.declared.explained.ExplainedRows.{ExplainedRows as explained_rows};
+ghost use Rattle.iloc_farm.specs.declared.commands.explain.rows.explained.ExplainedRows.{ExplainedRows as explained_rows};
 ghost use Rattle.iloc_farm.specs.Steps.Limits.{most_proposed_cycles};
+
+mod explained;
 
 use crate::commands::Finding;
 use crate::listing::{push_block_head, push_total};
 use crate::rows::RowLister;
+use explained::{ExplainedRows, KnownBlock, push_rows_explanation};
 use iloc_args::Request;
-use iloc_judge::{ExplainedRows, Task, push_rows_explanation};
 use iloc_ops::{Block, NoMemory};
 use iloc_rows::Proposal;
 use iloc_sched::{Graph, Scheduler};
@@ -83,14 +85,13 @@ impl RowLister for RowsExplainer {
         let ours = self.scheduler.lend_as(&self.graph, priority)?;
         push_block_head(text, number, block.name.as_ref())?;
         text.push(b'\n')?;
-        let task = Task {
+        let known = KnownBlock {
             block,
             graph: &self.graph,
             ours: &ours,
-            sought: None,
             latencies,
         };
-        let found = push_rows_explanation(alloc, text, &task, proposal, priority)?;
+        let found = push_rows_explanation(alloc, text, &known, proposal, priority)?;
         self.scheduler.take_back(ours);
         Ok(found)
     }

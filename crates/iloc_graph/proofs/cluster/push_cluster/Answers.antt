@@ -1,7 +1,7 @@
 use Rattle.std.proofs.lemmas.Grind.{common_steps}
 use Rattle.std.proofs.Common.{arith}
-use Rattle.iloc_sched.proofs.PriorityValues.Longest.{length-priorities}
-use Rattle.iloc_sched.proofs.Renamed.MentionedSources.{length-renamed_by}
+use Rattle.iloc_rules.proofs.PriorityValues.Longest.{length-priorities}
+use Rattle.iloc_rules.proofs.Renamed.MentionedSources.{length-renamed_by}
 use Rattle.iloc_graph.proofs.Lines.{cluster_joined}
 use Rattle.iloc_graph.proofs.cluster.push_cluster.Goals as goal
 

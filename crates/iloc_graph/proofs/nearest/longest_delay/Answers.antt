@@ -1,10 +1,10 @@
 use Rattle.std.proofs.lemmas.Grind.{common_steps}
 use Rattle.std.proofs.Common.{fold, max, ◌≡◌, ℕ, ◌≤◌, List, arith}
 use Rattle.std.proofs.lemmas.List.{take_all}
-use Rattle.iloc_sched.specs.Graph.Pairs.{rising}
-use Rattle.iloc_sched.specs.Steps.Members.{In}
-use Rattle.iloc_sched.proofs.Basics.Maxima.{fold_max_each, fold_max_reached}
-use Rattle.iloc_sched.proofs.DelayPairs.RisingDelays.{from_rising, in_rising}
+use Rattle.iloc_rules.specs.Pairs.{rising}
+use Rattle.iloc_rules.specs.Steps.Members.{In}
+use Rattle.iloc_rules.proofs.Basics.Maxima.{fold_max_each, fold_max_reached}
+use Rattle.iloc_rules.proofs.DelayPairs.RisingDelays.{from_rising, in_rising}
 use Rattle.iloc_graph.proofs.nearest.longest_delay.Goals as goal
 
 -- The longest of delays in order is the longest of them.

@@ -1,6 +1,6 @@
 use Rattle.std.specs.Prelude.{◌≡◌, fold, max, take}
-use Rattle.iloc_sched.specs.Delays.{delays}
-use Rattle.iloc_sched.specs.Graph.Pairs.{rising}
+use Rattle.iloc_rules.specs.Delays.{delays}
+use Rattle.iloc_rules.specs.Pairs.{rising}
 use Rattle.iloc_graph.proofs.nearest.longest_delay.Given as goal
 
 abbrev pub invariant-loop-delay : goal.invariant-loop-delay

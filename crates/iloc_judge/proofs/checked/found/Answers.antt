@@ -1,7 +1,5 @@
-use Rattle.std.proofs.Common.{ap, refl, ◌∙◌}
+use Rattle.std.proofs.Common.{refl}
 use Rattle.iloc_timed.proofs.Standing.{numbered_from}
-use Rattle.iloc_sched.specs.Graph.GraphOf.{GraphOf}
-use Rattle.iloc_sched.specs.LowerBound.Least.{least_of}
 use Rattle.iloc_judge.proofs.checked.found.Goals as goal
 
 pub cycles_of-requires-clause-numbered : goal.cycles_of-requires-clause-numbered
@@ -11,5 +9,4 @@ cycles_of-requires-clause-numbered c =
 
 pub returns : goal.returns
 returns c =
-    let bound = c.in_ok-least.ensures ∙ ap (λ (g : GraphOf). least_of g.latencies g.ops) c.args.task.now.drawn in
-    rw (c.cycles_of.ensures, c.ops.ensures, c.rows.ensures.rows, c.cycles.ensures, bound) refl
+    rw (c.cycles_of.ensures, c.ops.ensures, c.rows.ensures.rows, c.cycles.ensures, c.args.task.now.is_least) refl

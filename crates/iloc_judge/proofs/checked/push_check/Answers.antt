@@ -18,13 +18,13 @@ returns-clause-entry c =
     let options = c.args.judging.now.options in
     let ops = c.into_schedule-theirs.ensures.ops in
     let rows = c.into_schedule-theirs.ensures.rows in
-    let checked : Checked = record c.in_ok-found.found { kind = c.kind_of.result } in (
+    let checked : Checked = record c.found-found.result { kind = c.kind_of.result } in (
       entry_as options.lawful options.form p.claimed p.ops p.rows c.in_ok-verdict.verdict checked,
       record {
         verdict = c.in_ok-verdict.verdict;
         right = rw (ops, rows) at c.in_ok-verdict.ensures.right;
         own = rw (ops, rows) at c.in_ok-verdict.ensures.own;
-        is_found = rw (c.kind_of.ensures, c.in_ok-found.ensures, c.in_ok-keeps_operations.ensures, c.ops.ensures) refl;
+        is_found = rw (c.kind_of.ensures, c.found-found.ensures, c.in_ok-keeps_operations.ensures, c.ops.ensures) refl;
         listed = refl;
       },
       rw (c.ops-ops.ensures.ops, c.rows-rows.ensures.rows, ops, rows, c.claimed-claimed.ensures) at c.in_ok-push_entry.ensures,

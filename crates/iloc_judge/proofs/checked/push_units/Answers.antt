@@ -9,13 +9,13 @@ returns-clause-entry c =
     let p = c.args.proposal.now in
     let task = c.args.task.now in
     let options = c.args.judging.now.options in (
-      entry_as options.lawful options.form p.claimed p.ops p.rows (Units c.args.row) c.in_ok-checked.checked,
+      entry_as options.lawful options.form p.claimed p.ops p.rows (Units c.args.row) c.found-checked.result,
       record {
         verdict = Units c.args.row;
         right = c.requires.bad;
         own = λ same. absurd (own_rows_keep_units task.latencies.now task.block.now.ops task.ours.now.ops p.ops
             task.ours.now.rows p.rows c.args.row task.lawful c.rows-rows.ensures.in_range c.rows-rows.ensures.once same c.requires.bad);
-        is_found = rw (c.in_ok-checked.ensures, c.requires.keeps) refl;
+        is_found = rw (c.found-checked.ensures, c.requires.keeps) refl;
         listed = refl;
       },
       rw (c.ops-ops.ensures, c.rows-rows.ensures.rows, c.claimed.ensures) at c.in_ok-push_entry.ensures,

@@ -6,11 +6,11 @@ pub returns-clause-entry : goal.returns-clause-entry
 returns-clause-entry c =
     let p = c.args.proposal.now in
     let words = c.in_ok-words.words.items in (
-      unread_as c.args.form c.in_ok-checked.checked p.claimed c.args.unread.now words,
+      unread_as c.args.form c.found-checked.result p.claimed c.args.unread.now words,
       record {
         unread = c.args.unread.now;
         first = c.requires.first;
-        is_found = rw c.in_ok-checked.ensures refl;
+        is_found = rw c.found-checked.ensures refl;
         words = words;
         are_words = rw c.as_bytes.ensures at c.in_ok-words.ensures;
         listed = refl;

@@ -2,9 +2,9 @@ use Rattle.std.proofs.Common.{◌+◌, sym, subst₂, ◌∙◌, ◌≡◌, ◌�
 use Rattle.iloc_optimum.specs.Steps.Inside.{IsKept, count_inside}
 use Rattle.std.proofs.lemmas.List.{length-set}
 use Rattle.iloc_timed.specs.declared.kind.Kind.{Kind}
-use Rattle.iloc_sched.specs.declared.lower_bound.share.Share.{Share}
+use Rattle.iloc_bound.specs.declared.share.Share.{Share}
 use Rattle.iloc_optimum.specs.Timing.{Within, belongs}
-use Rattle.iloc_sched.specs.LowerBound.Shares.{width}
+use Rattle.iloc_bound.specs.Shares.{width}
 use Rattle.iloc_optimum.proofs.NarrowerWindows.{raised, lowered}
 use Rattle.iloc_optimum.proofs.FullCycles.{left_over}
 use Rattle.iloc_optimum.proofs.crowds.keep_out.Goals as goal

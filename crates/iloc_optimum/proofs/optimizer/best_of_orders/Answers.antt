@@ -1,5 +1,5 @@
 use Rattle.std.proofs.Common.{ap, ◌+◌, ◌∙◌, arith}
-use Rattle.iloc_sched.specs.LowerBound.Least.{least_of}
+use Rattle.iloc_rules.specs.Least.{least_of}
 use Rattle.iloc_optimum.proofs.Improvements.{best_of_one, best_of_more, best_of_all}
 use Rattle.iloc_optimum.proofs.optimizer.best_of_orders.Goals as goal
 

@@ -1,5 +1,5 @@
 use Rattle.std.proofs.Common.{◌+◌}
-use Rattle.iloc_sched.specs.Heuristics.Listed.{heuristics}
+use Rattle.iloc_rules.specs.Heuristics.Listed.{heuristics}
 use Rattle.iloc_optimum.proofs.Improvements.{IsBestOf}
 use Rattle.iloc_optimum.proofs.optimizer.best_of_orders.Given as goal
 

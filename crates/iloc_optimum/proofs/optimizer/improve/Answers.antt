@@ -1,7 +1,7 @@
 use Rattle.std.proofs.lemmas.Grind.{common_steps}
 use Rattle.std.proofs.Common.{◌≡◌, ◌≤◌, ◌+◌, sym, subst, arith}
 use Rattle.std.proofs.lemmas.List.{length-map, length-replicate}
-use Rattle.iloc_sched.proofs.PriorityValues.Tails.{length-tails}
+use Rattle.iloc_bound.proofs.TailParts.{length-tails}
 use Rattle.iloc_optimum.specs.Bound.{IsBound}
 use Rattle.iloc_optimum.specs.Found.{IsFound}
 use Rattle.iloc_optimum.specs.Optimum.{cycles_of}

@@ -13,10 +13,10 @@ use Rattle.iloc_ops.specs.declared.op.Reg.{Reg}
 use Rattle.iloc_ops.specs.declared.op.Op.{Op}
 use Rattle.iloc_timed.specs.declared.latencies.Latencies.{Latencies}
 use Rattle.iloc_timed.specs.declared.row.Row.{Row}
-use Rattle.iloc_sched.specs.Renaming.{Source, source}
-use Rattle.iloc_sched.specs.Renaming.Source.{Start, Result}
-use Rattle.iloc_sched.proofs.Basics.Slots.{issued_early}
-use Rattle.iloc_sched.proofs.Renamed.MentionedSources.{source_earlier}
+use Rattle.iloc_rules.specs.Renaming.{Source, source}
+use Rattle.iloc_rules.specs.Renaming.Source.{Start, Result}
+use Rattle.iloc_rules.proofs.Basics.Slots.{issued_early}
+use Rattle.iloc_rules.proofs.Renamed.MentionedSources.{source_earlier}
 use Rattle.iloc_validation.specs.declared.reading.sources.Sources.{Sources}
 use Rattle.iloc_validation.proofs.Issues.{numbers_from_issued}
 use Rattle.iloc_validation.proofs.LabelKeys.{same_constant, same_opcode}

@@ -11,7 +11,7 @@ use Rattle.iloc_sched.specs.declared.cycle.class.Class.{Class}
 use Rattle.iloc_sched.specs.declared.cycle.plan.Plan.{Plan}
 use Rattle.iloc_sched.specs.declared.cycle.waiting.Waiting.{Waiting}
 use Rattle.iloc_sched.specs.Steps.Cycle.Calendar.{has, offers, HasRoom}
-use Rattle.iloc_sched.specs.Steps.Cycle.Choosing.{IsChosenSoFar}
+use Rattle.iloc_rules.specs.Steps.Choosing.{IsChosenSoFar}
 use Rattle.iloc_sched.specs.Steps.Cycle.Classes.{class_of, excludes, place_of}
 use Rattle.iloc_sched.specs.Steps.Graph.{Graph, IsGraphOf}
 use Rattle.iloc_sched.specs.Steps.Cycle.Order.{AreRanks}

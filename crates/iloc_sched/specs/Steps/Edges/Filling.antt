@@ -3,7 +3,7 @@ use Rattle.std.specs.Prelude.{ℕ, ◌+◌, ◌*◌, ◌≡◌, ◌≤◌, List,
 use Rattle.iloc_ops.specs.declared.op.Op.{Op}
 use Rattle.iloc_timed.specs.Kinds.{kind}
 use Rattle.iloc_timed.specs.Latency.{latency}
-use Rattle.iloc_sched.specs.Renaming.{numbering, renamed_by}
+use Rattle.iloc_rules.specs.Renaming.{numbering, renamed_by}
 use Rattle.iloc_sched.specs.declared.edges.lasts.Lasts.{Lasts}
 use Rattle.iloc_sched.specs.declared.renaming.Names.{Names}
 use Rattle.iloc_sched.specs.declared.tables.Tables.{Tables}

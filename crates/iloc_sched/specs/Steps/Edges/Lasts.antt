@@ -8,11 +8,11 @@ use Rattle.iloc_meaning.specs.Trace.{op_at}
 use Rattle.iloc_timed.specs.declared.kind.Kind.{Kind}
 use Rattle.iloc_timed.specs.declared.kind.Kind.TheVariants as K
 use Rattle.iloc_timed.specs.Kinds.{kind, is_load, is_store, is_output}
-use Rattle.iloc_sched.specs.Renaming.{IsRenamed}
+use Rattle.iloc_rules.specs.Renaming.{IsRenamed}
 use Rattle.iloc_sched.specs.declared.by_register.ByRegister.{ByRegister}
 use Rattle.iloc_sched.specs.declared.edges.lasts.Lasts.{Lasts}
 use Rattle.iloc_sched.specs.Steps.Renaming.ByRegister.{number_at}
-use Rattle.iloc_sched.specs.Steps.Members.{In}
+use Rattle.iloc_rules.specs.Steps.Members.{In}
 use Rattle.iloc_sched.specs.Steps.Graph.{IsLast}
 
 -- operation j is noted for what it defines, all else is as it was

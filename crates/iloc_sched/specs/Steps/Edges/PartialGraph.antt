@@ -7,7 +7,7 @@ use Rattle.iloc_meaning.specs.Trace.{op_at}
 use Rattle.iloc_timed.specs.declared.latencies.Latencies.{Latencies}
 use Rattle.iloc_timed.specs.Latency.{latency}
 use Rattle.iloc_sched.specs.declared.edges.Edges.{Edges}
-use Rattle.iloc_sched.specs.Delays.{memory_delays, IsDelayPair}
+use Rattle.iloc_rules.specs.Delays.{memory_delays, IsDelayPair}
 use Rattle.iloc_sched.specs.Graph.Near.{IsNear, IsNearPair, NoneBetween}
 use Rattle.iloc_sched.specs.Steps.Graph.{Graph, IsLast}
 

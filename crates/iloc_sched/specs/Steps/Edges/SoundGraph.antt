@@ -3,7 +3,7 @@ use Rattle.std.specs.Prelude.{◌≡◌, List, map}
 use Rattle.iloc_ops.specs.declared.op.Op.{Op}
 use Rattle.iloc_timed.specs.Kinds.{kind}
 use Rattle.iloc_timed.specs.Latency.{latency}
-use Rattle.iloc_sched.specs.Renaming.{renamed}
+use Rattle.iloc_rules.specs.Renaming.{renamed}
 use Rattle.iloc_sched.specs.declared.tables.Tables.{Tables}
 use Rattle.iloc_sched.specs.Steps.Graph.{IsGraphOf}
 use Rattle.iloc_sched.specs.Steps.Views.{graph_of}

@@ -3,7 +3,7 @@ use Rattle.std.specs.Prelude.{ℕ, ◌+◌, ◌≡◌, ◌<◌, ◌≤◌, ◌�
 use Rattle.std.specs.Int.{bit_at}
 use Rattle.iloc_ops.specs.declared.op.Op.{Op}
 use Rattle.iloc_timed.specs.declared.latencies.Latencies.{Latencies}
-use Rattle.iloc_sched.specs.Heuristics.{depends_on}
+use Rattle.iloc_rules.specs.Heuristics.{depends_on}
 use Rattle.iloc_sched.specs.Steps.Graph.{Graph}
 
 -- operation j is operation k or depends on it

@@ -7,8 +7,8 @@ use Rattle.iloc_timed.specs.declared.kind.Kind.{Kind}
 use Rattle.iloc_timed.specs.declared.kind.Kind.TheVariants as K
 use Rattle.iloc_timed.specs.declared.latencies.Latencies.{Latencies}
 use Rattle.iloc_timed.specs.Kinds.{kind}
-use Rattle.iloc_sched.specs.Delays.{reads_stored, keeps_order}
-use Rattle.iloc_sched.specs.Heuristics.{waits_for, successors}
+use Rattle.iloc_rules.specs.Delays.{reads_stored, keeps_order}
+use Rattle.iloc_rules.specs.Heuristics.{waits_for, successors}
 use Rattle.iloc_sched.specs.declared.edges.later.Later.{Later}
 use Rattle.iloc_sched.specs.Steps.Graph.{Graph}
 

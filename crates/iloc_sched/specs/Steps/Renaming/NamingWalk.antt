@@ -1,15 +1,12 @@
 -- What a walk through a block keeps while it names registers.
-use Rattle.std.specs.Prelude.{ℕ, ◌+◌, ◌≡◌, ◌≢◌, ◌<◌, ◌⊎◌, true, if◌then◌else◌, List, [], ◌∷◌, ◌++◌, length, map, Option, Some, None}
+use Rattle.std.specs.Prelude.{ℕ, ◌+◌, ◌≡◌, ◌≢◌, ◌<◌, ◌⊎◌, if◌then◌else◌, List, [], ◌∷◌, ◌++◌, length, map, Option, Some, None}
 use Rattle.std.specs.List.{list_any}
 use Rattle.iloc_ops.specs.declared.op.Reg.{Reg}
 use Rattle.iloc_ops.specs.declared.op.Op.{Op}
 use Rattle.iloc_ops.specs.Registers.{used, defined, with_registers}
-use Rattle.iloc_sched.specs.Renaming.{Source, is_source, source, numbering, place_of, name_of, renamed_op}
-use Rattle.iloc_sched.specs.Renaming.Source.{Start, Result}
-
--- the source stands in the list
-abbrev pub Stands : List Source → Source → Type 0
-Stands sources s = list_any (is_source s) sources ≡ true
+use Rattle.iloc_rules.specs.Renaming.{Source, is_source, source, numbering, place_of, name_of, renamed_op}
+use Rattle.iloc_rules.specs.Renaming.Source.{Start, Result}
+use Rattle.iloc_rules.specs.Steps.Stands.{Stands}
 
 -- a numbering with one more source, if it is new
 abbrev pub also : List Source → Source → List Source

@@ -3,8 +3,8 @@ use Rattle.iloc_validation.proofs.UnderWayExcludes.{none_under_way}
 use Rattle.std.proofs.lemmas.Bool.{cases_lt}
 use Rattle.std.proofs.lemmas.Map.Steps.{le-length_from_below}
 use Rattle.iloc_ops.specs.declared.op.Op.{Op}
-use Rattle.iloc_sched.specs.Steps.Members.{In}
-use Rattle.iloc_sched.proofs.Basics.Members.{any_at}
+use Rattle.iloc_rules.specs.Steps.Members.{In}
+use Rattle.iloc_rules.proofs.Basics.Members.{any_at}
 use Rattle.iloc_validation.specs.ByTheBook.{ArePaired}
 use Rattle.iloc_validation.proofs.decision.is_excluded.Goals as goal
 

@@ -1,4 +1,4 @@
-use Rattle.iloc_sched.specs.Renaming.{without_nops}
+use Rattle.iloc_rules.specs.Renaming.{without_nops}
 use Rattle.iloc_validation.proofs.UnderWayExcludes.{none_under_way}
 use Rattle.iloc_validation.proofs.laws.what_is_under_way_excludes_by_the_book.Goals as goal
 

@@ -7,8 +7,8 @@ use Rattle.iloc_timed.specs.declared.latencies.Latencies.{Latencies}
 use Rattle.iloc_timed.specs.declared.row.Row.{Row}
 use Rattle.iloc_timed.specs.Rows.{IsTable}
 use Rattle.iloc_timed.specs.Schedule.{Table}
-use Rattle.iloc_sched.specs.Renaming.{renamed, without_nops}
-use Rattle.iloc_sched.proofs.Renamed.MentionedSources.{length-renamed_by}
+use Rattle.iloc_rules.specs.Renaming.{renamed, without_nops}
+use Rattle.iloc_rules.proofs.Renamed.MentionedSources.{length-renamed_by}
 use Rattle.iloc_validation.specs.declared.pairing.Pairing.{Pairing}
 use Rattle.iloc_validation.specs.OwnRows.{renumber, AreOwnRows}
 use Rattle.iloc_validation.specs.Decision.{IsScheduleBy}

@@ -3,8 +3,8 @@ use Rattle.std.specs.Prelude.{slice_index}
 use Rattle.iloc_ops.specs.declared.file.Block.{Block}
 use Rattle.iloc_timed.specs.declared.latencies.Latencies.{Latencies}
 use Rattle.iloc_sched.specs.Graph.GraphOf.{of_block}
-use Rattle.iloc_sched.specs.Heuristics.Listed.{heuristics}
-use Rattle.iloc_sched.specs.declared.ranking.heuristic.Heuristic.TheVariants.{Chain}
+use Rattle.iloc_rules.specs.Heuristics.Listed.{heuristics}
+use Rattle.iloc_rules.specs.declared.heuristic.Heuristic.TheVariants.{Chain}
 use Rattle.iloc_farm.specs.Schedules.{IsCount}
 use Rattle.iloc_farm.proofs.commands.compare.counts.Given as goal
 

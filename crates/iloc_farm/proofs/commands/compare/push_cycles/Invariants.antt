@@ -1,6 +1,6 @@
 use Rattle.std.proofs.Common.{◌≡◌, ◌++◌, take}
 use Rattle.std.specs.List.{flat_map}
-use Rattle.iloc_sched.specs.Heuristics.Listed.{heuristics}
+use Rattle.iloc_rules.specs.Heuristics.Listed.{heuristics}
 use Rattle.iloc_farm.specs.Commands.Compare.{column, cycles_by}
 use Rattle.iloc_farm.proofs.commands.compare.push_cycles.Given as goal
 

@@ -1,7 +1,7 @@
 use Rattle.std.proofs.Common.{◌≡◌, ◌++◌, codes, take}
 use Rattle.std.specs.List.{flat_map}
 use Rattle.iloc_args.specs.Priority.{priority_word}
-use Rattle.iloc_sched.specs.Heuristics.Listed.{heuristics}
+use Rattle.iloc_rules.specs.Heuristics.Listed.{heuristics}
 use Rattle.iloc_farm.proofs.commands.compare.push_names.Given as goal
 
 abbrev pub invariant-loop-heuristic : goal.invariant-loop-heuristic

@@ -1,6 +1,6 @@
 use Rattle.std.proofs.Common.{◌≡◌, ◌++◌, false, sum_by, take}
 use Rattle.std.specs.List.{flat_map}
-use Rattle.iloc_sched.specs.Heuristics.Listed.{heuristics}
+use Rattle.iloc_rules.specs.Heuristics.Listed.{heuristics}
 use Rattle.iloc_farm.specs.Commands.Compare.{column}
 use Rattle.iloc_farm.specs.Steps.Tallies.{counted}
 use Rattle.iloc_farm.proofs.commands.compare.push_sums.Given as goal

@@ -5,7 +5,7 @@ use Rattle.std.proofs.lemmas.List.{ext_get_or}
 use Rattle.std.proofs.lemmas.List.Sums.{count_by-le-length}
 use Rattle.std.proofs.lemmas.List.FromFn.{length-range_with_len, length-map-range_with_len, get_or-map-range_with_len}
 use Rattle.std.proofs.lemmas.Grind.{div_ceil_times}
-use Rattle.iloc_sched.specs.Heuristics.{depends_on, descendants}
+use Rattle.iloc_rules.specs.Heuristics.{depends_on, descendants}
 use Rattle.iloc_sched.specs.Steps.Ranking.Dependents.{AreMarked}
 use Rattle.iloc_sched.proofs.PriorityValues.DependentsCounted.{counted_more, counted_all}
 use Rattle.iloc_sched.proofs.ranking.descendants.count_descendants.Goals as goal

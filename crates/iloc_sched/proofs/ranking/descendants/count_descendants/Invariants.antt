@@ -1,7 +1,7 @@
 use Rattle.std.proofs.Common.{ℕ, ◌*◌, ◌≡◌, ◌<◌, length, get_or}
 use Rattle.std.specs.Prelude.{count_by}
 use Rattle.std.specs.List.{range_with_len}
-use Rattle.iloc_sched.specs.Heuristics.{depends_on}
+use Rattle.iloc_rules.specs.Heuristics.{depends_on}
 use Rattle.iloc_sched.proofs.ranking.descendants.count_descendants.Given as goal
 
 abbrev pub invariant-loop-chunk : goal.invariant-loop-chunk

@@ -1,7 +1,7 @@
 use Rattle.std.proofs.Common.{ap, sym, ◌∙◌}
 use Rattle.std.proofs.lemmas.Result.{on_ok_weaker}
 use Rattle.std.proofs.lemmas.Simd.{splat_is_map}
-use Rattle.iloc_sched.specs.Heuristics.{priorities_by}
+use Rattle.iloc_rules.specs.Heuristics.{priorities_by}
 use Rattle.iloc_sched.proofs.ranking.heuristic.fill_ranks.Goals as goal
 
 pub returns-in-Order : goal.returns-in-Order

@@ -1,10 +1,10 @@
 use Rattle.std.proofs.Common.{ℕ, ◌≡◌, ◌-◌, length, subst, arith}
 use Rattle.std.proofs.lemmas.List.{get_or_read}
-use Rattle.iloc_sched.specs.Priority.{priority}
+use Rattle.iloc_rules.specs.Priority.{priority}
 use Rattle.iloc_sched.specs.Steps.Chains.{ArePrioritiesFrom, AreRaised}
 use Rattle.iloc_sched.specs.Steps.Views.{graph_of}
 use Rattle.iloc_sched.proofs.PriorityValues.Found.{read_edge, raise_read, none_raised, priorities_found}
-use Rattle.iloc_sched.proofs.PriorityValues.Longest.{is_priority, priority_most}
+use Rattle.iloc_rules.proofs.PriorityValues.Longest.{is_priority, priority_most}
 use Rattle.iloc_sched.proofs.ranking.priority.fill_chains.Goals as goal
 
 pub loop-x-init : goal.loop-x-init

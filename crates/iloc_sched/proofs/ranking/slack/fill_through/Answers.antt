@@ -2,10 +2,10 @@ use Rattle.std.proofs.Common.{◌≡◌, ◌+◌, length, map, get_or, sym, ◌�
 use Rattle.std.specs.List.{range_with_len}
 use Rattle.std.proofs.lemmas.List.{ext_get_or}
 use Rattle.std.proofs.lemmas.List.FromFn.{length-map-range_with_len, get_or-map-range_with_len}
-use Rattle.iloc_sched.specs.LowerBound.Starts.{starts, start}
-use Rattle.iloc_sched.specs.Heuristics.{through}
-use Rattle.iloc_sched.proofs.PriorityValues.Longest.{length-priorities, priority_most}
-use Rattle.iloc_sched.proofs.PriorityValues.Starts.{length-starts, start_most}
+use Rattle.iloc_rules.specs.Starts.{starts, start}
+use Rattle.iloc_rules.specs.Heuristics.{through}
+use Rattle.iloc_rules.proofs.PriorityValues.Longest.{length-priorities, priority_most}
+use Rattle.iloc_rules.proofs.PriorityValues.Starts.{length-starts, start_most}
 use Rattle.iloc_sched.proofs.ranking.slack.fill_through.Goals as goal
 
 pub add_each-requires-clause-size : goal.add_each-requires-clause-size

@@ -3,7 +3,7 @@ use Rattle.std.specs.Global.{Vec}
 use Rattle.iloc_ops.specs.declared.op.Op.{Op}
 use Rattle.iloc_timed.specs.declared.row.Row.{Row}
 use Rattle.iloc_sched.specs.Graph.GraphOf.{GraphOf}
-use Rattle.iloc_sched.specs.Greedy.{IsGreedyBy}
+use Rattle.iloc_rules.specs.Greedy.{IsGreedyBy}
 use Rattle.iloc_sched.proofs.Choice.Scheduled.{handed_out, the_schedule}
 use Rattle.iloc_sched.proofs.scheduler.Scheduler.lend.Goals as goal
 

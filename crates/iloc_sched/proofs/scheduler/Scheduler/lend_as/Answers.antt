@@ -1,10 +1,10 @@
 use Rattle.std.proofs.Common.{ap, length, subst, sym, ◌∙◌}
 use Rattle.std.proofs.lemmas.Result.{IfOk-weaker}
 use Rattle.iloc_sched.specs.Graph.GraphOf.{GraphOf}
-use Rattle.iloc_sched.specs.Greedy.{IsGreedyBy}
-use Rattle.iloc_sched.specs.Heuristics.{priorities_by}
+use Rattle.iloc_rules.specs.Greedy.{IsGreedyBy}
+use Rattle.iloc_rules.specs.Heuristics.{priorities_by}
 use Rattle.iloc_sched.proofs.Choice.Scheduled.{the_schedule}
-use Rattle.iloc_sched.proofs.PriorityValues.Named.{length-priorities_by}
+use Rattle.iloc_rules.proofs.PriorityValues.Named.{length-priorities_by}
 use Rattle.iloc_sched.proofs.scheduler.Scheduler.lend_as.Goals as goal
 
 pub lend-lent-requires : goal.lend-lent-requires

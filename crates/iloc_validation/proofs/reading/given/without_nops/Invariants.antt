@@ -1,5 +1,5 @@
 use Rattle.std.proofs.Common.{◌≡◌, take}
-use Rattle.iloc_sched.specs.Renaming.{without_nops}
+use Rattle.iloc_rules.specs.Renaming.{without_nops}
 use Rattle.iloc_validation.proofs.reading.given.without_nops.Given as goal
 
 abbrev pub invariant-loop-op : goal.invariant-loop-op

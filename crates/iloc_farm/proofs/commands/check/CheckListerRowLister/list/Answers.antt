@@ -1,4 +1,5 @@
-use Rattle.std.proofs.Common.{ap, subst, sym}
+use Rattle.std.proofs.Common.{ap, subst, sym, ◌∙◌}
+use Rattle.iloc_rules.specs.Least.{least_of}
 use Rattle.iloc_sched.specs.Graph.GraphOf.{GraphOf}
 use Rattle.iloc_farm.specs.Commands.Check.{options_of}
 use Rattle.iloc_farm.specs.Commands.Optimize.{IsSoughtIf}
@@ -12,7 +13,7 @@ pub invariant_of-task : goal.invariant_of-task
 invariant_of-task c = record {
   few = c.requires.short;
   lawful = (c.in_ok-ours.ensures _ _ c.in_ok-refill.ensures.graph).greedy.lawful;
-  drawn = c.in_ok-refill.ensures.graph;
+  is_least = c.in_ok-least.ensures ∙ ap (λ (g : GraphOf). least_of g.latencies g.ops) c.in_ok-refill.ensures.graph;
 }
 
 pub returns-clause-listed : goal.returns-clause-listed

@@ -1,5 +1,5 @@
 use Rattle.std.proofs.Common.{◌≡◌, ◌≤◌, ◌*◌, sum_by, take}
-use Rattle.iloc_sched.specs.declared.ranking.heuristic.Heuristic.{Heuristic}
+use Rattle.iloc_rules.specs.declared.heuristic.Heuristic.{Heuristic}
 use Rattle.iloc_farm.specs.Commands.Compare.{place}
 use Rattle.iloc_farm.specs.Steps.Tallies.{counted}
 use Rattle.iloc_farm.proofs.commands.compare.Tally.sum.Given as goal

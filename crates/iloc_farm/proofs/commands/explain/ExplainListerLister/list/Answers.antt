@@ -5,17 +5,17 @@ use Rattle.iloc_explain.specs.Listing.{IsExplanation}
 use Rattle.iloc_farm.proofs.Listers.{explain_listed}
 use Rattle.iloc_farm.proofs.commands.explain.ExplainListerLister.list.Goals as goal
 
-pub push_explanation-requires-clause-graph : goal.push_explanation-requires-clause-graph
-push_explanation-requires-clause-graph c = ap (λ (g : GraphOf). g.ops) c.in_ok-refill.ensures.graph
+pub explain_by_graph-requires-clause-graph : goal.explain_by_graph-requires-clause-graph
+explain_by_graph-requires-clause-graph c = ap (λ (g : GraphOf). g.ops) c.in_ok-refill.ensures.graph
 
-pub push_explanation-requires-clause-names : goal.push_explanation-requires-clause-names
-push_explanation-requires-clause-names c =
+pub explain_by_graph-requires-clause-names : goal.explain_by_graph-requires-clause-names
+explain_by_graph-requires-clause-names c =
     (c.in_ok-schedule.ensures c.args.request.now.latencies c.args.block.now.ops c.in_ok-refill.ensures.graph).greedy.lawful.names
 
 pub returns-clause-listed : goal.returns-clause-listed
 returns-clause-listed c =
     let s = c.in_ok-schedule.schedule in
-    let explained = c.in_ok-push_explanation.ensures in
+    let explained = c.in_ok-explain_by_graph.ensures in
     explain_listed c.args.request.now c.args.number c.args.block.now c.args.text.now.items _ _ c.as_ref.ensures.value s
     (c.in_ok-schedule.ensures _ _ c.in_ok-refill.ensures.graph).greedy _ c.count_of-cycles.ensures explained.0
     (subst (λ (g : GraphOf). IsExplanation c.args.request.now.priority g.latencies c.args.block.now.ops s.ops s.rows s.ops

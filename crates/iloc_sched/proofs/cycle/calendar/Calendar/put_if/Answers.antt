@@ -1,4 +1,4 @@
-use Rattle.std.proofs.Common.{◌≡◌, ◌*◌, ◌/◌, ◌+◌, ◌%◌, ◌<◌, ◌≤◌, sym, subst, ◌∙◌, arith, eq-eqb}
+use Rattle.std.proofs.Common.{refl, ◌≡◌, ◌*◌, ◌/◌, ◌+◌, ◌%◌, ◌<◌, ◌≤◌, sym, subst, ◌∙◌, arith, eq-eqb}
 use Rattle.std.proofs.lemmas.Bool.{eqb-true, false≢true}
 use Rattle.std.specs.Vec.{with_items}
 use Rattle.iloc_sched.specs.Steps.Cycle.RankSets.{AddsBit}
@@ -53,3 +53,16 @@ returns-else-short-clause-puts c =
     puts_from c.args.self.now _ (c.args.cycle % 32) c.args.rank c.args.ready
     (adds_back c.args.self.now.words c.deref_mut-else-short.result.now c.add_if-else-short.new.words c.deref_mut-else-short.ensures.value
     c.args.ready (c.args.cycle % 32) c.args.rank c.add_if-else-short.ensures)
+
+pub returns-then-short-clause-room : goal.returns-then-short-clause-room
+returns-then-short-clause-room c =
+    let s = c.args.self.now in
+    let adds = adds_back s.words c.deref_mut.result.now c.add_if.new.words c.deref_mut.ensures.value c.args.ready
+    (c.args.cycle % 32) (c.args.rank % 64) c.add_if.ensures in
+    record { words = adds.size; blocks = refl }
+
+pub returns-else-short-clause-room : goal.returns-else-short-clause-room
+returns-else-short-clause-room c =
+    let adds = adds_back c.args.self.now.words c.deref_mut-else-short.result.now c.add_if-else-short.new.words
+    c.deref_mut-else-short.ensures.value c.args.ready (c.args.cycle % 32) c.args.rank c.add_if-else-short.ensures in
+    record { words = adds.size; blocks = refl }

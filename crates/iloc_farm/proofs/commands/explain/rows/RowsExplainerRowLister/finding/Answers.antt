@@ -1,7 +1,7 @@
 use Rattle.std.proofs.Common.{◌∙◌, ap, rules, tests}
 use Rattle.std.proofs.lemmas.Iterator.{YieldsList-from_slice}
 use Rattle.std.proofs.lemmas.Iterator.Search.{all_from_yields_List}
-use Rattle.iloc_judge.specs.declared.explained.ExplainedRows.{ExplainedRows}
+use Rattle.iloc_farm.specs.declared.commands.explain.rows.explained.ExplainedRows.{ExplainedRows}
 use Rattle.iloc_farm.specs.Fault.{finding_of}
 use Rattle.iloc_farm.proofs.commands.explain.rows.RowsExplainerRowLister.finding.Goals as goal
 

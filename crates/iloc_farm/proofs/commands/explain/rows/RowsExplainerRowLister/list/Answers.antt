@@ -7,9 +7,9 @@ use Rattle.iloc_timed.specs.declared.latencies.Latencies.{Latencies}
 use Rattle.iloc_timed.specs.Cycles.{cycles}
 use Rattle.iloc_timed.specs.Schedule.{Table}
 use Rattle.iloc_rows.specs.declared.proposal.Proposed.{Proposed}
-use Rattle.iloc_sched.specs.declared.ranking.heuristic.Heuristic.{Heuristic}
-use Rattle.iloc_judge.specs.declared.explained.ExplainedRows.{ExplainedRows}
-use Rattle.iloc_judge.specs.RowsExplained.{IsRowsExplanation}
+use Rattle.iloc_rules.specs.declared.heuristic.Heuristic.{Heuristic}
+use Rattle.iloc_farm.specs.declared.commands.explain.rows.explained.ExplainedRows.{ExplainedRows}
+use Rattle.iloc_farm.specs.Commands.Explain.Rows.Explained.{IsRowsExplanation}
 use Rattle.iloc_farm.specs.Commands.Explain.Rows.{IsRowsEntry}
 use Rattle.iloc_farm.specs.Listing.{block_head}
 use Rattle.iloc_farm.specs.Schedules.{IsGreedyAs}
@@ -46,9 +46,8 @@ rows_listed heuristic lat k b s p one text headed lined more said name greedy na
       ∙ parts_joined text (block_head k b.name) (codes "\n") said);
 }
 
-pub invariant_of-task : goal.invariant_of-task
-invariant_of-task c = record {
-  few = c.requires.short;
+pub invariant_of-known : goal.invariant_of-known
+invariant_of-known c = record {
   lawful = (c.in_ok-ours.ensures _ _ c.in_ok-refill.ensures.graph).greedy.lawful;
   drawn = c.in_ok-refill.ensures.graph;
 }

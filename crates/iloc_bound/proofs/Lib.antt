@@ -1,0 +1,9 @@
+pub mod Counting
+pub mod Packed
+pub mod Swept
+pub mod SharedMembers
+pub mod RowsHold
+pub mod TailBound
+pub mod TailParts
+pub mod TailsFound
+pub mod LeastBound

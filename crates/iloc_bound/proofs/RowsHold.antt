@@ -1,0 +1,48 @@
+-- How many of some operations a row holds; for `laws::least_bounds_the_cycles`.
+use Rattle.std.proofs.Common.{◌≡◌, ℕ, ◌≤◌, Bool, true, false, ◌&&◌, List, Option, arith}
+use Rattle.std.specs.Prelude.{count_by, option_to_list, IsTrue}
+use Rattle.iloc_ops.specs.declared.op.Op.{Op}
+use Rattle.iloc_meaning.specs.Trace.{op_at}
+use Rattle.iloc_timed.specs.declared.kind.Kind.{Kind}
+use Rattle.iloc_timed.specs.declared.row.Row.{Row}
+use Rattle.iloc_timed.specs.Kinds.{kind, is_load, is_memory, is_mult, is_output}
+use Rattle.iloc_timed.specs.Rows.{slots, kind_in, is_some_kind, keeps_units}
+use Rattle.iloc_bound.proofs.Counting.{count-mono}
+use Rattle.std.proofs.lemmas.List.Sums.{count_by-le-length}
+use Rattle.std.proofs.lemmas.Bool.{and_cases}
+
+-- whether operation i is of such a kind
+abbrev pub is_kind : (Kind → Bool) → List Op → ℕ → Bool
+is_kind test ops i = test (kind (op_at ops i))
+
+-- a row holds so many of the operations of these kinds
+abbrev pub Holds : (Kind → Bool) → ℕ → List Op → Type 0
+Holds test width ops = (row : Row) → IsTrue (keeps_units ops row) → count_by (is_kind test ops) (slots row) ≤ width
+
+one_slot : (p : ℕ → Bool) (slot : Option ℕ) → count_by p (option_to_list slot) ≤ 1
+one_slot p slot = grind (arith, count_by-le-length)
+
+-- the parts of the rules of the units
+units_of : (ops : List Op) (row : Row) → IsTrue (keeps_units ops row)
+    → (is_some_kind is_mult (kind_in ops row.zero) ≡ false) × (is_some_kind is_memory (kind_in ops row.one) ≡ false)
+    × ((is_some_kind is_output (kind_in ops row.zero) && is_some_kind is_output (kind_in ops row.one)) ≡ false)
+units_of ops row h = grind arith
+
+not_there : (test : Kind → Bool) (ops : List Op) (slot : Option ℕ) → is_some_kind test (kind_in ops slot) ≡ false
+    → count_by (is_kind test ops) (option_to_list slot) ≤ 0
+not_there test ops slot h = grind arith
+
+pub holds_memory : (ops : List Op) → Holds is_memory 1 ops
+holds_memory ops = grind (arith, not_there, one_slot, units_of)
+
+pub holds_products : (ops : List Op) → Holds is_mult 1 ops
+holds_products ops = grind (arith, not_there, one_slot, units_of)
+
+pub holds_outputs : (ops : List Op) → Holds is_output 1 ops
+holds_outputs ops row h = grind (arith, and_cases, not_there, one_slot, units_of)
+
+pub holds_all : (ops : List Op) → Holds (λ k. true) 2 ops
+holds_all ops = grind (arith, one_slot)
+
+pub holds_loads : (ops : List Op) → Holds is_load 1 ops
+holds_loads ops = grind (arith, count-mono, holds_memory)

@@ -1,0 +1,11 @@
+use Rattle.std.proofs.Common.{ℕ, ◌+◌, ◌<◌, ◌≤◌, get_or}
+use Rattle.iloc_sched.specs.declared.edges.Edge.{Edge}
+use Rattle.iloc_bound.specs.Steps.Tails.{IsTailed}
+use Rattle.iloc_bound.proofs.tails.raise_sources.Given as goal
+
+abbrev pub invariant-loop-edge : goal.invariant-loop-edge
+invariant-loop-edge l = record {
+  tailed : IsTailed l.graph.latencies l.graph.ops l.found.items l.j (l.j + 1);
+  kept : (k : ℕ) (other : Edge) → k < l.edge-index → (get_or l.edges k other).delay + get_or l.found.items l.j 0
+      ≤ get_or l.found.items (get_or l.edges k other).from 0;
+}

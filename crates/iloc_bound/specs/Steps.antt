@@ -1,0 +1,4 @@
+-- How the bound is found.
+pub mod Packing
+pub mod Shares
+pub mod Tails

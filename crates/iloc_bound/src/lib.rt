@@ -1,0 +1,12 @@
+//! A bound on cycles: how few a lawful schedule of a block can take.
+#![tactic(auto)]
+
+pub mod laws;
+mod lower_bound;
+mod packing;
+mod share;
+mod tails;
+
+pub use lower_bound::{least, least_of};
+pub use share::Share;
+pub use tails::fill_tails;

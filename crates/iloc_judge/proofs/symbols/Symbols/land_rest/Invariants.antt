@@ -1,9 +1,0 @@
-use Rattle.std.proofs.Common.{List}
-use Rattle.iloc_timed.specs.Timed.{Issued}
-use Rattle.iloc_judge.specs.Steps.Terms.{Adds}
-use Rattle.iloc_judge.specs.Steps.Tracking.{Keeps}
-use Rattle.iloc_judge.proofs.symbols.Symbols.land_rest.Given as goal
-
-abbrev pub invariant-loop-cycle : goal.invariant-loop-cycle
-invariant-loop-cycle l = Adds l.initial.table l.table (λ memory d. (log : List Issued) →
-    Keeps memory d l.fn.from log l.initial.self → Keeps memory d l.cycle log l.self)

@@ -1,8 +1,0 @@
-use Rattle.iloc_timed.specs.Timed.{issued_before}
-use Rattle.iloc_judge.specs.Steps.Terms.{Adds}
-use Rattle.iloc_judge.specs.Steps.Tracking.{Keeps}
-use Rattle.iloc_judge.proofs.symbols.Symbols.of.Given as goal
-
-abbrev pub invariant-loop-cycle : goal.invariant-loop-cycle
-invariant-loop-cycle l = Adds l.fn.table l.table (λ memory d.
-    Keeps memory d l.cycle (issued_before l.latencies memory l.schedule.ops l.schedule.rows l.cycle) l.symbols)

@@ -1,0 +1,20 @@
+-- Issue and priority are at most the cycles: `laws::priorities_bound_the_cycles`, `schedule` (`least`).
+use Rattle.std.proofs.Common.{ℕ, ◌+◌, ◌-◌, ◌<◌, ◌≤◌, List, length, arith}
+use Rattle.iloc_ops.specs.declared.op.Op.{Op}
+use Rattle.iloc_timed.specs.declared.latencies.Latencies.{Latencies}
+use Rattle.iloc_timed.specs.declared.row.Row.{Row}
+use Rattle.iloc_timed.specs.Rows.{issue_cycle}
+use Rattle.iloc_timed.specs.Cycles.{cycles}
+use Rattle.iloc_timed.proofs.Arrivals.{arrival_le_cycles}
+use Rattle.iloc_rules.specs.Priority.{priority}
+use Rattle.iloc_rules.proofs.DelayPairs.WaitedFor.{Waits}
+use Rattle.iloc_rules.proofs.PriorityValues.Longest.{priority_least}
+
+-- an operation is issued so early that its priority is left
+pub priority_bound : (lat : Latencies) (ops : List Op) (rows : List Row) → Waits lat ops rows → (i : ℕ) → i < length ops
+    → issue_cycle rows i + priority lat ops i ≤ cycles lat ops rows
+priority_bound lat ops rows waits i within =
+    let left = priority_least lat ops (λ k. cycles lat ops rows - issue_cycle rows k)
+    (λ k below. omega (arith, arrival_le_cycles lat ops rows k below))
+    (λ k j d pair. omega (arith, waits k j d pair, arrival_le_cycles lat ops rows j pair.within)) i within in
+    omega (arith, arrival_le_cycles lat ops rows i within)

@@ -1,0 +1,35 @@
+-- A delay is the latency of the earlier operation or 1; for priorities, bounds and the kept edges.
+use Rattle.std.proofs.Common.{◌≡◌, ℕ, ◌≤◌, Bool, true, List, ◌⊎◌, inl, refl, arith, ◌++◌}
+use Rattle.std.specs.Prelude.{Contains}
+use Rattle.iloc_ops.specs.declared.op.Op.{Op}
+use Rattle.iloc_timed.specs.declared.kind.Kind.{Kind}
+use Rattle.iloc_timed.specs.declared.latencies.Latencies.{Latencies}
+use Rattle.iloc_timed.specs.Kinds.{kind}
+use Rattle.iloc_timed.specs.Latency.{latency, latency_of}
+use Rattle.iloc_rules.specs.Delays.{reads_stored, keeps_order, when, delays}
+use Rattle.iloc_rules.specs.Steps.Members.{In}
+use Rattle.iloc_rules.proofs.Basics.Members.{in_from, from_append}
+use Rattle.iloc_timed.proofs.WholeRuns.{some_latency, short_latency}
+
+-- the delays by memory and outputs, from kind to kind
+abbrev pub kind_delays : Latencies → Kind → Kind → List ℕ
+kind_delays lat a b = when (reads_stored a b) (latency_of lat a) ++ when (keeps_order a b) 1
+
+pub in_when : (b : Bool) (d : ℕ) → b ≡ true → In (when b d) d
+in_when b d holds = rw holds (inl refl)
+
+pub from_when : (b : Bool) (d e : ℕ) → In (when b d) e → (b ≡ true) × (d ≡ e)
+from_when b d e there = grind arith
+
+-- a delay is the latency of the first or 1
+pub delay_is : (lat : Latencies) (i j : Op) (d : ℕ) → Contains (delays lat i j) d → (latency lat i ≡ d) ⊎ (1 ≡ d)
+delay_is lat i j d there = grind (arith, from_append, from_when, in_from)
+
+pub delay_at_least : (lat : Latencies) (i j : Op) (d : ℕ) → Contains (delays lat i j) d → 1 ≤ d
+delay_at_least lat i j d there = grind (arith, delay_is lat i j d there, some_latency lat (kind i))
+
+pub delay_at_most : (lat : Latencies) (i j : Op) (d : ℕ) → Contains (delays lat i j) d → d ≤ latency lat i
+delay_at_most lat i j d there = grind (arith, delay_is, some_latency)
+
+pub short_delay : (lat : Latencies) (i j : Op) (d : ℕ) → Contains (delays lat i j) d → d ≤ 16
+short_delay lat i j d there = omega (arith, delay_at_most lat i j d there, short_latency lat (kind i))

@@ -1,0 +1,69 @@
+-- What arrives in time where each delay is waited for; for `laws::lawful_schedules_keep_the_outcome`.
+use Rattle.std.proofs.Common.{◌≡◌, ℕ, ◌+◌, ◌<◌, ◌≤◌, true, List, length, Some, arith}
+use Rattle.std.proofs.lemmas.Bool.{and_from, or_right, false≢true}
+use Rattle.iloc_ops.specs.declared.op.Reg.{Reg}
+use Rattle.iloc_ops.specs.declared.op.Op.{Op}
+use Rattle.iloc_ops.specs.Registers.{used, defined}
+use Rattle.iloc_meaning.specs.Trace.{op_at, is_register}
+use Rattle.iloc_timed.specs.declared.kind.Kind.{Kind}
+use Rattle.iloc_timed.specs.declared.kind.Kind.TheVariants as K
+use Rattle.iloc_timed.specs.declared.latencies.Latencies.{Latencies}
+use Rattle.iloc_timed.specs.declared.row.Row.{Row}
+use Rattle.iloc_timed.specs.Kinds.{kind, is_store, is_output}
+use Rattle.iloc_timed.specs.Latency.{latency}
+use Rattle.iloc_timed.specs.Rows.{issue_cycle}
+use Rattle.iloc_rules.specs.Delays.{uses_result, keeps_order, when, memory_delays, delays, IsDelayPair}
+use Rattle.iloc_rules.specs.Steps.Members.{In}
+use Rattle.iloc_rules.proofs.Basics.Members.{contains_from, in_left, in_right, any_at}
+use Rattle.iloc_rules.proofs.Outcome.UsedEffects.{reads_memory}
+use Rattle.iloc_rules.proofs.DelayPairs.DelayBounds.{in_when}
+use Rattle.iloc_rules.proofs.Basics.Registers.{is_register_from}
+
+-- each delay is waited for
+abbrev pub Waits : Latencies → List Op → List Row → Type 0
+Waits lat ops rows = (i j d : ℕ) → IsDelayPair lat ops i j d → issue_cycle rows i + d ≤ issue_cycle rows j
+
+module _ (lat : Latencies) (ops : List Op) (rows : List Row) (waits : Waits lat ops rows) where
+  -- what is used was issued so early that it has arrived
+  pub used_in_time : (i k : ℕ) (r : Reg) → i < length ops → k < i → In (used (op_at ops i)) r
+      → defined (op_at ops k) ≡ Some r → issue_cycle rows k + latency lat (op_at ops k) ≤ issue_cycle rows i
+  used_in_time i k r within before uses defines =
+      let test : uses_result (op_at ops k) (op_at ops i) ≡ true =
+      any_at (λ s. is_register s (defined (op_at ops k))) (used (op_at ops i)) r uses
+      (is_register_from r (defined (op_at ops k)) defines) in
+      waits k i (latency lat (op_at ops k)) record {
+        order = before;
+        within = within;
+        delay = contains_from (delays lat (op_at ops k) (op_at ops i)) (latency lat (op_at ops k))
+            (in_left (when (uses_result (op_at ops k) (op_at ops i)) (latency lat (op_at ops k)))
+            (memory_delays lat (op_at ops k) (op_at ops i)) _ (in_when _ _ test));
+      }
+
+  by_memory : (k i d : ℕ) → i < length ops → k < i → In (memory_delays lat (op_at ops k) (op_at ops i)) d
+      → issue_cycle rows k + d ≤ issue_cycle rows i
+  by_memory k i d within before there = waits k i d grind (arith, contains_from, in_right)
+
+  -- what is read was stored so early that it has arrived
+  pub stored_in_time : (i k : ℕ) → i < length ops → k < i → is_store (kind (op_at ops k)) ≡ true
+      → reads_memory (kind (op_at ops i)) ≡ true → issue_cycle rows k + latency lat (op_at ops k) ≤ issue_cycle rows i
+  stored_in_time i k within before store reads =
+      by_memory k i (latency lat (op_at ops k)) within before
+      (grind (arith, and_from, in_left, in_when))
+
+  -- what has to come after is issued later
+  pub kept_in_order : (k i : ℕ) → i < length ops → k < i → keeps_order (kind (op_at ops k)) (kind (op_at ops i)) ≡ true
+      → issue_cycle rows k < issue_cycle rows i
+  kept_in_order k i within before order =
+      let later : issue_cycle rows k + 1 ≤ issue_cycle rows i =
+      by_memory k i 1 within before
+      (grind (arith, in_right, in_when)) in
+      omega arith
+
+pub read_then_store : (a b : Kind) → reads_memory a ≡ true → is_store b ≡ true → keeps_order a b ≡ true
+read_then_store a b reads store = grind (arith, false≢true)
+
+pub store_then_store : (a b : Kind) → is_store a ≡ true → is_store b ≡ true → keeps_order a b ≡ true
+store_then_store a b first second = grind (arith, false≢true)
+
+pub output_then_output : (a b : Kind) → is_output a ≡ true → is_output b ≡ true → keeps_order a b ≡ true
+output_then_output a b first second = grind (arith, false≢true, or_right)

@@ -1,0 +1,7 @@
+pub mod Basics
+pub mod Renamed
+pub mod DelayPairs
+pub mod PriorityValues
+pub mod Choice
+pub mod Outcome
+pub mod Bounds

@@ -1,0 +1,5 @@
+-- The priorities.
+pub mod Chains
+pub mod Longest
+pub mod Starts
+pub mod Named

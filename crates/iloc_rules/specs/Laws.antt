@@ -1,0 +1,52 @@
+-- What holds of schedules as a whole.
+use Rattle.std.specs.Prelude.{◌≡◌, ℕ, ◌+◌, ◌<◌, ◌≤◌, ◌↔◌, List, length, sum_by, ℤ}
+use Rattle.iloc_ops.specs.declared.op.Op.{Op}
+use Rattle.iloc_meaning.specs.Outcome.{outcome}
+use Rattle.iloc_timed.specs.declared.latencies.Latencies.{Latencies}
+use Rattle.iloc_timed.specs.declared.row.Row.{Row}
+use Rattle.iloc_timed.specs.Latency.{latency}
+use Rattle.iloc_timed.specs.Rows.{issue_cycle}
+use Rattle.iloc_timed.specs.Cycles.{cycles}
+use Rattle.iloc_timed.specs.Timed.{timed_outcome}
+use Rattle.iloc_rules.specs.Priority.{priority}
+use Rattle.iloc_rules.specs.Heuristics.{through, slack}
+use Rattle.iloc_rules.specs.Lawful.{IsLawful}
+use Rattle.iloc_rules.specs.Greedy.{IsGreedy, IsGreedyBy}
+
+-- on every memory a lawful schedule of a block has the block's outcome
+abbrev pub LawfulSchedulesKeepTheOutcome : Type 0
+LawfulSchedulesKeepTheOutcome = (lat : Latencies) (block ops : List Op) (rows : List Row) (memory : List ℤ)
+    → IsLawful lat block ops rows → timed_outcome lat ops rows memory ≡ outcome block memory
+
+-- a block has just one greedy schedule
+pub record BlocksHaveOneGreedySchedule : Type 0 where
+  pub exists : (lat : Latencies) (block : List Op) → (ops : List Op) × (rows : List Row) × IsGreedy lat block ops rows
+  pub same : (lat : Latencies) (block ops ops' : List Op) (rows rows' : List Row)
+      → IsGreedy lat block ops rows → IsGreedy lat block ops' rows' → (ops ≡ ops') × (rows ≡ rows')
+
+-- by whatever priorities, a block has just one greedy schedule
+pub record PrioritiesHaveOneGreedySchedule : Type 0 where
+  pub exists : (prios : List ℕ) (lat : Latencies) (block : List Op)
+      → (ops : List Op) × (rows : List Row) × IsGreedyBy prios lat block ops rows
+  pub same : (prios : List ℕ) (lat : Latencies) (block ops ops' : List Op) (rows rows' : List Row)
+      → IsGreedyBy prios lat block ops rows → IsGreedyBy prios lat block ops' rows' → (ops ≡ ops') × (rows ≡ rows')
+
+-- in a lawful schedule the cycle of issue of an operation and its priority together are at most the cycles
+abbrev pub PrioritiesBoundTheCycles : Type 0
+PrioritiesBoundTheCycles = (lat : Latencies) (block ops : List Op) (rows : List Row)
+    → IsLawful lat block ops rows → (i : ℕ) → i < length ops → issue_cycle rows i + priority lat ops i ≤ cycles lat ops rows
+
+-- the cycles of a greedy schedule are at most the latencies of its operations together
+abbrev pub LatenciesBoundTheCycles : Type 0
+LatenciesBoundTheCycles = (lat : Latencies) (block ops : List Op) (rows : List Row)
+    → IsGreedy lat block ops rows → cycles lat ops rows ≤ sum_by (latency lat) ops
+
+-- by whatever priorities
+abbrev pub LatenciesBoundTheCyclesByPriorities : Type 0
+LatenciesBoundTheCyclesByPriorities = (prios : List ℕ) (lat : Latencies) (block ops : List Op) (rows : List Row)
+    → IsGreedyBy prios lat block ops rows → cycles lat ops rows ≤ sum_by (latency lat) ops
+
+-- the less slack an operation has, the longer is the longest chain of delays through it
+abbrev pub LessSlackIsALongerChain : Type 0
+LessSlackIsALongerChain = (lat : Latencies) (ops : List Op) (i j : ℕ) → i < length ops → j < length ops
+    → (slack lat ops i < slack lat ops j) ↔ (through lat ops j < through lat ops i)

@@ -1,0 +1,81 @@
+-- How few cycles a lawful schedule of a block can take: by counting, of the operations that share slots, those that can't
+-- be issued before a cycle and leave many cycles behind them.
+use Rattle.std.specs.Prelude.{ℕ, ◌+◌, ◌-◌, ◌/◌, max, nat_le, Bool, true, if◌then◌else◌, List, [], ◌∷◌, ◌++◌, map, fold, filter, count_by, length, slice_index}
+use Rattle.std.specs.List.{range_with_len}
+use Rattle.iloc_ops.specs.declared.op.Op.{Op}
+use Rattle.iloc_meaning.specs.Trace.{op_at}
+use Rattle.iloc_timed.specs.declared.kind.Kind.{Kind}
+use Rattle.iloc_timed.specs.declared.latencies.Latencies.{Latencies}
+use Rattle.iloc_timed.specs.Kinds.{kind, is_load, is_store, is_memory, is_mult, is_output}
+use Rattle.iloc_timed.specs.Latency.{latency}
+use Rattle.iloc_rules.specs.Delays.{when}
+use Rattle.iloc_rules.specs.Priority.{reaches}
+use Rattle.iloc_rules.specs.Starts.{start}
+use Rattle.iloc_rules.specs.Renaming.{renamed}
+
+-- how many of these tails are at least q
+abbrev pub count_from : List ℕ → ℕ → ℕ
+count_from tails q = count_by (λ tail. nat_le q tail) tails
+
+-- Of n operations, of which a row can hold `width`, one is issued in cycle (n - 1) / width or later. Where they are
+-- those whose tail is at least q, at least q cycles are left then.
+abbrev pub cycles_from : ℕ → List ℕ → ℕ → ℕ
+cycles_from width tails q = (count_from tails q - 1) / width + q
+
+-- what operations with these tails need: the greatest of those numbers over all tails, 0 where there are none
+abbrev pub needed : ℕ → List ℕ → ℕ
+needed width tails = fold max 0 (map (cycles_from width tails) tails)
+
+-- of operations with these tails those of the loads
+abbrev pub load_tails : List Op → List ℕ → List ℕ
+load_tails [] tails = []
+load_tails (op ∷ ops) [] = []
+load_tails (op ∷ ops) (tail ∷ tails) = when (is_load (kind op)) tail ++ load_tails ops tails
+
+-- a store's latency, and what the later loads need, of which a row can hold one: they all wait for the store
+abbrev pub behind : Latencies → Op → List Op → List ℕ → ℕ
+behind lat op later tails =
+    if is_store (kind op) then latency lat op + needed 1 (load_tails later tails) else 0
+
+-- the tails of the later operations, and before them that of the operation
+abbrev pub with_tail : Latencies → Op → List Op → List ℕ → List ℕ
+with_tail lat op later tails =
+    max (behind lat op later tails) (fold max (latency lat op) (reaches lat op later tails)) ∷ tails
+
+-- By operation its tail, how many cycles are left at least from its issue: the greatest of its latency, of all
+-- d + tail(j) over its delay pairs (i, j, d), and for a store of its latency and what the later loads need together.
+abbrev pub tails : Latencies → List Op → List ℕ
+tails lat [] = []
+tails lat (op ∷ later) = with_tail lat op later (tails lat later)
+
+-- the tail of operation i
+abbrev pub tail : Latencies → List Op → ℕ → ℕ
+tail lat ops i = slice_index (tails lat ops) i
+
+-- the operations of these kinds
+abbrev pub of_kind : (Kind → Bool) → List Op → List ℕ
+of_kind test ops = filter (λ i. test (kind (op_at ops i))) (range_with_len 0 (length ops))
+
+-- those that can't be issued before cycle a
+abbrev pub from_start : (Kind → Bool) → Latencies → List Op → ℕ → List ℕ
+from_start test lat ops a = filter (λ i. nat_le a (start lat ops i)) (of_kind test ops)
+
+-- they need as much from there
+abbrev pub needed_after : ℕ → (Kind → Bool) → Latencies → List Op → ℕ → ℕ
+needed_after width test lat ops a = a + needed width (map (tail lat ops) (from_start test lat ops a))
+
+-- the greatest of that over the starts of the operations of these kinds
+abbrev pub needed_by : ℕ → (Kind → Bool) → Latencies → List Op → ℕ
+needed_by width test lat ops =
+    fold max 0 (map (λ i. needed_after width test lat ops (start lat ops i)) (of_kind test ops))
+
+-- for the memory operations, the products and the outputs, of which a row can hold one, and for all operations, of which
+-- it can hold two
+abbrev pub least_of : Latencies → List Op → ℕ
+least_of lat ops =
+    max (needed_by 1 is_memory lat ops) (max (needed_by 1 is_mult lat ops)
+    (max (needed_by 1 is_output lat ops) (needed_by 2 (λ k. true) lat ops)))
+
+-- the same of a block
+abbrev pub least : Latencies → List Op → ℕ
+least lat block = least_of lat (renamed block)

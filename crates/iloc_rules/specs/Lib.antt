@@ -1,0 +1,11 @@
+pub mod Renaming
+pub mod Delays
+pub mod Pairs
+pub mod Priority
+pub mod Starts
+pub mod Lawful
+pub mod Greedy
+pub mod Heuristics
+pub mod Least
+pub mod Laws
+pub mod Steps

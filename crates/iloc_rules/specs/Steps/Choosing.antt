@@ -1,0 +1,17 @@
+-- A schedule that is being made, row after row.
+use Rattle.std.specs.Prelude.{ℕ, ◌≡◌, ◌<◌, ◌≤◌, ◌⊎◌, List, length, slice_index}
+use Rattle.iloc_ops.specs.declared.op.Op.{Op}
+use Rattle.iloc_timed.specs.declared.latencies.Latencies.{Latencies}
+use Rattle.iloc_timed.specs.declared.row.Row.{Row}
+use Rattle.iloc_timed.specs.Rows.{row_at}
+use Rattle.iloc_rules.specs.Greedy.{ready, chosen}
+
+-- each row so far is the choice, by these priorities, from what was ready
+abbrev pub IsChosenSoFar : List ℕ → Latencies → List Op → List Row → Type 0
+IsChosenSoFar prios lat ops rows =
+    (c : ℕ) → c < length rows → row_at rows c ≡ chosen ops prios (ready lat ops rows c)
+
+-- operation i has the higher priority, or the same and no higher number
+abbrev pub GoesBefore : List ℕ → ℕ → ℕ → Type 0
+GoesBefore prios i j =
+    (slice_index prios j < slice_index prios i) ⊎ ((slice_index prios i ≡ slice_index prios j) × (i ≤ j))

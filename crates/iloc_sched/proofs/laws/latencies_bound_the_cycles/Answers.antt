@@ -1,5 +1,0 @@
-use Rattle.iloc_sched.proofs.Bounds.BusyCycles.{busy_bound}
-use Rattle.iloc_sched.proofs.laws.latencies_bound_the_cycles.Goals as goal
-
-pub returns : goal.returns
-returns c = busy_bound

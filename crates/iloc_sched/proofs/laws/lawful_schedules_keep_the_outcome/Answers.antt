@@ -1,5 +1,0 @@
-use Rattle.iloc_sched.proofs.Outcome.LawfulOutcomes.{lawful_same_outcome}
-use Rattle.iloc_sched.proofs.laws.lawful_schedules_keep_the_outcome.Goals as goal
-
-pub returns : goal.returns
-returns c = lawful_same_outcome

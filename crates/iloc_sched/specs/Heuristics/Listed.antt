@@ -1,8 +1,0 @@
--- All heuristics.
-use Rattle.std.specs.Prelude.{List, [], ◌∷◌}
-use Rattle.iloc_sched.specs.declared.ranking.heuristic.Heuristic.{Heuristic}
-use Rattle.iloc_sched.specs.declared.ranking.heuristic.Heuristic.TheVariants.{Chain, Slack, Descendants, Successors, Latency, Order}
-
--- the heuristics, in the order in which they are listed
-abbrev pub heuristics : List Heuristic
-heuristics = Chain ∷ Slack ∷ Descendants ∷ Successors ∷ Latency ∷ Order ∷ []

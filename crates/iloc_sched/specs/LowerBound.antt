@@ -1,4 +1,0 @@
--- How few cycles a lawful schedule of a block can take.
-pub mod Least
-pub mod Shares
-pub mod Starts

@@ -1,4 +1,0 @@
--- How the bound on cycles is found.
-pub mod Packing
-pub mod Shares
-pub mod Tails

@@ -1,0 +1,124 @@
+-- What terms mean on a memory.
+use Rattle.std.specs.Prelude.{ℕ, ◌≡◌, ◌<◌, ◌==◌, ◌%◌, ◌/◌, if◌then◌else◌, false, List, length, slice_index_or, Option, Some, None, unwrap_or, option_map, ℤ, pos, ◌+ℤ◌, ◌-ℤ◌, ◌*ℤ◌, FitsSigned}
+use Rattle.std.specs.Int.{w32, cast_unsigned}
+use Rattle.std.specs.Ordering.{int_eq}
+use Rattle.iloc_meaning.specs.Address.{good_address}
+use Rattle.iloc_meaning.specs.Arithmetic.{wrapped, shifted_left, shifted_right}
+use Rattle.iloc_meaning.specs.Memory.{word_at}
+use Rattle.iloc_terms.specs.declared.table.node.Binary.{Binary}
+use Rattle.iloc_terms.specs.declared.table.node.Binary.TheVariants.{Sum, Product, ShiftLeft, ShiftRight}
+use Rattle.iloc_terms.specs.declared.table.tries.Found.{Found}
+use Rattle.iloc_terms.specs.declared.table.tries.Found.TheVariants.{Term, Nothing, Untold}
+use Rattle.iloc_terms.specs.declared.table.memories.LoadSource.{LoadSource}
+use Rattle.iloc_terms.specs.declared.table.memories.LoadSource.TheVariants.{Written, In}
+use Rattle.iloc_terms.specs.declared.table.node.Node.{Node}
+use Rattle.iloc_terms.specs.declared.table.node.Node.TheVariants.{Known, Offset, Scaled, Combined, Word, Start, Epoch, Empty, Leaf, Fork}
+
+-- for each number a word, what stands at each address of a memory, and what a trie has at each key
+pub record Meaning : Type 0 where
+  pub word : ℕ → ℤ
+  pub words : ℕ → ℤ → ℤ
+  pub entry : ℕ → ℕ → Option ℤ
+
+-- the word of a base, 0 where there is none
+abbrev pub base_word : Meaning → Option ℕ → ℤ
+base_word d None = pos 0
+base_word d (Some base) = d.word base
+
+-- by how much an address is above a base, modulo 2^32
+abbrev pub key_of : ℤ → ℤ → ℕ
+key_of base z = cast_unsigned w32 (wrapped (z -ℤ base))
+
+abbrev pub computed : Binary → ℤ → ℤ → ℤ
+computed Sum x y = wrapped (x +ℤ y)
+computed Product x y = wrapped (x *ℤ y)
+computed ShiftLeft x y = shifted_left x y
+computed ShiftRight x y = shifted_right x y
+
+-- the word at a good address, 0 at every other
+abbrev pub word_or_zero : List ℤ → ℤ → ℤ
+word_or_zero memory z = unwrap_or (option_map (word_at memory) (good_address z)) (pos 0)
+
+-- a memory's words with one written at address a
+abbrev pub with_word : (ℤ → ℤ) → ℤ → ℤ → ℤ → ℤ
+with_word words a word z = if int_eq z a then word else words z
+
+-- number k means what the term says, where the memory handed in is this one
+abbrev pub Means : List ℤ → Meaning → ℕ → Node → Type 0
+Means memory d k (Known word) = d.word k ≡ wrapped word
+Means memory d k (Offset base c) = d.word k ≡ wrapped (d.word base +ℤ c)
+Means memory d k (Scaled factor by) = d.word k ≡ wrapped (d.word factor *ℤ by)
+Means memory d k (Combined by left right) = d.word k ≡ computed by (d.word left) (d.word right)
+Means memory d k (Word address m) = d.word k ≡ d.words m (d.word address)
+Means memory d k Start = (z : ℤ) → d.words k z ≡ word_or_zero memory z
+Means memory d k (Epoch m base trie) =
+    (z : ℤ) → d.words k z ≡ unwrap_or (d.entry trie (key_of (base_word d base) z)) (d.words m z)
+Means memory d k Empty = (key : ℕ) → d.entry k key ≡ None
+Means memory d k (Leaf at value) = (key : ℕ) → d.entry k key ≡ (if key == at then Some (d.word value) else None)
+Means memory d k (Fork even odd) =
+    (key : ℕ) → d.entry k key ≡ (if key % 2 == 0 then d.entry even (key / 2) else d.entry odd (key / 2))
+
+-- the term with number k, the first where there is none
+abbrev pub node_at : List Node → ℕ → Node
+node_at nodes k = slice_index_or nodes k Start
+
+-- each number means what its term says, and each word has 32 bits
+pub record IsMeaning (memory : List ℤ) (nodes : List Node) (d : Meaning) : Type 0 where
+  pub each : (k : ℕ) → k < length nodes → Means memory d k (node_at nodes k)
+  pub fits : (k : ℕ) → FitsSigned w32 (d.word k)
+
+-- number k is the term's
+pub record IsNode (nodes : List Node) (k : ℕ) (node : Node) : Type 0 where
+  pub within : k < length nodes
+  pub is : node_at nodes k ≡ node
+
+-- whatever the new terms mean, the old ones meant it, and this holds
+abbrev pub Adds : List Node → List Node → (List ℤ → Meaning → Type 0) → Type 0
+Adds old new P = (memory : List ℤ) (d : Meaning) → IsMeaning memory new d → IsMeaning memory old d × P memory d
+
+-- the trie has this at the key, and at every other what the old one has
+abbrev pub PutsAt : Meaning → ℕ → ℕ → ℕ → Option ℕ → Type 0
+PutsAt d trie at value None = Unit {0}
+PutsAt d trie at value (Some new) =
+    (key : ℕ) → d.entry new key ≡ (if key == at then Some (d.word value) else d.entry trie key)
+
+-- what is found in a trie: a term, nothing, or it isn't told
+abbrev pub IsFound : Meaning → ℕ → ℕ → Found → Type 0
+IsFound d trie key (Term value) = d.entry trie key ≡ Some (d.word value)
+IsFound d trie key Nothing = d.entry trie key ≡ None
+IsFound d trie key Untold = Unit {0}
+
+-- the tries of a trie's even and odd keys
+abbrev pub AreHalves : Meaning → ℕ → Option (ℕ × ℕ) → Type 0
+AreHalves d trie None = Unit {0}
+AreHalves d trie (Some halves) =
+    (key : ℕ) → d.entry trie key
+    ≡ (if key % 2 == 0 then d.entry halves.0 (key / 2) else d.entry halves.1 (key / 2))
+
+-- the memory has this word at a base and a key, and else those of another memory
+abbrev pub IsWritten : Meaning → ℕ → Option ℕ → ℕ → ℕ → Option ℕ → Type 0
+IsWritten d memory base key value None = Unit {0}
+IsWritten d memory base key value (Some number) =
+    (z : ℤ) → d.words number z ≡ (if key_of (base_word d base) z == key then d.word value else d.words memory z)
+
+-- the trie has nothing at any other key
+abbrev pub HasNoOther : Meaning → ℕ → ℕ → Type 0
+HasNoOther d trie key = (other : ℕ) → (other == key) ≡ false → d.entry trie other ≡ None
+
+-- the word is a base and a constant together
+abbrev pub ArePartsOf : Meaning → ℕ → Option ℕ → ℤ → Type 0
+ArePartsOf d number base c = d.word number ≡ wrapped (base_word d base +ℤ c)
+
+-- what an address of a memory has, as far as its last epoch says
+abbrev pub IsSeen : Meaning → ℕ → ℕ → LoadSource → Type 0
+IsSeen d memory address (Written value) = d.words memory (d.word address) ≡ d.word value
+IsSeen d memory address (In other) = d.words memory (d.word address) ≡ d.words other (d.word address)
+
+-- at the address, and nowhere else, the key above the base is this one
+abbrev pub IsLocationOf : Meaning → ℕ → Option ℕ → ℕ → Type 0
+IsLocationOf d address base key =
+    (z : ℤ) → FitsSigned w32 z → (key_of (base_word d base) z == key) ≡ int_eq z (d.word address)
+
+-- the word is a multiple of another
+abbrev pub IsMultipleOf : Meaning → ℕ → ℕ → ℤ → Type 0
+IsMultipleOf d number factor by = d.word number ≡ wrapped (d.word factor *ℤ by)

@@ -1,0 +1,106 @@
+//! A table of terms.
+ghost use Rattle.std.specs.Prelude.{◌≡◌, [], length, true, IfSome, IfOk};
+
+mod memories;
+pub(crate) mod node;
+mod tries;
+mod words;
+
+use iloc_ops::NoMemory;
+use node::{Node, fork_key};
+use std::alloc::Global;
+use std::collections::BTreeMap;
+use std::marker::Model;
+
+/// Terms by their numbers. Equal terms share a number.
+#[derive(Drop)]
+pub(crate) struct Table {
+    nodes: Vec<Node>,
+    // Where each fork stands, by its halves, and each other term, by its key. They are hints: whoever asks
+    // looks whether it does.
+    forks: BTreeMap<u64, u32>,
+    numbers: BTreeMap<u128, u32>,
+}
+
+impl Model for Table {
+    ghost use Rattle.std.specs.Prelude.{List};
+    ghost use Rattle.iloc_terms.specs.declared.table.node.Node.{Node};
+
+    ghost Value = { List Node };
+
+    ghost view = { λ table. table.nodes.items };
+}
+
+impl Table {
+    ghost use Rattle.iloc_terms.specs.Steps.Terms.{IsNode, Means, Adds};
+    ghost use Rattle.iloc_terms.specs.Steps.Order.{IsOrdered};
+
+    /// The table without terms.
+    pub(crate) fn new(alloc: Global) -> Table
+        ensures { result ≡ [] }
+    {
+        Table {
+            nodes: Vec::new(alloc),
+            forks: BTreeMap::new(alloc),
+            numbers: BTreeMap::new(alloc),
+        }
+    }
+
+    /// How many terms it has.
+    pub(crate) fn len(&self) -> usize
+        ensures { result ≡ length self.now }
+    {
+        self.nodes.len()
+    }
+
+    /// The terms, by their numbers.
+    pub(crate) fn nodes(&self) -> &[Node]
+        ensures { result.now ≡ self.now }
+    {
+        self.nodes.as_slice()
+    }
+
+    /// The term with this number.
+    pub(crate) fn node(&self, number: u32) -> Option<Node>
+        ensures { IfSome result (IsNode self.now number) }
+    {
+        self.nodes.get(number as usize).copied()
+    }
+
+    /// Where a term is said to stand; where nothing is said, it is noted to stand here.
+    fn noted(&mut self, node: Node, here: u32) -> Result<u32, NoMemory>
+        ensures { self.new ≡ self.old }
+    {
+        match node {
+            Node::Fork { even, odd } => {
+                Ok(*self.forks.entry(fork_key(even, odd))?.or_insert(here))
+            }
+            _ => Ok(*self.numbers.entry(node.key())?.or_insert(here)),
+        }
+    }
+
+    /// The number of a term, which is added where it isn't there.
+    pub(crate) fn intern(&mut self, node: Node) -> Result<u32, NoMemory>
+        ensures { IfOk result (λ number. Adds self.old self.new (λ memory d. Means memory d number node)) }
+    {
+        let Ok(next) = u32::try_from(self.nodes.len()) else {
+            return Err(NoMemory);
+        };
+        let number = self.noted(node, next)?;
+        if self.node(number) == Some(node) {
+            return Ok(number);
+        }
+        self.nodes.push(node)?;
+        Ok(next)
+    }
+
+    /// Whether each term names numbers below its own alone.
+    pub(crate) fn is_ordered(&self) -> bool
+        ensures { result ≡ true → IsOrdered self.now }
+    {
+        self.nodes
+            .iter()
+            .enumerate()
+            .all(|(number, node)| node.names_below(number))
+    }
+}
