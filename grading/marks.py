@@ -2,43 +2,28 @@
 import re
 from dataclasses import dataclass, field
 
+from handins.folder import NoRows
 from tasks import Task
+from words import sentences, shown
 
 PASSING = ("lawful", "same", "prints")
-ROW = re.compile(rb"^[ \t\r]*\[", re.MULTILINE)
 POLICIES = ("pass", "ours", "least", "best")
 
 
 @dataclass
 class Mark:
     task: Task
-    verdict: str                    # the program's, or one of words.VERDICTS
-    why: str = ""                   # of what isn't judged
-    said: dict = None               # the program's record
-    notes: list = field(default_factory=list)
-    rows: bytes = b""
+    verdict: str                # the program's, or one of words.VERDICTS
+    lines: list                 # why
+    notes: list = field(default_factory=list)       # of what `--lenient` changed
+    cycles: int = None
+    line: int = None            # of the hand-in, the first with something to say
+    pictures: list = field(default_factory=list)    # names of files
+    is_starved: bool = False    # a program was ended while it waited for the processor
     points: float = 0.0
 
     def passes(self):
         return self.verdict in PASSING
-
-    def cycles(self):
-        return self.said["cycles"] if self.said else None
-
-    def line_of(self, row):
-        """The line of a row in what was handed in, from 1."""
-        for count, found in enumerate(ROW.finditer(self.rows)):
-            if count == row:
-                return self.rows.count(b"\n", 0, found.end()) + 1
-        return None
-
-    def line(self):
-        """The first line with something to say."""
-        for it in self.said["reasons"] if self.said else []:
-            if "row" in it:
-                return it.get("line") or self.line_of(it["row"])
-        found = re.match(r"line (\d+):", self.why)
-        return int(found[1]) if found else None
 
 
 def verdict_of(said, required):
@@ -50,26 +35,49 @@ def verdict_of(said, required):
     return "changed" if is_changed else "unlawful"
 
 
+def judged(task, said, rows, required):
+    """The mark of rows of which the program has a record."""
+    verdict = verdict_of(said, required)
+    lines = [reason.get("line") or rows.line_of(reason["row"]) for reason in said["reasons"] if "row" in reason]
+    told = sentences(said, rows, verdict in PASSING)
+    return Mark(task, verdict, told, rows.notes, said["cycles"], next(iter(lines), None))
+
+
+def refused(task, why, rows):
+    """The mark of a text that the program refuses, maybe for one of its lines."""
+    found = re.match(r"line (\d{1,9}):", why)
+    line = int(found[1]) if found else None
+    text = f": `{shown(rows.text_at(line), 80)}`" if line else ""
+    return Mark(task, "refused", [why + text], rows.notes, line=line)
+
+
+def unmarked(task, why):
+    """The mark where an exception says why there is nothing to judge; by any other nothing could be judged."""
+    if isinstance(why, NoRows):
+        return Mark(task, why.verdict, why.lines, is_starved=why.is_starved)
+    return Mark(task, "unjudged", [shown(f"{why}") or type(why).__name__])
+
+
 def lost(mark, base, asked):
     """Points less for the cycles beyond the base; without --per-cycle in their ratio."""
-    late = max(0, mark.cycles() - base)
+    late = max(0, mark.cycles - base)
     if asked.per_cycle is not None:
         return asked.per_cycle * late
-    return asked.points * late / mark.cycles() if late else 0
+    return asked.points * late / mark.cycles if late else 0
 
 
 def give_points(marks, asked):
     """Gives each hand-in that passes its points; the others have none."""
-    passed = [it for it in marks if it.passes()]
+    passed = [mark for mark in marks if mark.passes()]
     best = {}
-    for it in passed:
-        best[it.task] = min(best.get(it.task, it.cycles()), it.cycles())
-    for it in passed:
-        base = {"ours": it.task.ours, "least": it.task.least, "best": best[it.task], "pass": it.cycles()}[asked.policy]
-        points = max(asked.floor * asked.points, asked.points - lost(it, base, asked))
-        changed = asked.penalty if it.notes else 0
-        it.points = round(max(0, points - changed), 2)
+    for mark in passed:
+        best[mark.task] = min(best.get(mark.task, mark.cycles), mark.cycles)
+    for mark in passed:
+        task = mark.task
+        base = {"ours": task.ours, "least": task.least, "best": best[task], "pass": mark.cycles}[asked.policy]
+        points = max(asked.floor * asked.points, asked.points - lost(mark, base, asked))
+        mark.points = round(max(0, points - (asked.penalty if mark.notes else 0)), 2)
 
 
 def total(row):
-    return round(sum(it.points for it in row), 2)
+    return round(sum(mark.points for mark in row), 2)

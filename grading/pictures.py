@@ -1,70 +1,63 @@
 """Pictures of hand-ins, and pages of what they do on the machine, by the charts beside this folder."""
-import os
-import sys
+import threading
 
 import judge
+import lanes
+import listing
+import stepper
+import svg
 import words
+from forms import USUAL
 
-CHARTS = os.path.join(os.path.dirname(os.path.dirname(os.path.realpath(__file__))), "charts")
 MOST = 200_000      # bytes of rows that are drawn
 MOST_STEPPED = 50_000       # of those that have a page
 UNDRAWN = ("unread", "void")
 
-sys.path.append(CHARTS)
-try:
-    import lanes
-    import listing
-    import stepper
-    import svg
-except ImportError:     # a course that copies this folder alone has no pictures
-    lanes = None
-
 
 class Pictures:
-    def __init__(self, asked):
-        self.which, self.check = asked.pictures if lanes else "none", asked.check
-        given = dict(it.removeprefix("--").split("=") for it in asked.check if "=" in it)
-        self.latencies = {kind: int(given.get(kind, usual)) for kind, usual in words.USUAL.items()}
+    """Draws into the folder of a class's feedback."""
 
-    def is_drawn(self, mark):
+    def __init__(self, asked, folder_of):
+        self.which, self.check, self.folder_of = asked.pictures, asked.check, folder_of
+        given = dict(option.removeprefix("--").split("=") for option in asked.check if "=" in option)
+        self.latencies = {kind: int(given.get(kind, usual)) for kind, usual in USUAL.items()}
+        self.turn = threading.Lock()        # one is drawn at a time, for memory's sake
+
+    def draw(self, student, mark, said, rows):
+        """Writes the picture and the page of a hand-in, and gives their names to its mark."""
         is_wanted = self.which == "all" or self.which == "wrong" and not mark.passes()
-        return is_wanted and mark.said and mark.said["verdict"] not in UNDRAWN and len(mark.rows) <= MOST
-
-    def write(self, mark, folder):
-        """Writes the picture and the page of a hand-in into a folder, and gives the names of those that there are."""
-        names = []
+        if not is_wanted or said["verdict"] in UNDRAWN or len(rows.data) > MOST:
+            return
         for ending, drawn in (("svg", self.picture), ("html", self.page)):
-            path = folder / f"{mark.task.name}.{ending}"
-            path.unlink(missing_ok=True)        # of an earlier grading
-            if self.is_drawn(mark) and (made := drawn(mark)):
-                path.write_bytes(made)
-                names.append(path.name)
-        return names
+            try:
+                with self.turn:
+                    made = drawn(mark, said, rows)
+            except (judge.NoAnswer, svg.Unread):
+                made = None
+            if made:
+                folder = self.folder_of(student)
+                folder.mkdir(parents=True, exist_ok=True)
+                (folder / f"{mark.task.name}.{ending}").write_bytes(made)
+                mark.pictures.append(f"{mark.task.name}.{ending}")
 
-    def picture(self, mark):
+    def picture(self, mark, said, rows):
         """The timeline of the rows, with what is wrong at its row."""
-        try:
-            block = listing.read_block(mark.rows.decode("utf-8", "replace").split("\n"), 1)
-            block.judge(mark.said["name"] or "-", mark.verdict, str(mark.said["least"]))
-            for it in [] if mark.passes() else mark.said["reasons"]:
-                if "row" in it:
-                    block.wrong.setdefault(it["row"], []).append(words.reason(it, mark))
-            block.cycles = block.end(self.latencies)
-            return lanes.Chart(block, self.latencies).picture().encode()
-        except svg.Unread:
-            return None
+        block = listing.read_block(rows.data.decode("utf-8", "replace").split("\n"), 1)
+        block.judge(said["name"] or "-", mark.verdict, str(said["least"]))
+        for found in [] if mark.passes() else said["reasons"]:
+            if "row" in found:
+                block.wrong.setdefault(found["row"], []).append(words.reason(found, rows))
+        block.cycles = block.end(self.latencies)
+        return lanes.Chart(block, self.latencies).picture().encode()
 
-    def page(self, mark):
+    def page(self, mark, _, rows):
         """The page on which a reader steps through what the rows do."""
-        if len(mark.rows) > MOST_STEPPED:
+        if len(rows.data) > MOST_STEPPED:
             return None
-        latencies = [it for it in self.check if "=" in it]
-        traced = [*latencies, *(it for it in self.check if it == "--either-slot")]
+        latencies = [option for option in self.check if "=" in option]
+        traced = [*latencies, *(option for option in self.check if option == "--either-slot")]
         of_rows = ["--task", str(mark.task.path), *mark.task.words]
-        try:
-            listings = [judge.call(asked, given)[1] for asked, given in (
-                (["graph", *latencies], mark.task.path.read_bytes()),
-                (["trace", *traced, *of_rows], mark.rows), (["check", *self.check, *of_rows], mark.rows))]
-            return stepper.drawn(b"".join(listings).decode("utf-8", "replace").removesuffix("\n").split("\n")).encode()
-        except (judge.NoAnswer, OSError, svg.Unread):
-            return None
+        listings = [judge.call(asked, given)[1] for asked, given in (
+            (["graph", *latencies], mark.task.path.read_bytes()),
+            (["trace", *traced, *of_rows], rows.data), (["check", *self.check, *of_rows], rows.data))]
+        return stepper.drawn(b"".join(listings).decode("utf-8", "replace").removesuffix("\n").split("\n")).encode()

@@ -8,6 +8,7 @@ import judge
 ENDINGS = (".i", ".iloc")
 INPUT = re.compile(rb"^[ \t]*//[ \t]*SIM INPUT:(.*)$", re.MULTILINE)
 WORDS = re.compile(r"-i (\d{1,10})((?: -?\d{1,10})*)")
+VOID = {"faults": "faults on its words", "shows_nothing": "shows nothing"}
 
 
 class CannotGrade(Exception):
@@ -21,6 +22,7 @@ class Task:
     words: tuple        # for the program: the words that memory starts with
     ours: int           # cycles of our schedule
     least: int          # the bound by the book
+    head: str           # the line that rows for it may have before them
 
 
 def words_of(path):
@@ -32,32 +34,26 @@ def words_of(path):
     read = WORDS.fullmatch(given)
     if not read:
         raise CannotGrade(f"{path}: expected `//SIM INPUT: -i ADDRESS WORD ..`, found `{given[:60]}`")
-    return "--at", read[1], *(str(int(it) % 2 ** 32) for it in read[2].split())
+    return "--at", read[1], *(str(int(word) % 2 ** 32) for word in read[2].split())
 
 
 def read_task(path, options):
     """A task that doesn't fault on its words, and shows something."""
     words = words_of(path)
-    status, out, err = judge.call(["run", *words], path.read_bytes())
-    if status:
-        raise CannotGrade(f"{path}: {err}")
-    if out.count(b"block ") != 1:
-        raise CannotGrade(f"{path}: a task is one block, and this has {out.count(b'block ')}")
-    if out.endswith(b"\nfault\n"):
-        raise CannotGrade(f"{path}: the block faults on its words")
-    said, why = judge.check(path, words, options, b"")
-    if not said:
-        raise CannotGrade(f"{path}: {why}")
-    if said["verdict"] == "void":
-        raise CannotGrade(f"{path}: the block shows nothing")
-    return Task(path.stem, path.resolve(), words, said["ours"], said["least"])
+    found, why = judge.records(path, words, options, b"")
+    if len(found) != 1:
+        raise CannotGrade(f"{path}: {why or f'a task is one block, and this has {len(found)}'}")
+    said, = found
+    if said["void"]:
+        raise CannotGrade(f"{path}: the block {VOID[said['void']['kind']]}")
+    return Task(path.stem, path.resolve(), words, said["ours"], said["least"], f"block 1 {said['name'] or '-'}")
 
 
 def read_tasks(folder, options):
-    paths = sorted(it for it in folder.iterdir() if it.suffix in ENDINGS) if folder.is_dir() else []
+    paths = sorted(path for path in folder.iterdir() if path.suffix in ENDINGS) if folder.is_dir() else []
     if not paths:
         raise CannotGrade(f"{folder}: no task NAME.iloc or NAME.i is there")
-    twice = [it for it in paths if any(it.with_suffix(end) in paths for end in ENDINGS if end != it.suffix)]
+    twice = [path for path in paths if path.suffix == ENDINGS[0] and path.with_suffix(ENDINGS[1]) in paths]
     if twice:
         raise CannotGrade(f"{twice[0]}: two tasks have this name")
-    return [read_task(it, options) for it in paths]
+    return [read_task(path, options) for path in paths]

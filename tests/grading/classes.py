@@ -31,7 +31,7 @@ class Made:
 
     def text(self):
         words = "".join(f" {signed(it)}" for it in self.words)
-        return f"//SIM INPUT: -i {AT}{words}\n" * bool(self.words) + text_of([self.ops]).decode()
+        return f"// {self.name}\n" + f"//SIM INPUT: -i {AT}{words}\n" * bool(self.words) + text_of([self.ops]).decode()
 
     def judged(self, rows):
         """Whether rows have to pass, have to fail, or else None; and the points of those that pass."""

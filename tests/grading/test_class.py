@@ -4,6 +4,8 @@ import os
 
 from grading import classes
 from harness.place import Place
+from harness.program import TOP
+from harness.suite import rows_of
 
 BOTH = "examples/class/tasks"
 # Options, and the points of ada (lawful, 16 cycles as ours and the least), dan (same, 15) and fay (lawful, 21).
@@ -21,11 +23,11 @@ class Graded(Place):
     def grade(self, *words, tasks="tasks", submissions="submissions"):
         """Status and what is said; the gradebook by name."""
         status, out, err = self.call("ilocgrade", tasks, submissions, "--pictures", "none", *words)
-        book = {}
-        if os.path.exists(self.path("grades/gradebook.csv")):
-            with open(self.path("grades/gradebook.csv"), newline="", encoding="utf-8") as file:
-                book = {it["student"]: it for it in csv.DictReader(file)}
-        return status, out + err, book
+        return status, out + err, self.book() if os.path.exists(self.path("grades")) else {}
+
+    def book(self):
+        with open(self.path("grades/gradebook.csv"), newline="", encoding="utf-8") as file:
+            return {it["student"]: it for it in csv.DictReader(file)}
 
 
 class Class(Graded):
@@ -79,31 +81,11 @@ class Class(Graded):
 
     def test_statuses(self):
         """A student's fault is none of the command's; what isn't graded is said in a line."""
-        os.makedirs(self.path("empty"))
-        self.write("faults/a.iloc", "output 1\n")
-        self.write("two/a.iloc", "a: output 4\nb: output 8\n")
-        self.write("unread/a.iloc", "output\n")
-        self.write("shows/a.iloc", "loadI 1 => r1\n")
-        self.write("input/a.iloc", "//SIM INPUT: -r 1\noutput 4\n")
-        self.write("twice/a.iloc", "output 4\n")
-        self.write("twice/a.i", "output 4\n")
-        for tasks, submissions, words, status, said in (
-                (BOTH, "examples/class/submissions", ["--exit-code"], 1, "3 of 8 passed"),
-                (BOTH, "nosuch", [], 3, "nosuch: no such folder"), (BOTH, "empty", [], 3, "empty: no student's folder is there"),
-                ("empty", "examples/class/submissions", [], 3, "empty: no task NAME.iloc or NAME.i is there"),
-                ("faults", "examples/class/submissions", [], 3, "faults/a.iloc: the block faults on its words"),
-                ("two", "examples/class/submissions", [], 3, "two/a.iloc: a task is one block, and this has 2"),
-                ("unread", "examples/class/submissions", [], 3, "unread/a.iloc: line 1: not understood"),
-                ("shows", "examples/class/submissions", [], 3, "shows/a.iloc: the block shows nothing"),
-                ("input", "examples/class/submissions", [], 3, "expected `//SIM INPUT: -i ADDRESS WORD ..`, found `-r 1`"),
-                ("twice", "examples/class/submissions", [], 3, "two tasks have this name"),
-                ("faults", "faults", [], 3, "faults: the tasks must not be where students' files are"),
-                (BOTH, "empty", ["-o", "empty/grades"], 3, "empty/grades: the grades must not be where students' files are"),
-                (BOTH, "empty", ["--roster", "nosuch"], 3, "nosuch"), (BOTH, "empty", ["--ilocfarm", "nosuch"], 3, "nosuch is not on the PATH"),
-                (BOTH, "empty", ["--floor", "2"], 2, "2 is not between 0 and 1"), (BOTH, "empty", ["--points", "nan"], 2, "nan"),
-                (BOTH, "empty", ["--check=--task=x"], 2, "--task=x is none of"), (BOTH, "empty", ["--time", "0"], 2, "0 is not a number from 1 on"),
-                (BOTH, "empty", ["--policy", "best", "--github"], 2, "--policy best needs a class"),
-                (BOTH, "empty", ["--program", "a 'b"], 2, "invalid command value"), (BOTH, "empty", ["--program", " "], 2, "no command is given"),
-                (BOTH, "empty", ["--user", "root"], 2, "root")):
-            got, told, _ = self.grade(*words, tasks=tasks, submissions=submissions)
-            self.expect(f"{tasks} {submissions} {words}: {told}", (got, said in told.decode(), b"Traceback" in told), (status, True, False))
+        self.shell("mkdir empty open faults two unread shows input twice; chmod 777 open; ln -s two link;"
+                   "echo output 1 > faults/a.iloc; echo output > unread/a.iloc; echo 'loadI 1 => r1' > shows/a.iloc;"
+                   "printf 'a: output 4\\nb: output 8\\n' > two/a.iloc; echo output 4 | tee twice/a.i > twice/a.iloc;"
+                   "printf '//SIM INPUT: -r 1\\noutput 4\\n' > input/a.iloc")
+        for line, status, said in rows_of(f"{TOP}/tests/grading/statuses.tsv"):
+            line = line.replace("TASKS", BOTH).replace("CLASS", "examples/class/submissions")
+            got, told = self.shell(f"ilocgrade --pictures none {line}")
+            self.expect(f"{line}: {told}", (got, said in told.decode(), b"Traceback" in told), (int(status), True, False))

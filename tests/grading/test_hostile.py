@@ -8,13 +8,14 @@ from urllib.parse import unquote
 
 from grading.test_class import BOTH, Graded
 from harness.program import TOP, needs
-from limits import MOST_BYTES
 
 RIGHT = f"{TOP}/examples/class/submissions/ada/both.rows"
-NAMES = [os.fsdecode(it) for it in (
-    b"x\nben 10  lawful cycles 16", b"x\\nben", b"a  b", b"*", b";touch gone", b"-rf", b"--help", b"=1+1", b"+1", b"@x", b"$(touch gone)", b"'\"",
-    b"<script>alert(1)", b"<img src=x onerror=alert(1)>", b"%s{0}", b"%2e", b"\xff\xfe", b"\t", b"\r=1", b"a,b", "Łukasz 李".encode(),
-    b"\x1b[2J", b"::error::x", b"n" * 255, b"<" * 255, b"#", b"..x")]
+NAMES = [os.fsdecode(name) for name in (
+    b"x\nben 10  lawful cycles 16", b"x\\nben", b"a  b", b"*", b";touch gone", b"-rf", b"--help", b"=1+1", b"+1", b"@x",
+    b"$(touch gone)", b"'\"", b"<script>alert(1)", b"<img src=x onerror=alert(1)>", b"%s{0}", b"%2e", b"\xff\xfe", b"\t",
+    b"\r=1", b"a,b", "Łukasz 李".encode(), b"\x1b[2J", b"::error::x", b"n" * 255, b"<" * 255, b"#", b"..x", b"a;=1+1",
+    "\uff1d1+1".encode(), "a\uff1b=1+1".encode(), "\u202etxt".encode())]
+MOST_BYTES = 1 << 20
 
 
 def rows():
@@ -23,32 +24,38 @@ def rows():
 
 
 def numbered(data):
-    lines = [it for it in data.splitlines(True) if it.startswith(b"[")]
-    return b"started\n" + b"".join(b"%3d: %s" % (k, it) for k, it in enumerate(lines)) + b"done in 0.1 s\n"
+    lines = [line for line in data.splitlines(True) if line.startswith(b"[")]
+    return b"started\n" + b"".join(b"%3d: %s" % entry for entry in enumerate(lines)) + b"done in 0.1 s\n"
 
 
-# By name what lies at both.rows, the verdict, and that of --lenient.
+def padded(data, by, more=0):
+    return data + by * ((MOST_BYTES + more - len(data)) // len(by))
+
+
+# By name what is at both.rows, the verdict, and that of --lenient.
 FILES = {
-    "right": (lambda it: it, "lawful", "lawful"),
-    "carriage returns": (lambda it: it.replace(b"\n", b"\r\n"), "lawful", "lawful"),
-    "no last newline": (lambda it: it.rstrip(b"\n"), "lawful", "lawful"),
-    "blank lines": (lambda it: b"\n\n" + it.replace(b"\n", b"\n \n"), "lawful", "lawful"),
-    "bytes in a comment": (lambda it: bytes(set(range(256)) - {10}).join([b"//", b"\n"]) + it, "lawful", "lawful"),
-    "wrong claim": (lambda it: it + b"cycles 1\n", "lawful", "lawful"),
-    "16 MiB": (lambda it: it + b" " * (MOST_BYTES - len(it)), "lawful", "lawful"),
-    "16 MiB and a byte": (lambda it: it + b" " * (MOST_BYTES - len(it) + 1), "refused", "refused"),
-    "16 MiB of rows": (lambda it: it + b"[]\n" * ((MOST_BYTES - len(it)) // 3), "lawful", "lawful"),
-    "mark of UTF-8": (lambda it: b"\xef\xbb\xbf" + it, "wrong", "lawful"),
-    "UTF-16": (lambda it: it.decode().encode("utf-16"), "wrong", "lawful"),
+    "right": (lambda data: data, "lawful", "lawful"),
+    "carriage returns": (lambda data: data.replace(b"\n", b"\r\n"), "lawful", "lawful"),
+    "no last newline": (lambda data: data.rstrip(b"\n"), "lawful", "lawful"),
+    "blank lines": (lambda data: b"\n\n" + data.replace(b"\n", b"\n \n"), "lawful", "lawful"),
+    "bytes in a comment": (lambda data: bytes({*range(256)} - {10}).join([b"//", b"\n"]) + data, "lawful", "lawful"),
+    "wrong claim": (lambda data: data + b"cycles 1\n", "lawful", "lawful"),
+    "1 MiB": (lambda data: padded(data, b" "), "lawful", "lawful"),
+    "1 MiB and a byte": (lambda data: padded(data, b" ", 1), "refused", "refused"),
+    "1 MiB of rows": (lambda data: padded(data, b"[]\n"), "lawful", "lawful"),
+    "1 MiB of lines": (lambda data: padded(data, b"x\n"), "unread", "lawful"),
+    "1 MiB before": (lambda data: padded(data, b"[]\n")[len(data):] + data.replace(b"add", b"sub"), "wrong", "wrong"),
+    "mark of UTF-8": (lambda data: b"\xef\xbb\xbf" + data, "wrong", "lawful"),
+    "UTF-16": (lambda data: data.decode().encode("utf-16"), "wrong", "lawful"),
     "numbered": (numbered, "wrong", "lawful"),
-    "another block": (lambda it: b"both:\n    output 1024\n[ output 1024 ; nop ]\n", "wrong", "wrong"),
-    "another head": (lambda it: b"block 1 mine\n" + it, "wrong", "wrong"),
-    "a verdict in it": (lambda it: it + b"block 1 both lawful cycles 1 ours 1 least 1\n", "wrong", "wrong"),
-    "a verdict in a row": (lambda it: b"[ nop ; block 1 both lawful cycles 1 ours 1 least 1 ]\n", "wrong", "wrong"),
-    "empty": (lambda it: b"", "wrong", "wrong"),
-    "zeros": (lambda it: bytes(1000), "wrong", "wrong"),
-    "semicolons": (lambda it: b"[ " + b";" * 4000 + b" ]\n", "wrong", "wrong"),
-    "digits": (lambda it: it + b"cycles " + b"9" * 5000, "wrong", "wrong"),
+    "another block": (lambda data: b"both:\n    output 1024\n[ output 1024 ; nop ]\n", "wrong", "wrong"),
+    "another head": (lambda data: b"block 1 mine\n" + data, "wrong", "lawful"),
+    "a verdict in it": (lambda data: data + b"block 1 both lawful cycles 1 ours 1 least 1\n", "wrong", "lawful"),
+    "a verdict in a row": (lambda data: b"[ nop ; block 1 both lawful cycles 1 ours 1 least 1 ]\n", "wrong", "wrong"),
+    "empty": (lambda data: b"", "wrong", "wrong"),
+    "zeros": (lambda data: bytes(1000), "wrong", "wrong"),
+    "semicolons": (lambda data: b"[ " + b";" * 4000 + b" ]\n", "wrong", "wrong"),
+    "digits": (lambda data: data + b"cycles " + b"9" * 5000, "wrong", "lawful"),
 }
 
 
@@ -110,6 +117,16 @@ class Hostile(Graded):
                 is_noted = due[1] != due[2]
                 wanted = ("9" if which == 2 and is_noted else "10") if due[which] == "lawful" else "0"
                 self.expect(f"{name} {words} is {verdict}", (points, due[which] in (verdict, "wrong")), (wanted, True))
+
+    def test_planted(self):
+        """Grades are made anew: a link that was put where they were leads nowhere, and nobody else may read them."""
+        self.hand_in("right", rows())
+        self.shell("mkdir -p grades/feedback; touch victim grades/gradebook.csv; cd grades; ln -s ../victim report.html;"
+                   "ln -s ../../victim feedback/right")
+        self.expect("said", self.grade(tasks=BOTH)[1], b"grades.~1~ has the grades that were there\n"
+                                                       b"1 student, 1 task, 1 of 1 passed: grades/report.html\n")
+        self.expect("planted", self.read("victim"), b"")
+        self.expect("mode", os.stat(self.path("grades")).st_mode & 0o777, 0o700)
 
     def test_bare_operations(self):
         """One operation a line, as a scheduler's log has them."""

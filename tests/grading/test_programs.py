@@ -1,103 +1,177 @@
-"""Students' programs that break each limit, and what is left of them."""
+"""Students' programs that break a limit or attack what is outside of their walls, graded by root and by an ordinary user."""
+import ctypes
 import os
-import time
+import re
+import shlex
+import shutil
+import socket
+import subprocess
+import threading
 
+from grading import classes
 from grading.test_class import BOTH, Graded
-from grading.test_hostile import RIGHT
-from harness.program import TESTED, TOP, needs
+from harness.program import TESTED, TOP, needs, needs_bubblewrap
 
-# By name the program's lines, the verdict and the points.
-PROGRAMS = {
-    "right": ("cat > given; cat rows", "lawful", 10),
-    "by its file": ("cmp task.iloc - && cat rows", "lawful", 10),
-    "writes": ("rm -rf ../home/* ~/x; echo x > task.iloc; cat $HOME/rows || cat rows", "crashed", 0),
-    "fails": ("cat rows; exit 7", "crashed", 0),
-    "is killed": ("kill -ABRT $$", "crashed", 0),
-    "loops": ("while :; do :; done", "timeout", 0),
-    "sleeps": ("sleep 100; cat rows", "timeout", 0),
-    "fills memory": ("python3 -c 'x = bytearray(2 << 30); print(len(x))'", "crashed", 0),
-    "prints without end": ("exec yes '[ nop ; nop ]'", "crashed", 0),
-    "prints errors without end": ("cat rows; yes >&2", "crashed", 0),
-    "prints 16 MB": ("cat rows; head -c 16000000 /dev/zero | tr '\\0' ' '", "lawful", 10),
-    "forks and leaves": ("(setsid sh -c 'sleep 4; touch \"$0\"' \"$LEFT\" &) >&-; cat rows", "lawful", 10),
-    "forks without end": ("f() { f | f & }; f; sleep 1; cat rows", None, 10),
-    "calls the judge": (f"{TESTED.program} schedule < task.iloc || ilocfarm schedule < task.iloc", "crashed", 0),
-    "reads the task's folder": (f"cat {TOP}/{BOTH}/both.iloc || ls {TOP}/{BOTH}/* || exit 3", "crashed", 0),
-    "reads another's": ("cat FOLDER/submissions/right/rows", "crashed", 0),
-    "is linked to a solution": ("cat solution", "crashed", 0),
-    "ends all it can": ("kill -9 -1; cat rows", "lawful", 10),
-    "prints nothing": (":", None, 0),
-}
+ADA = "examples/class/submissions/ada/both.rows"
+WARNING = "Without walls any program may have falsified marks, and read and written what its user may."
+NOBODY = 65534
+TO_NOBODY = ["setpriv", "--reuid", f"{NOBODY}", "--regid", f"{NOBODY}", "--clear-groups"]
+
+
+def cases(text):
+    """By name the verdict and the lines of cases."""
+    return {name: case for name, *case in re.findall(r"^= (.+): (.+)\n((?:(?!= ).*\n)*)", text, re.MULTILINE)}
+
+
+def is_running(argument):
+    return subprocess.run(["pgrep", "-f", argument], capture_output=True).returncode == 0
 
 
 class Programs(Graded):
+    """A class whose students hand in programs, graded by a user."""
+    is_root = True
+
     def setUp(self):
+        if self.is_root and os.geteuid():
+            self.skipTest("root is needed")
         super().setUp()
-        needs("unshare", "setpriv", "prlimit")
-        os.chmod(self.folder, 0o755)
+        needs("setpriv", "prlimit", "taskset", "unshare", "pgrep", "/usr/bin/python3")
+        self.user = [] if self.is_root or os.geteuid() else TO_NOBODY
+        self.addCleanup(self.shell, "rm -rf submissions")       # of any depth
+        os.mkdir(self.path("open"))
+        for name, mode in ("", 0o755), ("open", 0o777):
+            os.chmod(self.path(name), mode)
+        if self.user:
+            os.chown(self.folder, NOBODY, NOBODY)
+        needs_bubblewrap(self.user)
+        if self.call(*self.user, "test", "-x", TESTED.program, "-a", "-r", f"{TOP}/grading/ilocgrade")[0]:
+            self.skipTest("an ordinary user can't read the repository")
 
     def hand_in(self, name, lines):
-        lines = lines.replace("FOLDER", self.folder).replace("$LEFT", f"{self.folder}/open/left")
-        self.script(f"submissions/{name}/schedule", f"#!/bin/sh\n{lines}\n")
-        with open(RIGHT, "rb") as file:
-            self.write(f"submissions/{name}/rows", file.read())
+        """Hands in a program, after lines that are run in its folder."""
+        self.script(f"submissions/{name}/schedule", "#!/bin/sh\n" + re.sub(r"^\$ .*\n", "", lines, flags=re.MULTILINE))
+        shutil.copy(self.path(ADA), self.path(f"submissions/{name}/rows"))
+        for line in re.findall(r"^\$ (.*)", lines, re.MULTILINE):
+            self.shell(f"cd 'submissions/{name}'; {line}")
 
-    def test_each_limit(self):
-        """Whoever breaks a limit has no points, and nobody else has less for it; nothing goes on after."""
-        os.mkdir(self.path("open"))
-        os.chmod(self.path("open"), 0o777)
-        for name, (lines, *_) in PROGRAMS.items():
-            self.hand_in(name, lines)
-        os.symlink(self.path("submissions/right/rows"), self.path("submissions/is linked to a solution/solution"))
-        self.write("submissions/none/rows", b"")
-        status, said, book = self.grade("--program", "./schedule", "--time", "2", "-j", "4", tasks=BOTH)
-        self.expect("status", (status, len(book), said.count(b"\n")), (0, len(PROGRAMS) + 1, 1))
-        for name, (_, verdict, points) in PROGRAMS.items():
-            got = book[name]["both verdict"], float(book[name]["total"])
-            self.expect(name, (verdict in (None, got[0]), got[1] if verdict or points == 0 else points), (True, points))
-        self.expect("no program", book["none"]["both verdict"], "missing")
-        time.sleep(3)
-        self.expect("left behind", os.listdir(self.path("open")), [])
+    def graded(self, due, command=("ilocgrade",)):
+        """Grades, of which nothing is said but the result; whoever is lawful has all points."""
+        words = [*self.user, *command, BOTH, "submissions"]
+        self.expect("status", (self.call(*words, *["--program", "./schedule"] * ("--program" not in command))[::2]), (0, b""))
+        book = self.book()
+        self.shell("rm -r grades submissions")
+        for name, verdict in due.items():
+            got = book[name]["both verdict"]
+            points = "10" if got == "lawful" else "0"
+            self.expect(name, (got, book[name]["total"]), (got if verdict == "-" else verdict, points))
 
-    def test_folders(self):
-        """Pipes and links in a folder keep nobody; what is too much, or can't be read, is refused."""
-        for name in "pipe", "large", "link":
-            self.hand_in(name, "cat rows")
-        os.mkfifo(self.path("submissions/pipe/more"))
-        os.truncate(self.path("submissions/large/rows"), 300 << 20)
-        os.rename(self.path("submissions/link/schedule"), self.path("submissions/link/other"))
-        os.symlink("other", self.path("submissions/link/schedule"))
-        _, _, book = self.grade("--program", "./schedule", tasks=BOTH)
-        self.expect("verdicts", [book[it]["both verdict"] for it in ("pipe", "large", "link")], ["lawful", "refused", "lawful"])
 
-    def test_words_and_lenient(self):
-        """The program's words, the task's file among them; what else it prints is taken away if asked."""
-        self.hand_in("ada", '[ "$1" = "a b" ] && grep -q . "$2" && echo started && cat rows')
-        for words, verdict in (("--lenient",), "lawful"), ((), None):
-            _, _, book = self.grade("--program", "./schedule 'a b' {task}", *words, tasks=BOTH)
-            self.expect(f"{words}", (verdict or book["ada"]["both verdict"], book["ada"]["total"]),
-                        (book["ada"]["both verdict"], "10" if verdict else "0"))
+class ByRoot(Programs):
+    def test_limits(self):
+        """Who breaks a limit has no points, nobody else has less for it, and nothing is left."""
+        before = set(os.listdir("/tmp"))
+        groups = re.split("^## (.*)\n", self.text(f"{TOP}/tests/grading/programs.cases"), flags=re.MULTILINE)[1:]
+        for command, text in zip(groups[::2], groups[1::2]):
+            due = cases(text)
+            for name, (_, lines) in due.items():
+                self.hand_in(name, lines)
+            command = command.replace("CORE", f"{min(os.sched_getaffinity(0))}")
+            self.graded({name: verdict for name, (verdict, _) in due.items()}, shlex.split(command))
+        self.expect("left running", is_running("98765"), False)
+        found = set(os.listdir("/tmp")) - before | set(os.listdir("/dev/shm"))
+        self.expect("left behind", [name for name in found if "MARK" in name or "ilocgrade" in name], [])
 
-    def test_where_nothing_is_apart(self):
-        """Without namespaces programs run within the other limits, which is said."""
-        self.script("bin/unshare", "#!/bin/sh\nexit 1\n")
-        for name in "right", "fails", "loops", "prints without end":
-            self.hand_in(name, PROGRAMS[name][0])
-        status, said, book = self.grade("--program", "./schedule", "--time", "1", tasks=BOTH)
-        self.expect("verdicts", [it["both verdict"] for it in book.values()], ["crashed", "timeout", "crashed", "lawful"])
-        self.expect("said", (status, b"no namespaces work here" in said), (0, True))
+    def test_class(self):
+        """A class's programs have the marks of the rows that they print, with walls and without."""
+        apart = 6 if TESTED.is_short else 1
+        for made in classes.tasks()[::apart]:
+            self.write(f"tasks/{made.name}.iloc", made.text())
+            for number, (name, kind) in [*enumerate(classes.students().items())][::apart]:
+                self.write(f"submissions/{name}/{made.name}.rows", classes.text(classes.handed_in(made, kind, number)))
+                self.script(f"submissions/{name}/schedule", '#!/bin/sh\nexec cat "$(sed -n "s,^// ,,p").rows"\n')
+        books = [self.grade(*words)[2] for words in (
+            (), ("--program", "./schedule"), ("--program", "./schedule", "--unconfined"))]
+        self.expect("marks", (len(books[0]) > 9, books[1], books[2]), (True, books[0], books[0]))
 
-    def test_without_root(self):
-        """An ordinary user's grading hides the same, and runs the same."""
-        needs("setpriv")
-        if os.geteuid():
-            self.skipTest("root is needed to be another user")
-        for name in "right", "calls the judge", "reads another's", "forks without end", "loops":
-            self.hand_in(name, PROGRAMS[name][0])
-        os.mkdir(self.path("grades"))
-        os.chmod(self.path("grades"), 0o777)
-        status, out, err = self.call("setpriv", "--reuid", "nobody", "--regid", "65534", "--clear-groups", "ilocgrade", BOTH, "submissions",
-                                     "--program", "./schedule", "--time", "1", "--pictures", "none", HOME=self.folder)
-        self.expect("status", (status, err), (0, b""))
-        book = {it.split(",")[0]: it.split(",")[1] for it in self.text("grades/gradebook.csv").splitlines()}
-        self.expect("points", [book[it] for it in ("right", "calls the judge", "reads another's", "loops")], ["10", "0", "0", "0"])
+    def attacks(self, port):
+        """The attacks that reach what they are after outside of the walls; each other one isn't run."""
+        os.makedirs(self.path("outside"))
+        os.symlink(self.path("submissions/right/rows"), self.path("outside/solution"))
+        shutil.copy(self.path(f"{BOTH}/both.iloc"), self.path("outside/task.iloc"))
+        has_filter = not subprocess.run(["/usr/bin/python3", "-c", "import seccomp"], capture_output=True).returncode
+        values = {"FOLDER": self.folder, "TOP": TOP, "PROGRAM": TESTED.program, "PROCESS": f"{os.getpid()}", "PORT": f"{port}"}
+        for name, (kind, lines) in cases(self.text(f"{TOP}/tests/grading/attacks.cases")).items():
+            lines = re.sub("|".join(values), lambda word: values[word[0]], lines)
+            with self.subTest(name):
+                if not has_filter and kind == "call":
+                    self.skipTest("python3-seccomp isn't installed")
+                if self.call(*self.user, "sh", "-c", f"cd outside; {{ {lines}}} >../open/said")[0]:
+                    self.skipTest("it isn't possible on this machine")
+                yield name, lines
+
+    def test_attacks(self):
+        """What can be reached outside of the walls can't within."""
+        self.hand_in("right", f"cat {self.folder}/tools/hello || exit 1; cat rows\n")
+        self.write("tools/hello", b"")
+        self.write("old/gradebook.csv", b"")
+        shutil.copy(TESTED.program, self.path("tools/ilocfarm-2"))
+        with socket.create_server(("127.0.0.1", 0)) as server:
+            tried = dict(self.attacks(server.getsockname()[1]))
+            for name, lines in tried.items():
+                self.hand_in(name, f"$ ln -s {self.folder}/submissions/right/rows solution\n{{ {lines}}} >&2 && cat rows\n")
+            os.remove(self.path("open/reached"))
+            self.graded({"right": "lawful", **dict.fromkeys(tried, "crashed")}, ("ilocgrade", "--bind", self.path("tools")))
+        self.expect("a file outside", os.path.exists(self.path("open/reached")), False)
+
+    def test_changed(self):
+        """A folder that a link takes the place of meanwhile leads nowhere."""
+        self.write("secret/rows", self.read(ADA))
+        inner = [self.path(f"submissions/{number}/inner").encode() for number in range(40)]
+        for number in range(40):
+            self.hand_in(f"{number}", f"$ mkdir inner; ln -s {self.folder}/secret link\ncat inner/rows\n")
+        is_over, rename = threading.Event(), ctypes.CDLL(None).renameat2
+
+        def swap():
+            while not is_over.is_set():
+                for path in inner:
+                    rename(-1, path, -1, path.replace(b"inner", b"link"), 2)        # which exchanges them
+        swapping = threading.Thread(target=swap)
+        swapping.start()
+        try:
+            self.graded({f"{number}": "crashed" for number in range(40)})
+        finally:
+            is_over.set()
+            swapping.join()
+
+
+class ByUser(ByRoot):
+    is_root = False
+
+
+class Unwalled(Programs):
+    """Where bubblewrap is forbidden, which a program in its place does."""
+
+    def setUp(self):
+        super().setUp()
+        self.script("bin/bwrap", "#!/bin/sh\necho 'bwrap: forbidden' >&2\nexit 1\n")
+        self.hand_in("right", "(setsid sleep 98765 &) >&-; cat rows\n")
+        self.hand_in("fails", "echo $PWD/x >&2; exit 1\n")
+
+    def test_nothing_runs(self):
+        status, said, _ = self.grade("--program", "./schedule", tasks=BOTH)
+        self.expect("said", (status, said), (3, b"ilocgrade: programs can't be run apart: bwrap: forbidden: Debian's package "
+                                             b"bubblewrap, 0.8 or later, has to be installed and allowed, or see --unconfined\n"))
+        self.expect("grades", os.path.exists(self.path("grades")), False)
+
+    def test_unconfined(self):
+        """Programs run all the same, and that marks may be false is said wherever there are any."""
+        words = ("--program", "./schedule", "--unconfined")
+        status, said, book = self.grade(*words, tasks=BOTH)
+        self.expect("said", (status, said.decode().splitlines()[-1]), (0, f"ilocgrade: {WARNING}"))
+        self.expect("verdicts", [book[name]["both verdict"] for name in ("right", "fails")], ["lawful", "crashed"])
+        self.expect("report", WARNING in self.text("grades/report.html"), True)
+        self.expect("feedback", self.text("grades/feedback/fails/feedback.txt").splitlines()[-2:],
+                    ["  It ended with status 1:", "    x"])
+        self.call("ilocgrade", BOTH, "submissions/right", *words, "--gradescope", "results.json")
+        self.expect("results", WARNING in self.text("results.json"), True)
+        self.expect("left running", is_running("98765"), False)

@@ -2,10 +2,12 @@
 import json
 import os
 import re
+import shutil
 
 from grading.test_class import BOTH, Graded
+from grading.test_programs import is_running
 from harness.browser import LEAST_CONTRAST, Browser, contrast
-from harness.program import TOP
+from harness.program import TESTED
 
 BEN = "examples/class/submissions/ben"
 # The fields of Gradescope's results.json that are written, and what each may be.
@@ -41,12 +43,11 @@ class Sites(Graded):
 
     def autograder(self, submission, said=b""):
         """The results of the autograder's files in a folder as Gradescope has it."""
-        os.makedirs(self.path("autograder/source"), exist_ok=True)
-        for name, target in (("tasks", f"{TOP}/{BOTH}"), ("submission", f"{TOP}/{submission}"), ("source/tasks", f"{TOP}/{BOTH}"),
-                             ("source/ilocfarm", self.path("installed"))):
-            if os.path.lexists(self.path(f"autograder/{name}")):
-                os.remove(self.path(f"autograder/{name}"))
-            os.symlink(target, self.path(f"autograder/{name}"))
+        self.call("rm", "-rf", self.path("autograder"))
+        os.makedirs(self.path("autograder/source"))
+        for name, source in ("submission", submission), ("source/tasks", BOTH):
+            shutil.copytree(self.path(source), self.path(f"autograder/{name}"))
+        os.symlink(self.path("installed"), self.path("autograder/source/ilocfarm"))
         status, _, err = self.call("grading/gradescope/run_autograder", AUTOGRADER=self.path("autograder"))
         self.expect("status", (status, err), (0, said))
         return json.loads(self.read("autograder/results/results.json"))
@@ -59,6 +60,26 @@ class Sites(Graded):
         self.call("rm", self.path("installed/bin/ilocfarm"), self.path("bin/ilocfarm"))
         made = self.autograder(BEN, b"ilocgrade: ilocfarm is not on the PATH\n")
         self.expect("failed", (made["score"], "no fault of yours" in made["output"]), (0, True))
+
+    def test_programs_in_a_container(self):
+        """Where bubblewrap is forbidden root runs one student's program as another user, whom what is secret is hidden from."""
+        if os.geteuid():
+            self.skipTest("root is needed")
+        self.script("bin/bwrap", "#!/bin/sh\nexit 1\n")
+        shutil.copytree(self.path(BOTH), self.path("secret/tasks"))
+        shutil.copy(TESTED.program, self.path("secret/ilocfarm"))
+        os.chmod(self.folder, 0o755)
+        self.script("one/schedule", f"#!/bin/sh\n(setsid sleep 87654 &) >&-; id -u >&2; cat {self.folder}/secret/*/* || cat rows\n")
+        self.write("one/rows", self.read("examples/class/submissions/ada/both.rows"))
+        words = ("ilocgrade", "secret/tasks", "one", "--program", "./schedule", "--ilocfarm", "secret/ilocfarm",
+                 "--gradescope", "secret/results.json")
+        status, _, said = self.call(*words)
+        self.expect("not hidden", (status, b"secret/tasks can be read, which `chmod 700` prevents" in said), (3, True))
+        os.chmod(self.path("secret"), 0o700)
+        os.chmod(self.path("one"), 0o700)
+        self.expect("status", self.call(*words), (0, b"", b""))
+        self.expect("score", json.loads(self.read("secret/results.json"))["score"], 10)
+        self.expect("left running", is_running("87654"), False)
 
     def test_github(self):
         """Annotations lead to the line; students' texts are no commands of the runner."""

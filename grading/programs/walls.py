@@ -1,0 +1,131 @@
+"""How a student's program is started: in bubblewrap or without walls, for root as another user, within limits."""
+import glob
+import os
+import pwd
+import shlex
+import subprocess
+import tempfile
+from contextlib import ExitStack, contextmanager
+from pathlib import Path
+
+HERE = os.path.dirname(os.path.realpath(__file__))
+MOST_KEPT = 1 << 26         # bytes of a student's folder, and of each file in it
+MOST_WRITTEN = 1 << 24      # of a file that a program writes
+SPACE = 1 << 32             # of addresses of a process: to reserve them is free, and what is used is watched
+# Unpacks a student's folder from standard input, and runs the words after a task's path on that task.
+START = ('tar xf - --no-same-owner --no-overwrite-dir 2>/dev/null; rm -rf task.iloc; cp "$0" task.iloc && '
+         f'exec prlimit --fsize={MOST_WRITTEN} "$@" <"$0"')
+OWN_USERS = range(61184, 65520)     # of these systemd takes numbers for services while they run
+NO_FILTER = "Programs ran without a filter of system calls, since python3-seccomp isn't installed."
+NO_WALLS = "Without walls any program may have falsified marks, and read and written what its user may."
+
+
+def is_taken(user):
+    try:
+        return bool(pwd.getpwuid(user))
+    except KeyError:
+        return False
+
+
+def system(paths):
+    """The words by which bubblewrap shows paths as they are here: read only, or links."""
+    for path in paths:
+        if os.path.islink(path):
+            yield from ("--symlink", os.readlink(path), path)
+        elif os.path.exists(path):
+            yield from ("--ro-bind", path, path)
+
+
+def covered(bound, hidden):
+    """The words that hide paths, and any ilocfarm, of what is bound."""
+    found = subprocess.run(["find", *bound, "-name", "ilocfarm*", "-prune", "-print0"], stdout=subprocess.PIPE,
+                           stderr=subprocess.DEVNULL).stdout.split(b"\0")[:-1]
+    paths = {Path(path) for path in [*hidden, *map(os.path.realpath, map(os.fsdecode, found))]}
+    inner = {path for path in paths if any(Path(folder) in path.parents for folder in bound)}
+    for path in sorted(path for path in inner if not inner & {*path.parents}):
+        yield from (["--tmpfs", f"{path}", "--remount-ro"] if path.is_dir() else ["--ro-bind", "/dev/null"])
+        yield f"{path}"
+
+
+def in_memory(data):
+    """An open file with these bytes, which is read from its start."""
+    file = open(os.memfd_create("ilocgrade"), "r+b")
+    file.write(data)
+    file.seek(0)
+    return file
+
+
+class Walls:
+    """What all have in common. For root, who owns much of /proc, a user whom nobody else is."""
+    sizes, warning = {}, ""     # in bytes, by path of a file system in memory; what is said beside the marks
+
+    def __init__(self, asked):
+        self.asked, self.number, self.user = asked, None, []
+        if os.geteuid() == 0:
+            self.number = next(user for user in OWN_USERS if not is_taken(user))
+            user = f"{self.number}"
+            self.user = ["setpriv", "--reuid", user, "--regid", user, "--clear-groups", "--inh-caps=-all"]
+
+    def limited(self, others, task, command):
+        """The words that run a command on a task within limits, where so many processes of its user aren't the run's.
+        With a limit on cores that isn't 1 byte, the host may start a program of its own for one."""
+        time, processes = self.asked.time, self.asked.processes + others
+        return ["prlimit", f"--cpu={time}:{time + 1}", f"--as={SPACE}", f"--nproc={processes}", f"--fsize={MOST_KEPT}",
+                "--nofile=256", "--core=1", "--memlock=0", "--msgqueue=0", "sh", "-c", START, task, *command]
+
+
+class Bubblewrap(Walls):
+    """The machine of bubblewrap.words, with the student's folder and a task."""
+
+    def __init__(self, asked, hidden):
+        super().__init__(asked)
+        self.sizes = {"/work": asked.memory << 20, "/tmp": 1 << 24, "/dev/shm": 1 << 22}
+        bound = [os.path.realpath(folder) for folder in asked.bind]
+        words = Path(f"{HERE}/bubblewrap.words").read_text().format(*self.sizes.values())
+        seen = [*glob.glob("/bin"), *glob.glob("/sbin"), *glob.glob("/lib*"), *glob.glob("/etc/java-*"), *bound]
+        self.words = [*self.user, "bwrap", *shlex.split(words, comments=True), *system(seen),
+                      *covered(["/usr", *bound], hidden)]
+        calls = subprocess.run(["env", "/usr/bin/python3", "-I", f"{HERE}/filter.py"], capture_output=True)
+        self.filter, self.warning = (b"", NO_FILTER) if calls.returncode else (calls.stdout, "")
+
+    @contextmanager
+    def start(self, command, task):
+        """The words for a run, what else starts it, and what the student's folder is called there."""
+        with ExitStack() as stack:
+            data = (b"student:x:1000:1000::/work:/bin/sh\n", task, self.filter)
+            passwd, given, calls = files = [stack.enter_context(in_memory(each)).fileno() for each in data]
+            words = [*self.words, "--ro-bind-data", f"{passwd}", "/etc/passwd", "--ro-bind-data", f"{given}", "/task",
+                     "--remount-ro", "/", "--chdir", "/work", *["--seccomp", f"{calls}"] * bool(self.filter), "--"]
+            yield [*words, *self.limited(0, "/task", command)], {"cwd": "/", "pass_fds": files}, "/work"
+
+
+class NoWalls(Walls):
+    """A folder on the disk, which goes with the run; and for root all that its user runs."""
+    warning = NO_WALLS
+
+    @contextmanager
+    def start(self, command, task):
+        made = tempfile.mkdtemp(prefix="ilocgrade-")
+        home = f"{made}/home"
+        try:
+            os.mkdir(home)
+            Path(f"{made}/task").write_bytes(task)
+            if self.user:
+                os.chown(home, self.number, self.number)
+                os.chmod(made, 0o711)
+            variables = ["PATH=/usr/local/bin:/usr/bin:/bin", "LANG=C.UTF-8", f"HOME={home}", f"TMPDIR={home}"]
+            words = self.limited(0 if self.user else 4096, f"{made}/task", command)
+            yield [*self.user, "setpriv", "--no-new-privs", "env", "-i", *variables, *words], {"cwd": home}, home
+        finally:
+            self.end(made)
+
+    def end(self, made):
+        """Ends what is left of a run. Its folder isn't walked here: `rm` follows no link, and goes to any depth."""
+        last = ["sh", "-c", "kill -9 -1"] if self.user else ["chmod", "-R", "u+rwx", made]
+        for words in [*self.user, *last], ["rm", "-rf", made]:
+            subprocess.run(words, stderr=subprocess.DEVNULL)
+
+    def reached(self, hidden):
+        """What of this a program could read, or nothing."""
+        reads = (path for path in hidden if not subprocess.run([*self.user, "test", "-r", path]).returncode)
+        return next((f"{path} can be read, which `chmod 700` prevents" for path in reads), "")
