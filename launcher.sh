@@ -1,5 +1,5 @@
-# What ilocfarm and build share. Both may be started anywhere, also by links, and work at the top of the repository; $here
-# is where they were started.
+# What ilocfarm, build and package share. They may be started anywhere, also by links, and work at the top of the repository;
+# $here is where they were started.
 say() {
     echo "ilocfarm: $*" >&2
 }
@@ -24,6 +24,18 @@ is_built() {
     [ -f out/built ] || return
     [ -n "$rt" ] || read -r rt <out/built
     made_from | cmp -s - out/built
+}
+
+# The lines of crates.txt for the program's crate and those below it.
+program_crates() {
+    awk -F '[:#]' '
+        split($1, words, " ") { line[words[1]] = $0; uses[words[1]] = $2 }
+        function need(name, below, k) {
+            if (!(name in line) || done[name]++) return
+            print line[name]
+            for (k = split(uses[name], below, /[ ,]+/); k; k--) need(below[k])
+        }
+        END { need("ilocfarm") }' crates.txt
 }
 
 # Makes the folder $room, which is removed when the script ends.

@@ -1,5 +1,6 @@
 """Many blocks in one picture: how many have cycles within which ratio of the least, or of the first column's."""
 import bisect
+import itertools
 import math
 from dataclasses import dataclass
 
@@ -39,7 +40,7 @@ class Ratios:
 
 def step_for(length):
     """A round number, of which at most six make this length."""
-    return next(it for it in (0.01, 0.02, 0.05, 0.1, 0.2, 0.5, 1, 2, 5, 10, 20, 50, math.inf) if length <= 6 * it)
+    return next(it * 10 ** zeros for zeros in itertools.count(-2) for it in (1, 2, 5) if length <= 6 * it * 10 ** zeros)
 
 
 class Curve:

@@ -1,4 +1,6 @@
 """A dependence graph in layers: an operation is below all that it waits for."""
+from math import fsum
+
 import svg
 from listing import CHAIN, COLOURS, WRONG
 
@@ -29,7 +31,7 @@ def placed(layers, paths, widths):
         for i, j in links:
             near.setdefault(i if sweep % 2 else j, []).append(j if sweep % 2 else i)
         for layer in layers[::-1] if sweep % 2 else layers:
-            wanted = {it: sum(x[n] for n in near[it]) / len(near[it]) if it in near else x[it] for it in layer}
+            wanted = {it: fsum(x[n] for n in near[it]) / len(near[it]) if it in near else x[it] for it in layer}
             layer.sort(key=wanted.get)
             x.update(spread(layer, wanted, widths))
     return x

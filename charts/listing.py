@@ -195,9 +195,14 @@ def read_block(lines, wanted):
 def parser(name, usage):
     """A command line with the latencies."""
     made = argparse.ArgumentParser(prog=name, description=usage, formatter_class=argparse.RawDescriptionHelpFormatter)
-    for option, usual in USUAL.items():
-        made.add_argument(f"--{option}", metavar="N", type=int, choices=range(1, 17), default=usual)
+    add_latencies(made)
     return made
+
+
+def add_latencies(made):
+    for option, usual in USUAL.items():
+        made.add_argument(f"--{option}", metavar="N", type=int, choices=range(1, 17), default=usual,
+                          help=f"cycles that a {option} takes, 1 to 16 [{usual}]")
 
 
 def latencies(asked):

@@ -3,7 +3,7 @@ import re
 
 import listing
 from forms import USUAL
-from listing import HEADER, PASSED, VERDICT, Listed, Operation
+from listing import HEADER, PASSED, VERDICT, Listed, Operation, count
 from svg import Unread
 
 READ = r"(?:r\d+|word \d+) = -?\d+(?: until \d+)?"
@@ -24,19 +24,19 @@ class Traced(Listed):
         self.trace, self.source, self.edges, self.said, self.shown = [], {}, [], [], dict(USUAL)
 
     def issue(self, line, kind, cycle, unit, spelling):
-        self.operations.append(Operation(spelling, int(cycle), int(unit)))
+        self.operations.append(Operation(spelling, count(cycle), int(unit)))
         if kind == "fault":
-            self.wrong[int(cycle)] = [line]
+            self.wrong[count(cycle)] = [line]
 
     def arrive(self, line, cycle, place, begun):
         """A result that arrives shows how long its operation took."""
         def sends(it):
             return it.kind() == "store" if place.startswith("word") else it.spelling.endswith(f"=> {place}")
 
-        senders = [it for it in self.operations[-RECENT:] if it.cycle == int(begun) and sends(it)]
+        senders = [it for it in self.operations[-RECENT:] if it.cycle == count(begun) and sends(it)]
         if not senders:
             raise Unread(f"no operation before sends what arrives: {line}")
-        self.shown[senders[0].kind()] = int(cycle) - int(begun)
+        self.shown[senders[0].kind()] = count(cycle) - count(begun)
 
     def step(self, line):
         """Reads a line of the trace, and says whether it is one."""
@@ -72,6 +72,9 @@ class Traced(Listed):
                 it.number, it.source = left[it.spelling].pop(), it.spelling
 
     def finish(self):
+        """Numbers the operations. Those of a graph are counted from 0 on, and edges lead from one to a later one."""
+        if {*self.source} != {*range(len(self.source))} or not all(i < j in self.source for i, j, _ in self.edges):
+            raise Unread(f"the graph of block {self.number} lacks an operation")
         self.number_alike()
         self.cycles = self.end(self.shown)
 
@@ -91,13 +94,13 @@ def read_traces(lines):
         rest.append("")
         head, node, edge = HEADER.match(line), NODE.fullmatch(line), EDGE.fullmatch(line)
         if head or node:
-            number = int((head or node)[1])
+            number = count((head or node)[1])
             block = blocks.setdefault(number, Traced(number))
             is_judged = VERDICT.fullmatch(line)
         if node:
-            block.source[int(node[2])] = node[3]
-        elif edge:
-            block.edges.append(tuple(map(int, edge.groups()[1:])))
+            block.source[count(node[2])] = node[3]
+        elif edge and block:
+            block.edges.append(tuple(map(count, edge.groups()[1:])))
         elif SAID.fullmatch(line) and block:
             block.said.append(line.strip())
             rest[-1] = line if is_judged else ""

@@ -290,6 +290,16 @@ class Charts(Place):
         self.expect("status", self.call("charts/compare", *(f"l{k}" for k in range(37))),
                (1, b"", b"charts/compare: more than 36 listings can't be told apart\n"))
 
+    def test_page_refuses(self):
+        """A listing that was changed: a number that is too long, edges from and to no operation."""
+        listing = b"".join(self.call("ilocfarm", it, given=BLOCK)[1] for it in ("graph", "trace"))
+        for old, new, said in (
+                (b"issue 0", b"issue " + b"0" * 5000, b"a number of 5000 digits: 0000000000.."),
+                (b"b1_5 -> b1_6", b"b1_5 -> b1_9", b"the graph of block 1 lacks an operation"),
+                (b"b1_5 -> b1_6", b"b1_6 -> b1_5", b"the graph of block 1 lacks an operation")):
+            self.expect(f"{new[:20]}", (self.call("charts/page", given=listing.replace(old, new)), old in listing),
+                        ((1, b"", b"charts/page: " + said + b"\n"), True))
+
     def test_compare_of_many(self):
         """Above sixty blocks ratios, not rows: a curve a listing, and a table."""
         checked = [b"block %d - %s cycles %d ours 20 least 20\n" % (k, b"differs" if k == 100 else b"same", 20 + k % 4)
@@ -323,9 +333,11 @@ class Charts(Place):
         self.write("none", b"total 0\n")
         self.write("other", b"block 1 - cycles 4\n[ nop ; nop ]\n")
         self.write("both", b"block 1 - cycles 4\nblock 2 - least 4 chain 5\n")
+        self.write("digits", b"block 1 - cycles " + b"9" * 5000 + b"\n")
         for words, said in ((["one", "two"], b"the listings have 1, 2 blocks: only the same ones can be compared"),
                             (["one", "none"], b"none: there is no block"),
                             (["one", "other"], b"other: line 2 is none of a listing of counts, check or compare: [ nop ; nop ]"),
+                            (["one", "digits"], b"a number of 5000 digits: 9999999999.."),
                             (["one"], b"one listing of counts or check can't be compared: give another"),
                             (["both"], b"both: the blocks are listed in more than one way")):
             self.expect(f"compare {words}", self.call("charts/compare", *words), (1, b"", b"charts/compare: " + said + b"\n"))

@@ -1,4 +1,4 @@
-"""Cases of man/, of ./install and of what is asked of the program by --help, --version and help."""
+"""Cases of man/, and of what is asked of the program by --help, --version and help."""
 import os
 import re
 import subprocess
@@ -26,9 +26,19 @@ COMPLETIONS = (
     (["run", "<", ""], ""),
     (["<", "first.iloc"], ""),
 )
+# Those of commands whose words are files.
+COMPLETIONS_BESIDE = (
+    ("ilocview", ["t"], "timeline"),
+    ("ilocview", ["page", "--l"], "--load"),
+    ("ilocview", ["timeline", "blocks", "--priority", "s"], "slack successors"),
+    ("ilocview", ["page", ""], ""),
+    ("ilocgrade", ["tasks", "--le"], "--lenient"),
+    ("ilocgrade", ["--policy", "b"], "best"),
+    ("ilocgrade", ["tasks", ""], ""),
+)
 # How a shell is started, and what it reads the completions by; then what is typed, and what the line shows.
 SHELLS = {
-    "bash": (["bash", "--norc", "-i"], "source made/ilocfarm.bash"),
+    "bash": (["bash", "--norc", "-i"], "for it in made/*.bash; do source $it; done"),
     "zsh": (["zsh", "-f", "-i"], "unset zle_bracketed_paste; fpath=($PWD $fpath); autoload compinit; compinit -u -D"),
 }
 TYPED = (
@@ -37,6 +47,10 @@ TYPED = (
     ("ilocfarm counts --wo\t", "> ilocfarm counts --workers"),
     ("ilocfarm check --mu\t", "> ilocfarm check --mult"),
     ("ilocfarm counts --priority desc\t", "> ilocfarm counts --priority descendants"),
+    ("ilocview tim\t", "> ilocview timeline"),
+    ("ilocview page examples/fir\t", "> ilocview page examples/first.iloc"),
+    ("ilocview page examples/first.iloc --eith\t", "> ilocview page examples/first.iloc --either-slot"),
+    ("ilocgrade --len\t", "> ilocgrade --lenient"),
 )
 IN_FISH = (
     ("ilocfarm si", "simulate\tSchedule each block, and run the schedule\n"),
@@ -44,19 +58,13 @@ IN_FISH = (
     ("ilocfarm run < examples/fir", "examples/first.iloc\n"),
     ("ilocfarm explain --priority s", "".join(f"{it}\tWhat goes first: chain, slack, descendants, successors, latency or order "
                                               "[default: chain]\n" for it in ("slack", "successors"))),
+    ("ilocview time", "timeline\ta schedule: units over cycles\n"),
+    ("ilocview page examples/fir", "examples/first.iloc\n"),
+    ("ilocgrade --policy b", "best\tfull points for passing, or for as few cycles as ours, the bound, or the best of the class "
+                             "[ours]\n"),
 )
 READS_TERMINAL = "ilocfarm: reading {} from the terminal; Ctrl-D on a line of its own ends them\n"
-COMPLETE = ('source "$0"; COMP_WORDS=(ilocfarm "$@"); COMP_CWORD=$#; _ilocfarm; echo "${COMPREPLY[*]}"')
-INSTALLED = {"bin/ilocfarm", "bin/ilocgrade", "share/man/man1/ilocfarm.1", "share/man/man1/ilocgrade.1", "share/bash-completion/completions/ilocfarm",
-             "share/zsh/site-functions/_ilocfarm", "share/fish/vendor_completions.d/ilocfarm.fish",
-             "share/doc/ilocfarm/README.md", "share/doc/ilocfarm/CHANGELOG.md"}
-# Folders of the repository of which all is installed, and where.
-WHOLE = {"charts": "share/ilocfarm/charts", "grading": "share/ilocfarm/grading", "cluster": "share/ilocfarm/cluster", "examples": "share/ilocfarm/examples",
-         "docs": "share/doc/ilocfarm/docs"}
-
-
-def files_below(folder):
-    return {os.path.relpath(f"{at}/{name}", folder) for at, _, names in os.walk(folder) for name in names}
+COMPLETE = ('source made/$0.bash; COMP_WORDS=($0 "$@"); COMP_CWORD=$#; _$0; echo "${COMPREPLY[*]}"')
 
 
 class Manual(Place):
@@ -76,15 +84,21 @@ class Manual(Place):
             self.fail("man/ilocfarm.1 is not what `man/make PROGRAM man` writes")
 
     def test_page_has_no_slips(self):
+        """Whatever mandoc says, but that a page which isn't installed here is named."""
         self.needs("mandoc")
-        self.expect("mandoc", self.call("mandoc", "-T", "lint", PAGE), (0, b"", b""))
-        self.expect("mandoc", self.call("mandoc", "-T", "lint", "-W", "warning", "man/ilocgrade.1"), (0, b"", b""))
+        for name in ("ilocfarm", "ilocgrade", "ilocview"):
+            said = self.call("mandoc", "-T", "lint", f"man/{name}.1")[1].decode().splitlines()
+            self.expect(name, [line for line in said if "referenced manual not found" not in line], [])
 
-    def test_page_of_ilocgrade(self):
-        """Each option of its help is on its page, and no other."""
-        options = set(re.findall(r"--[a-z-]+", self.call("ilocgrade", "--help")[1].decode().partition("\n\n")[0])) | {"--help", "--out", "--jobs"}
-        named = {f"-{it}" for it in re.findall(r"^\.It (?:Fl \w , |Fl )(-[a-z-]+)", self.text("man/ilocgrade.1"), re.MULTILINE)}
-        self.expect("options", sorted(named), sorted(options))
+    def test_pages_beside(self):
+        """Each option of the help of ilocgrade and ilocview is on its page, and no other; so is each command."""
+        for name, commands in (("ilocgrade", ()), ("ilocview", ("page", "timeline", "graph", "compare"))):
+            helps = [self.call(name, *words, "--help")[1].decode() for words in ((), *((word,) for word in commands))]
+            options = re.findall(r"^  (?:-\w.*?, )?--([a-z-]+)", "".join(helps), re.MULTILINE)
+            items = re.findall(r"^\.It (.*)", self.text(f"man/{name}.1"), re.MULTILINE)
+            named = [option for item in items for option in re.findall(r"(?:Fl|,) -([a-z-]+)", item)]
+            self.expect(f"options of {name}", sorted({*named}), sorted({*options}))
+            self.expect(f"commands of {name}", [word for word in commands if f"Cm {word}" not in items], [])
 
     def test_page_has_the_words_of_listings(self):
         """Each field, verdict and member that docs/LANGUAGE.md lists is on the page."""
@@ -115,13 +129,14 @@ class Manual(Place):
 
     def test_completes(self):
         self.make()
-        for words, offered in COMPLETIONS:
-            done = self.call("bash", "-c", COMPLETE, "made/ilocfarm.bash", *words)
-            self.expect(f"completions of {words}", done, (0, f"{offered}\n".encode(), b""))
+        for name, words, offered in (*(("ilocfarm", *row) for row in COMPLETIONS), *COMPLETIONS_BESIDE):
+            done = self.call("bash", "-c", COMPLETE, name, *words)
+            self.expect(f"completions of {name} {words}", done, (0, f"{offered}\n".encode(), b""))
 
     def test_completes_on_a_terminal(self):
         self.make()
-        os.symlink("made/ilocfarm.zsh", self.path("_ilocfarm"))
+        for name in ("ilocfarm", "ilocgrade", "ilocview"):
+            os.symlink(f"made/{name}.zsh", self.path(f"_{name}"))
         for name, (words, source) in SHELLS.items():
             self.needs(name)
             with terminal() as (screen, slave):
@@ -142,7 +157,7 @@ class Manual(Place):
         self.needs("fish")
         self.make()
         for typed, offered in IN_FISH:
-            line = f"source made/ilocfarm.fish; complete -C '{typed}'"
+            line = f"for it in made/*.fish; source $it; end; complete -C '{typed}'"
             told = self.call("fish", "--no-config", "-c", line, HOME=self.folder)
             self.expect(f"fish completes {typed}", told, (0, offered.encode(), b""))
 
@@ -169,35 +184,9 @@ class Manual(Place):
         for words in (["run", "-1"], ["run", "--workers", "3"], ["check", "-x"], ["simulate", "--", "-1"]):
             self.expect(f"{words}: advises `--`", b"-- " in self.call("ilocfarm", *words)[2], False)
 
-    def test_installs(self):
-        version = self.call("ilocfarm", "--version")
-        self.expect("install", self.call("./install", self.path("a prefix"), "bin/ilocfarm"), version)
-        wanted = INSTALLED | {f"{at}/{it}" for folder, at in WHOLE.items() for it in files_below(f"{TOP}/{folder}")}
-        self.expect("files", sorted(files_below(self.path("a prefix"))), sorted(wanted))
-        for made, source in (("bin/ilocfarm", TESTED.program), ("share/man/man1/ilocfarm.1", PAGE),
-                             ("share/ilocfarm/cluster/join", f"{TOP}/cluster/join")):
-            self.expect(f"{made} as it is", self.read(f"a prefix/{made}") == self.read(source), True)
-        installed = f"{self.path('a prefix/bin')}:/usr/bin:/bin"
-        self.expect("ilocgrade", self.call("ilocgrade", "examples/class/tasks", "examples/class/submissions", PATH=installed),
-                    (0, b"8 students, 1 task, 3 of 8 passed: grades/report.html\n", b""))
-        listing = self.call("ilocfarm", "schedule", given=self.read("examples/dot.iloc"))[1]
-        self.expect("timeline", self.call("a prefix/share/ilocfarm/charts/timeline", given=listing),
-               self.call("charts/timeline", given=listing))
-        given = self.read("examples/first.iloc")
-        self.expect("run", self.call("a prefix/bin/ilocfarm", "run", given=given), (0, b"block 1 -\n7\n", b""))
-        self.expect("DESTDIR", self.call("./install", "/usr", "bin/ilocfarm", DESTDIR=self.path("root")), version)
-        self.expect("files below DESTDIR", files_below(self.path("root/usr")), files_below(self.path("a prefix")))
-
-    def test_installs_nothing_by_mistake(self):
-        for words in ((), ("--help",)):
-            status, out, err = self.call("./install", *words)
-            self.expect("install", (status, out, err.startswith(b"usage: ")), (2, b"", True))
-        status, out, err = self.call("./install", self.path("prefix"), "no program")
-        self.expect("install", (status == 0, out, bool(err)), (False, b"", True))
-
     def test_changes_have_the_version(self):
-        """The first version in CHANGELOG.md is the one that the program names."""
-        first = re.search(r"^## (\S+)", self.text("CHANGELOG.md"), re.MULTILINE)[1]
+        """The first heading in CHANGELOG.md is the version that the program names."""
+        first = re.search(r"^## (.+)", self.text("CHANGELOG.md"), re.MULTILINE)[1]
         self.expect("--version", self.call("ilocfarm", "--version"), (0, f"ilocfarm {first}\n".encode(), b""))
 
     def test_tests_want_a_program(self):

@@ -10,7 +10,7 @@ PHONE = 44      # columns
 class Readme(Place):
     def test_examples(self):
         os.symlink("bin/ilocfarm", self.path("ilocfarm"))
-        self.follows([it for it in shown_on("README.md") if "./ilocfarm" in it[0]])
+        self.follows([it for it in shown_on("README.md") if "./ilocfarm " in it[0]])
 
     def test_code_fits_a_phone(self):
         code = re.findall(r"^    (.+)$", self.text("README.md"), re.MULTILINE)

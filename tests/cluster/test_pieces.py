@@ -184,6 +184,20 @@ class Pieces(Place):
         self.write("pieces/2.result/out", b"")
         self.expect("joined", self.join(), (3, b"", b"cluster/join: piece 2 has 1 blocks, and its listing others\n"))
 
+    def test_broken_pieces(self):
+        """A file that was changed or cut is no listing, and its piece is named."""
+        self.two_blocks()
+        for name, text, said in (
+                ("2.result/status", b"", b"not run to their end: 2"),
+                ("2.result/out", b"block 1 b cycles 0\ntotal " + b"9" * 5000 + b"\n", b"piece 2 has 1 blocks, and its listing others"),
+                ("3.result/out", b"block 1 c cycles 0\ntotal 0 least 0\n", b"the pieces' last lines differ: total 0, .."),
+                ("index", b"1 1 1\n2 x 1\n", b"pieces/index: line 2 is none that cluster/split writes"),
+                ("index", b"", b"pieces/index: line 1 is none that cluster/split writes")):
+            for number in (1, 2, 3):
+                self.run_piece(number, "counts")
+            self.write(f"pieces/{name}", text)
+            self.expect(name, self.join(), (3, b"", b"cluster/join: " + said + b"\n"))
+
     def test_first_fault(self):
         """The first fault decides, whatever became of the pieces after it."""
         self.two_blocks(b"a: nop\n// b\nb: nop\nadd\nc: add\n")

@@ -238,13 +238,12 @@ class Answers(Repository):
                          [BUILT, "ilocfarm: out/ilocfarm is proved and built already\n"])
 
     def test_install_builds(self):
-        """It installs what it has built, up to the manual, which the stand-in has no help for."""
+        """It builds first; the stand-in has no help for a manual, so nothing is installed."""
         for it in ("man", "charts", "cluster", "docs", "examples", "grading", "CHANGELOG.md", "README.md"):
             os.symlink(f"{TOP}/{it}", f"{self.top}/{it}")
         shutil.copy2(f"{TOP}/install", self.top)
         status, _, err = self.ran(f"{self.folder}/prefix", by="install", env={"PATH": f"{self.folder}/bin:{os.environ['PATH']}"})
-        self.assertEqual((status, BUILT in err), (1, True))
-        self.assertEqual(self.text("prefix/bin/ilocfarm"), self.text(f"{self.top}/out/ilocfarm"))
+        self.assertEqual((status, BUILT in err, os.path.exists(f"{self.folder}/prefix")), (1, True, False))
 
 
 class Fails(Repository):
@@ -363,7 +362,7 @@ fn main(rt: HostRuntime) -> io::Result<()> {
 
     def test_readme_on_a_fresh_clone(self):
         """Where nothing is built each command of the README prints what is shown below it."""
-        shown = [it for it in shown_on("README.md") if "./ilocfarm" in it[0]]
+        shown = [it for it in shown_on("README.md") if "./ilocfarm " in it[0]]
         started = [subprocess.Popen(["bash", "-c", command], cwd=self.clone(number), stdin=subprocess.DEVNULL,
                                     stdout=subprocess.PIPE, stderr=subprocess.PIPE, text=True)
                    for number, (command, _) in enumerate(shown)]

@@ -1,0 +1,158 @@
+"""Cases of ilocview: it draws what the scripts of charts/ draw of what the program lists."""
+import os
+import shutil
+import sys
+
+from harness.place import Place
+
+LAB = ("--load", "3", "--store", "3", "--mult", "2")
+BOOK, TASK, DAN, EVE = ("examples/book.iloc", "examples/class/tasks/both.iloc", "examples/class/dan.iloc",
+                        "examples/class/eve.iloc")
+BEN, FAY = (f"examples/class/submissions/{name}/both.rows" for name in ("ben", "fay"))
+WORDS = ("--at", "1024", "3", "4")      # as the task says
+NO_TOOL = b"ilocview: this needs %s, which is not on the PATH (Debian: %s)\n"
+NOT_TAKEN = "{} isn't an option of ilocfarm {}, whose listing is drawn"
+REFUSED = (
+    (["timeline", "nosuch"], 4, "nosuch: No such file or directory"),
+    (["timeline", "."], 4, ".: Is a directory"),
+    (["timeline", EVE], 1, f"{EVE}: line 6: not understood"),
+    (["page", EVE, BEN], 1, f"{EVE}: line 6: not understood"),
+    (["timeline", EVE, BEN], 1, f"{EVE}: line 6: not understood"),
+    (["timeline", TASK, DAN], 1, f"{DAN}: line 2 is none of a listing of schedule or explain: sum:"),
+    (["timeline", BOOK, "--block", "2"], 1, f"{BOOK}: the listing has no block 2"),
+    (["compare", BOOK, DAN, "two.iloc"], 1, "the listings have 1, 1, 2 blocks: only the same ones can be compared"),
+    (["compare", "none.iloc"], 1, "none.iloc: there is no block"),
+    (["page", "input.iloc"], 1, "input.iloc: expected `//SIM INPUT: -i ADDRESS WORD ..`, found `3 4`"),
+    (["page", BOOK, "-i", "2"], 2, "--at is not a multiple of 4"),
+    (["timeline", BOOK, "--priority", "nosuch"], 2, None),
+    (["compare", BOOK, "--priority", "order"], 2, NOT_TAKEN.format("--priority", "compare")),
+    (["compare", BOOK, DAN, "--nodes", "0"], 2, NOT_TAKEN.format("--nodes", "counts")),
+    (["timeline", BOOK, "--either-slot"], 2, NOT_TAKEN.format("--either-slot", "explain")),
+    (["timeline", BOOK, "-i", "1024", "3"], 2, NOT_TAKEN.format("--memory", "explain")),
+    (["timeline", BOOK, "-o", "nosuch/book.svg"], 4, "nosuch/book.svg: No such file or directory"),
+)
+MISTAKEN = ([], ["draw", BOOK], ["graph"], ["timeline", BOOK, "--load", "17"], ["graph", BOOK, "--block", "1"])
+
+
+class View(Place):
+    def draws(self, words, drawn, **more):
+        """It writes just this, to a file and to standard output."""
+        ending = "html" if words[0] == "page" else "svg"
+        self.expect(f"{words}", self.call("ilocview", *words, **more), (0, drawn, b""))
+        self.expect(f"{words} to a file", self.call("ilocview", *words, "-o", f"drawn.{ending}", **more), (0, b"", b""))
+        self.expect(f"the file of {words}", self.read(f"drawn.{ending}"), drawn)
+
+    def listings(self, *commands, path):
+        return b"".join(self.call("ilocfarm", *words, given=self.read(path))[1] for words in commands)
+
+    def filtered(self, *words, given=b""):
+        status, drawn, err = self.call(*words, given=given)
+        self.expect(f"{words}", (status, err), (0, b""))
+        return drawn
+
+    def test_page(self):
+        """Of our schedules and of rows, on the words that the task has a line for, or those that are given."""
+        listing = self.listings(("explain", *LAB), ("graph", *LAB), ("trace", *LAB), path=BOOK)
+        self.draws(["page", *LAB, BOOK], self.filtered("charts/page", given=listing))
+        listing = self.listings(("explain",), ("graph",), ("trace", "--at", "8", "3", "4294967292"), path=DAN)
+        self.draws(["page", DAN, "-i", "8", "3", "-4"], self.filtered("charts/page", given=listing))
+        rows = ("--task", TASK, *WORDS)
+        listing = self.listings(("graph",), path=TASK) + self.listings(("trace", *rows), ("check", *rows), path=BEN)
+        self.draws(["page", TASK, BEN], self.filtered("charts/page", given=listing))
+
+    def test_timeline(self):
+        """With the latencies of its listing, whatever they are; docs/ has two as they are drawn."""
+        self.draws(["timeline", *LAB, BOOK], self.read("docs/book.svg"))
+        self.draws(["timeline", DAN], self.read("docs/timeline.svg"))
+        self.write("two.iloc", self.read(BOOK) + b"second: load r1 => r2\noutput 4\n")
+        listing = self.listings(("explain", "--load", "9"), path="two.iloc")
+        options = ("--block", "2", "--load", "9")
+        self.draws(["timeline", "two.iloc", *options], self.filtered("charts/timeline", *options, given=listing))
+        rows = self.read(BEN).rstrip(b"\n")     # without its last line's end
+        self.write("a b.rows", rows)
+        listing = rows + b"\n" + self.listings(("check", "--task", TASK, *WORDS), path="a b.rows")
+        self.draws(["timeline", TASK, "a b.rows"], self.filtered("charts/timeline", given=listing))
+
+    def test_graph(self):
+        self.needs("dot")
+        dot = self.listings(("graph", *LAB), path=BOOK)
+        self.draws(["graph", *LAB, BOOK], self.filtered("dot", "-Tsvg", given=dot))
+
+    def test_compare(self):
+        """One file by each priority, several by their cycles, and schedules of one task by what `check` says."""
+        self.write("all", self.listings(("compare", "--nodes", "100"), path=BOOK))
+        self.draws(["compare", "--nodes", "100", BOOK], self.filtered("charts/compare", "all"))
+        options = ("--priority", "order", "--load", "2")
+        for name, path in (("dan", DAN), ("book", BOOK)):
+            self.write(name, self.listings(("counts", *options), path=path))
+        self.draws(["compare", DAN, BOOK, *options], self.filtered("charts/compare", "dan", "book"))
+        for name, path in (("ben", BEN), ("fay", FAY)):
+            self.write(name, self.listings(("check", "--task", TASK, *WORDS), path=path))
+        self.draws(["compare", "--task", TASK, BEN, FAY], self.filtered("charts/compare", "ben", "fay"))
+
+    def test_compare_names(self):
+        """Files are called by what tells them apart: their names, else their folders."""
+        for path in ("a=b.iloc", "c d.iloc", "other/c d.iloc"):
+            self.write(path, self.read(BOOK))
+        self.write("counts", self.listings(("counts",), path=BOOK))
+        here = os.path.basename(self.folder)
+        for paths, names in ((["a=b.iloc", "c d.iloc"], ["a-b", "c d"]),
+                             (["c d.iloc", "other/c d.iloc"], [here, "other"])):
+            drawn = self.filtered("charts/compare", *(f"{name}=counts" for name in names))
+            self.draws(["compare", *paths], drawn)
+
+    def test_forms(self):
+        self.needs("rsvg-convert", "dot")
+        for words in (["timeline", BOOK], ["graph", BOOK], ["compare", BOOK], ["timeline", TASK, BEN]):
+            for ending, begins in (("pdf", b"%PDF-"), ("PNG", b"\x89PNG\r\n"), ("svg", b"<")):
+                self.expect(f"{words} {ending}", self.call("ilocview", *words, "-o", f"made.{ending}"), (0, b"", b""))
+                self.expect(f"{words} {ending} begins", self.read(f"made.{ending}").startswith(begins), True)
+        for words, out in ((["page", BOOK], "page.pdf"), (["timeline", BOOK], "book.html"), (["graph", BOOK], "book")):
+            status, made, err = self.call("ilocview", *words, "-o", out)
+            self.expect(f"{words} -o {out}", (status, made), (2, b""))
+            self.expect("why", f"{out} doesn't end with ." in err.decode(), True)
+
+    def test_tools_that_are_missing(self):
+        """Said by name, with Debian's package; pictures that need none are drawn."""
+        os.mkdir(self.path("tools"))
+        os.symlink(sys.executable, self.path("tools/python3"))
+        path = f"{self.path('bin')}:{self.path('tools')}"
+        self.draws(["timeline", *LAB, BOOK], self.read("docs/book.svg"), PATH=path)
+        for words, tool, package in ((["timeline", BOOK, "-o", "made.pdf"], b"rsvg-convert", b"librsvg2-bin"),
+                                     (["compare", BOOK, "-o", "made.png"], b"rsvg-convert", b"librsvg2-bin"),
+                                     (["graph", BOOK, "-o", "made.pdf"], b"dot", b"graphviz")):
+            self.expect(f"{words}", self.call("ilocview", *words, PATH=path), (3, b"", NO_TOOL % (tool, package)))
+        self.expect("written", [name for name in os.listdir(self.folder) if name.startswith("made")], [])
+
+    def test_finds_the_program(self):
+        """Beside the command first, so that one that is called by its path runs its own."""
+        self.script("other/ilocfarm", "#!/bin/sh\necho other\n")
+        others = f"{self.path('other')}:{os.environ['PATH']}"
+        version = self.call("ilocfarm", "--version")
+        for name, at in (("ilocview", "charts"), ("ilocgrade", "grading")):
+            self.expect(name, self.call(self.path(f"bin/{name}"), "--version", PATH=others), version)
+            self.expect("by the PATH", self.call(f"{at}/{name}", "--version", PATH=others), (0, b"other\n", b""))
+        os.remove(self.path("bin/ilocfarm"))
+        path = os.pathsep.join({os.path.dirname(shutil.which("python3")), "/usr/bin"})
+        for name, *words in (("ilocview", "timeline", BOOK), ("ilocview", "--version"), ("ilocgrade", "--version")):
+            said = f"{name}: ilocfarm is not on the PATH\n".encode()
+            self.expect(f"no program for {name}", self.call(f"bin/{name}", *words, PATH=path), (3, b"", said))
+
+    def test_refuses(self):
+        self.write("two.iloc", b"a: output 4\nb: output 8\n")
+        self.write("none.iloc", b"// nothing\n")
+        self.write("input.iloc", b"//SIM INPUT: 3 4\noutput 4\n")
+        for words, status, said in REFUSED:
+            ended, out, err = self.call("ilocview", *words)
+            self.expect(f"{words}: {err}", (ended, out, err.startswith(b"ilocview: "), err.count(b"\n")),
+                        (status, b"", True, 1))
+            if said:
+                self.expect(f"{words} says", err.decode(), f"ilocview: {said}\n")
+        for words in MISTAKEN:
+            status, out, err = self.call("ilocview", *words)
+            self.expect(f"{words}", (status, out, err.startswith(b"usage: ilocview")), (2, b"", True))
+
+    def test_devices_fail(self):
+        for broken, said in (("> /dev/full", "No space left on device"), (">&-", "Bad file descriptor")):
+            errors = self.shell(f"ilocview timeline {BOOK} 2> said {broken}; echo $?; cat said")[1]
+            self.expect(broken, errors.decode(), f"4\nilocview: {said}\n")
