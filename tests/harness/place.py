@@ -55,6 +55,7 @@ class Place(InFolder):
         os.mkdir(self.path("bin"))
         os.symlink(TESTED.program, self.path("bin/ilocfarm"))
         os.symlink(f"{TOP}/grading/ilocgrade", self.path("bin/ilocgrade"))
+        os.symlink(f"{TOP}/charts/ilocview", self.path("bin/ilocview"))
         for name in ("charts", "cluster", "docs", "examples", "grading", "install", "man", "CHANGELOG.md", "README.md"):
             os.symlink(f"{TOP}/{name}", self.path(name))
         self.environment = {**os.environ, "PATH": f"{self.path('bin')}:{os.environ['PATH']}", "LC_ALL": "C.UTF-8"}

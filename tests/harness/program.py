@@ -47,6 +47,14 @@ def needs(*tools):
             raise unittest.SkipTest(f"{tool} is not on the PATH")
 
 
+def needs_bubblewrap(user=()):
+    """Skips what needs bubblewrap where it isn't installed, or forbidden to a user whom these words make."""
+    needs("bwrap")
+    done = subprocess.run([*user, "bwrap", "--unshare-user", "--ro-bind", "/", "/", "true"], capture_output=True)
+    if done.returncode:
+        raise unittest.SkipTest(f"bubblewrap is forbidden here: {done.stderr.decode().strip()}")
+
+
 @cache
 def baseline():
     """The plain Rust program (bench/baseline), which says what is right at the usual latencies."""

@@ -27,7 +27,7 @@ class Links(unittest.TestCase):
                 for it in [first, *(f"{folder}/{name}" for name in more if name[0].isupper())]:
                     self.assertTrue(os.path.exists(f"{CRATES}/{it}.antt") or os.path.isdir(f"{CRATES}/{it}"), it)
                 for it, name in re.findall(r"`([\w/]+(?:\.rt|/))`(?: \(`(\w+)`\))?", code):
-                    found = glob.glob(f"{CRATES}/{crate}/src/**/{it}", recursive=True)
+                    found = glob.glob(f"{CRATES}/{it}") or glob.glob(f"{CRATES}/{crate}/src/**/{it}", recursive=True)
                     self.assertTrue(found, it)
                     self.assertTrue(not name or f"fn {name}" in read(found[0]), name)
                 for it, name in re.findall(r"`([\w/]+)` \(`(\w+)`\)", specs):
