@@ -211,9 +211,9 @@ def section(crate, order):
         modules = sorted(f"`{module}`" for owner, module in found if owner == name)
         if modules:
             parts.append(("" if name == crate.name else f"of `{name}` on ") + listed(modules))
-    return "\n".join([
-        f"## {crate.name}", "", crate.title, "", "| Call | Promise | Clauses | Definitions |", "|---|---|---|---|",
-        *(line_of(row, crate) for row in rows if row.clauses), "", f"They rest on {'; '.join(parts)}.", ""])
+    lines = [line_of(row, crate) for row in rows if row.clauses]
+    table = ["| Call | Promise | Clauses | Definitions |", "|---|---|---|---|", *lines, ""] if lines else []
+    return "\n".join([f"## {crate.name}", "", crate.title, "", *table, f"They rest on {'; '.join(parts)}.", ""])
 
 
 def sections():

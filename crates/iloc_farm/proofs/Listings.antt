@@ -8,25 +8,26 @@ use Rattle.iloc_text.proofs.Answer.{one_answer}
 use Rattle.iloc_rows.specs.EitherSlot.{placed}
 use Rattle.iloc_args.specs.declared.request.Request.{Request}
 use Rattle.iloc_args.specs.declared.request.Task.{Task}
-use Rattle.iloc_farm.specs.declared.commands.compare.ComparedCycles.{ComparedCycles}
-use Rattle.iloc_farm.specs.Commands.Check.{Checks}
-use Rattle.iloc_farm.specs.Commands.Compare.{IsCompareEntry}
-use Rattle.iloc_farm.specs.Commands.Explain.Rows.{Explains, ExplainsRows}
-use Rattle.iloc_farm.specs.Commands.Trace.Rows.{Traces, TracesRows}
+use Rattle.iloc_block_commands.specs.declared.compare.ComparedCycles.{ComparedCycles}
+use Rattle.iloc_row_commands.specs.Check.{Checks}
+use Rattle.iloc_block_commands.specs.Compare.{IsCompareEntry}
+use Rattle.iloc_row_commands.specs.Explain.{Explains, ExplainsRows}
+use Rattle.iloc_row_commands.specs.Trace.{Traces, TracesRows}
+use Rattle.iloc_farm.specs.Commands.{command_of}
 use Rattle.iloc_farm.specs.Laws.{AskAlike, ChecksIgnoreWorkers, GreedySchedulesCanBeListed, ListedOptimaAreOptimal, ListingsIgnoreWorkers, OptimaIgnoreWorkers}
-use Rattle.iloc_farm.specs.Run.Apart.{Held}
-use Rattle.iloc_farm.specs.Run.{IsListingFor, ListsAs, takes_rows}
-use Rattle.iloc_farm.specs.declared.commands.Finding.{Finding}
-use Rattle.iloc_farm.proofs.Entries.{listing_after_also}
+use Rattle.iloc_driver.specs.Run.Apart.{Held}
+use Rattle.iloc_driver.specs.Run.{IsListingFor, ListsAs, takes_rows}
+use Rattle.iloc_driver.specs.declared.commands.Finding.{Finding}
+use Rattle.iloc_driver.proofs.Entries.{listing_after_also}
 use Rattle.iloc_farm.proofs.Listers.{of_one_task, one_memory}
-use Rattle.iloc_farm.proofs.Schedules.{greedy_long, total_small}
+use Rattle.iloc_driver.proofs.Schedules.{greedy_long, total_small}
 
 pub ignore_workers : ListingsIgnoreWorkers
 ignore_workers r q alike settled input blocks blocks' denotes denotes' text text' lists lists' =
     let same : blocks' ≡ blocks = sym (one_answer.file input blocks blocks' denotes denotes') in
     let one_task : q.task ≡ r.task = sym alike.task in
     of_one_task r.task r q alike settled blocks text text' lists
-    (transport (λ i. IsListingFor (one_task i) q (same i) text') lists')
+    (transport (λ i. IsListingFor command_of (one_task i) q (same i) text') lists')
 
 -- a comparison of the one request is one of the other
 compares_alike : (r q : Request) → AskAlike r q → (k : ℕ) (b : Block) (entry : List ℕ) (found : ComparedCycles)
@@ -54,8 +55,8 @@ traced_alike r q alike = λ i. λ blocks proposals finding text.
     TracesRows (alike.latencies i) (one_memory r q alike i) blocks (placed (alike.either_slot i) proposals) finding text
 
 as_alike : (held : Held) (r q : Request) → AskAlike r q → (t : Task) (file : Option (String Global))
-    → IsTrue (takes_rows t file) → (old new : Option (List ℕ)) (finding : Finding) (text : List ℕ)
-    → ListsAs t file held r old new finding text → ListsAs t file held q old new finding text
+    → IsTrue (takes_rows command_of t file) → (old new : Option (List ℕ)) (finding : Finding) (text : List ℕ)
+    → ListsAs command_of t file held r old new finding text → ListsAs command_of t file held q old new finding text
 as_alike held r q alike t file takes old new finding text lists = grind (arith, explained_alike, one_check, traced_alike, transport)
 
 pub checks_ignore_workers : ChecksIgnoreWorkers

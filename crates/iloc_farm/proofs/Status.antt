@@ -6,10 +6,6 @@ use Rattle.std.specs.String.{string_bytes}
 use Rattle.std.specs.declared.io.Error.{Error}
 use Rattle.std.specs.declared.alloc.Global.{Global}
 use Rattle.std.specs.declared.string.String.{String}
-use Rattle.iloc_text.specs.declared.fault.ReadFault.{ReadFault}
-use Rattle.iloc_text.specs.declared.fault.ReadFault.TheVariants as text
-use Rattle.iloc_rows.specs.declared.fault.RowsFault.{RowsFault}
-use Rattle.iloc_rows.specs.declared.fault.RowsFault.TheVariants as rows
 use Rattle.iloc_ops.specs.declared.file.Block.{Block}
 use Rattle.iloc_rows.specs.EitherSlot.{placed}
 use Rattle.iloc_meaning.specs.Memory.{words_from}
@@ -20,43 +16,18 @@ use Rattle.iloc_args.specs.declared.fault.LineFault.TheVariants as line
 use Rattle.iloc_args.specs.declared.request.Request.{Request}
 use Rattle.iloc_args.specs.declared.request.Task.{Task}
 use Rattle.iloc_args.specs.declared.request.Task.TheVariants as task
-use Rattle.iloc_farm.specs.declared.fault.RunFault.TheVariants.{Text, Rows, Task as of_task}
-use Rattle.iloc_farm.specs.declared.fault.TaskFault.{TaskFault}
-use Rattle.iloc_farm.specs.declared.fault.TaskFault.TheVariants as task_fault
-use Rattle.iloc_farm.specs.declared.commands.Finding.{Finding}
-use Rattle.iloc_farm.specs.declared.commands.Finding.TheVariants.{Passed}
-use Rattle.iloc_farm.specs.declared.program.Fault.{Fault}
-use Rattle.iloc_farm.specs.declared.program.Fault.TheVariants.{Line, Run}
-use Rattle.iloc_farm.specs.Run.Apart.{Held}
-use Rattle.iloc_farm.specs.Fault.{rows_status, task_status, text_status, status_of_finding}
-use Rattle.iloc_farm.specs.Commands.Run.{initial_memory}
+use Rattle.iloc_driver.specs.declared.commands.Finding.{Finding}
+use Rattle.iloc_driver.specs.declared.commands.Finding.TheVariants.{Passed}
+use Rattle.iloc_driver.proofs.AboveZero.{above_0}
+use Rattle.iloc_driver.specs.Run.Apart.{Held}
+use Rattle.iloc_farm.specs.Commands.{command_of}
+use Rattle.iloc_driver.specs.Fault.{status_of_finding}
+use Rattle.iloc_driver.specs.Command.{initial_memory}
 use Rattle.iloc_farm.specs.Laws.{options_in, ReadsRows, ReadsTheSame, Status0MeansTheSame}
-use Rattle.iloc_farm.specs.Program.{Args, AskFor, IsListed, IsStopped, MakeNone, status_of}
-use Rattle.iloc_farm.specs.Commands.Check.{Checks, options_of}
-use Rattle.iloc_farm.specs.Run.{ListsAs}
+use Rattle.iloc_driver.specs.Program.{Args, AskFor, IsListed, MakeNone}
+use Rattle.iloc_row_commands.specs.Check.{Checks, options_of}
+use Rattle.iloc_driver.specs.Run.{ListsAs}
 use Rattle.iloc_farm.proofs.Checks.{passed_keep_outcomes, passed_may_pass}
-
--- No fault has status 0
-
-text_above_0 : (fault : ReadFault) → text_status fault ≡ 0 → ⊥
-text_above_0 text.InputTooLong zero = omega arith
-text_above_0 _ zero = omega arith
-
-rows_above_0 : (fault : RowsFault) → rows_status fault ≡ 0 → ⊥
-rows_above_0 (rows.Read fault) zero = text_above_0 fault zero
-rows_above_0 _ zero = omega arith
-
-task_above_0 : (fault : TaskFault) → task_status fault ≡ 0 → ⊥
-task_above_0 (task_fault.Text fault) zero = rows_above_0 fault zero
-task_above_0 _ zero = omega arith
-
-above_0 : (held : Held) (words : Result Args Error) (read_old read_new written_old written_new : Option (List ℕ)) (fault : Fault)
-    → IsStopped held words read_old read_new written_old written_new fault → status_of fault ≡ 0 → ⊥
-above_0 held words ro rn wo wn (Line (line.Help help)) stopped zero = stopped.no_help
-above_0 held words ro rn wo wn (Run (Text fault)) stopped zero = text_above_0 fault zero
-above_0 held words ro rn wo wn (Run (Rows fault)) stopped zero = rows_above_0 fault zero
-above_0 held words ro rn wo wn (Run (of_task fault)) stopped zero = task_above_0 fault zero
-above_0 held words ro rn wo wn _ stopped zero = omega arith
 
 passed_at_0 : (finding : Finding) → status_of_finding finding ≡ 0 → finding ≡ Passed
 passed_at_0 finding h1 = grind arith
@@ -85,11 +56,11 @@ record Judges (held : Held) (request : Request) (old new : Option (List ℕ)) (f
 -- a listing of a check is of blocks and rows that were read
 judges : (held : Held) (request : Request) (old new : Option (List ℕ)) (finding : Finding) (text : List ℕ)
     (t : Task) (file : Option (String Global)) → t ≡ request.task → t ≡ task.Check → file ≡ request.task_file
-    → ListsAs t file held request old new finding text → Judges held request old new finding text
+    → ListsAs command_of t file held request old new finding text → Judges held request old new finding text
 judges held request old new finding text t file is check named lists = grind arith
 
 listed_same : (held : Held) (words : Result Args Error) (read_old read_new : Option (List ℕ)) (finding : Finding)
-    (text : List ℕ) (a : Asked) → IsListed held words read_old read_new finding text → finding ≡ Passed → AskFor words a
+    (text : List ℕ) (a : Asked) → IsListed command_of held words read_old read_new finding text → finding ≡ Passed → AskFor words a
     → a.task ≡ task.Check → ReadsTheSame held a read_old read_new
 listed_same held words read_old read_new finding text a listed passed asks check =
     let request : Request = listed.request in
@@ -128,4 +99,4 @@ status_0_means_the_same held words ro rn wo wn so sn ending (inl well) zero a as
       | inr listed ↦ listed_same held words ro rn well.finding well.done.text a listed passed asks check
     ]
 status_0_means_the_same held words ro rn wo wn so sn ending (inr stopped) zero a asks check =
-    absurd (above_0 held words ro rn wo wn stopped.fault stopped.stopped (sym stopped.status ∙ zero))
+    absurd (above_0 command_of held words ro rn wo wn stopped.fault stopped.stopped (sym stopped.status ∙ zero))

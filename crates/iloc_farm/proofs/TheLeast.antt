@@ -1,5 +1,5 @@
 -- Rows by the book take no fewer cycles than the bound: `laws::by_the_book_takes_the_least`.
-use Rattle.std.proofs.Common.{ℕ, ◌≤◌, List, map, arith}
+use Rattle.std.proofs.Common.{◌≤◌, List, map, arith}
 use Rattle.iloc_ops.specs.declared.op.Op.{Op}
 use Rattle.iloc_timed.specs.declared.latencies.Latencies.{Latencies}
 use Rattle.iloc_timed.specs.declared.row.Row.{Row}

@@ -1,30 +1,28 @@
 -- The commands.
 use Rattle.iloc_args.specs.declared.request.Task.{Task}
 use Rattle.iloc_args.specs.declared.request.Task.TheVariants as task
-use Rattle.iloc_farm.specs.Commands.Record.{Command}
-use Rattle.iloc_farm.specs.Commands.Check.{check_command}
-use Rattle.iloc_farm.specs.Commands.Compare.{compare_command}
-use Rattle.iloc_farm.specs.Commands.Counts.{counts_command}
-use Rattle.iloc_farm.specs.Commands.Explain.{explain_command}
-use Rattle.iloc_farm.specs.Commands.Graph.{graph_command}
-use Rattle.iloc_farm.specs.Commands.Lint.{lint_command}
-use Rattle.iloc_farm.specs.Commands.Optimize.{optimize_command}
-use Rattle.iloc_farm.specs.Commands.Run.{run_command}
-use Rattle.iloc_farm.specs.Commands.Schedule.{schedule_command}
-use Rattle.iloc_farm.specs.Commands.Simulate.{simulate_command}
-use Rattle.iloc_farm.specs.Commands.Trace.{trace_command}
-pub mod Run
-pub mod Simulate
-pub mod Trace
-pub mod Schedule
-pub mod Counts
-pub mod Compare
-pub mod Optimize
-pub mod Explain
-pub mod Graph
-pub mod Check
-pub mod Lint
-pub mod Record
+use Rattle.iloc_driver.specs.Command.{Command, of_files_or_rows}
+use Rattle.iloc_driver.specs.Entries.{IsListingOf, no_ending}
+use Rattle.iloc_driver.specs.Listing.{total_of_all}
+use Rattle.iloc_block_commands.specs.Compare.{compare_command}
+use Rattle.iloc_block_commands.specs.Counts.{counts_command}
+use Rattle.iloc_block_commands.specs.Lint.{lint_command}
+use Rattle.iloc_block_commands.specs.Optimize.{optimize_command}
+use Rattle.iloc_block_commands.specs.Run.{run_command}
+use Rattle.iloc_block_commands.specs.Schedule.{schedule_command}
+use Rattle.iloc_block_commands.specs.Simulate.{simulate_command}
+use Rattle.iloc_view_commands.specs.Explain.{IsExplainEntry}
+use Rattle.iloc_view_commands.specs.Graph.{graph_command}
+use Rattle.iloc_view_commands.specs.Trace.{IsTraceEntry}
+use Rattle.iloc_row_commands.specs.Check.{check_command}
+use Rattle.iloc_row_commands.specs.Explain.{Explains}
+use Rattle.iloc_row_commands.specs.Trace.{Traces}
+
+abbrev pub explain_command : Command
+explain_command = of_files_or_rows (λ request. IsListingOf (IsExplainEntry request) total_of_all) Explains
+
+abbrev pub trace_command : Command
+trace_command = of_files_or_rows (λ request. IsListingOf (IsTraceEntry request) no_ending) Traces
 
 abbrev pub command_of : Task → Command
 command_of task.Run = run_command

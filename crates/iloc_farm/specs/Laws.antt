@@ -24,18 +24,19 @@ use Rattle.iloc_args.specs.Asked.{Asked}
 use Rattle.iloc_args.specs.declared.request.Request.{Request}
 use Rattle.iloc_args.specs.declared.request.Task.{Task}
 use Rattle.iloc_args.specs.declared.request.Task.TheVariants as task
-use Rattle.iloc_farm.specs.declared.commands.Finding.{Finding}
-use Rattle.iloc_farm.specs.declared.commands.Finding.TheVariants.{Passed}
-use Rattle.iloc_farm.specs.declared.program.Ending.{Ending}
-use Rattle.iloc_farm.specs.Run.Apart.{Held, ReadsApart}
-use Rattle.iloc_farm.specs.Commands.Check.{ListsChecked, form_as}
-use Rattle.iloc_farm.specs.Commands.Compare.{IsComparedCycles, optimal_by}
-use Rattle.iloc_farm.specs.Commands.Optimize.{IsOptimizeEntry}
-use Rattle.iloc_farm.specs.declared.commands.compare.ComparedCycles.{ComparedCycles}
-use Rattle.iloc_farm.specs.Listing.{total_cycles}
-use Rattle.iloc_farm.specs.Program.{Args, AskFor, Ends}
-use Rattle.iloc_farm.specs.Run.{IsListing, IsListingFor, ListsFrom, takes_rows}
-use Rattle.iloc_farm.specs.Schedules.{AreGreedyAs, IsGreedyAs}
+use Rattle.iloc_farm.specs.Commands.{command_of}
+use Rattle.iloc_driver.specs.declared.commands.Finding.{Finding}
+use Rattle.iloc_driver.specs.declared.commands.Finding.TheVariants.{Passed}
+use Rattle.iloc_driver.specs.declared.program.Ending.{Ending}
+use Rattle.iloc_driver.specs.Run.Apart.{Held, ReadsApart}
+use Rattle.iloc_row_commands.specs.Check.{ListsChecked, form_as}
+use Rattle.iloc_block_commands.specs.Compare.{IsComparedCycles, optimal_by}
+use Rattle.iloc_block_commands.specs.Optimize.{IsOptimizeEntry}
+use Rattle.iloc_block_commands.specs.declared.compare.ComparedCycles.{ComparedCycles}
+use Rattle.iloc_driver.specs.Listing.{total_cycles}
+use Rattle.iloc_driver.specs.Program.{Args, AskFor, Ends}
+use Rattle.iloc_driver.specs.Run.{IsListing, IsListingFor, ListsFrom, takes_rows}
+use Rattle.iloc_driver.specs.Schedules.{AreGreedyAs, IsGreedyAs}
 
 -- the requests ask for the same, but maybe of other workers
 pub record AskAlike (r q : Request) : Type 0 where
@@ -66,12 +67,12 @@ searches _ nodes = false
 abbrev pub ListingsIgnoreWorkers : Type 0
 ListingsIgnoreWorkers = (r q : Request) → AskAlike r q → searches r.task r.nodes ≡ false
     → (input : List ℕ) (blocks blocks' : List Block) → Denotes input blocks → Denotes input blocks'
-    → (text text' : List ℕ) → IsListing r blocks text → IsListing q blocks' text' → text ≡ text'
+    → (text text' : List ℕ) → IsListing command_of r blocks text → IsListing command_of q blocks' text' → text ≡ text'
 
 -- where schedules are searched for, what one of such requests may list of blocks, so may the other
 abbrev pub OptimaIgnoreWorkers : Type 0
 OptimaIgnoreWorkers = (r q : Request) → AskAlike r q → (t : Task) → searches t r.nodes ≡ true
-    → (blocks : List Block) (text : List ℕ) → IsListingFor t r blocks text → IsListingFor t q blocks text
+    → (blocks : List Block) (text : List ℕ) → IsListingFor command_of t r blocks text → IsListingFor command_of t q blocks text
 
 -- a schedule that is listed with a bound which its cycles reach is optimal among the lawful ones of its block
 abbrev pub ListedOptimaAreOptimal : Type 0
@@ -89,13 +90,13 @@ CountedOptimaAreOptimal = (lat : Latencies) (nodes : Option ℕ) (b : Block) (c 
 -- which place they fault
 abbrev pub SimulatingListsRuns : Type 0
 SimulatingListsRuns = (request : Request) (blocks : List Block) (text : List ℕ) → request.fault_place ≡ false
-    → IsListingFor task.Simulate request blocks text → IsListingFor task.Run request blocks text
+    → IsListingFor command_of task.Simulate request blocks text → IsListingFor command_of task.Run request blocks text
 
 -- what one of such requests may list where rows are read, so may the other
 abbrev pub ChecksIgnoreWorkers : Type 0
-ChecksIgnoreWorkers = (r q : Request) → AskAlike r q → IsTrue (takes_rows r.task r.task_file)
-    → (held : Held) (old new : Option (List ℕ)) (finding : Finding) (text : List ℕ) → ListsFrom held r old new finding text
-    → ListsFrom held q old new finding text
+ChecksIgnoreWorkers = (r q : Request) → AskAlike r q → IsTrue (takes_rows command_of r.task r.task_file)
+    → (held : Held) (old new : Option (List ℕ)) (finding : Finding) (text : List ℕ) → ListsFrom command_of held r old new finding text
+    → ListsFrom command_of held q old new finding text
 
 -- where a check passed, the rows that are proposed for each block keep the rules of the units and have its outcome on
 -- every memory or, where outputs alone are compared, show what it shows
@@ -153,7 +154,7 @@ pub record ReadsTheSame (held : Held) (asked : Asked) (old new : Option (List �
 abbrev pub Status0MeansTheSame : Type 0
 Status0MeansTheSame = (held : Held) (words : Result Args Error)
     (read_old read_new written_old written_new said_old said_new : Option (List ℕ)) (ending : Ending)
-    → Ends held words read_old read_new written_old written_new said_old said_new ending → ending.status ≡ 0
+    → Ends command_of held words read_old read_new written_old written_new said_old said_new ending → ending.status ≡ 0
     → (asked : Asked) → AskFor words asked → asked.task ≡ task.Check → ReadsTheSame held asked read_old read_new
 
 -- of a text that is known, two checks judge the same blocks, whatever was handed in to each

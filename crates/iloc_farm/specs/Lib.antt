@@ -1,11 +1,3 @@
 pub mod Commands
-pub mod Entries
-pub mod Fault
 pub mod Headline
 pub mod Laws
-pub mod Listing
-pub mod Program
-pub mod Schedules
-pub mod Run
-pub mod Steps
-pub mod Work

@@ -2,11 +2,10 @@
 ghost use Rattle.std.specs.Prelude.{◌≡◌, ◌≤◌, IfOk};
 ghost use Rattle.iloc_text.specs.Files.{AreWithinLimits};
 ghost use Rattle.iloc_farm.specs.Headline.{Headline};
-ghost use Rattle.iloc_farm.specs.Schedules.{AreGreedyAs, AreTheOnlyGreedyAs, KeepOutcomes};
+ghost use Rattle.iloc_driver.specs.Schedules.{AreGreedyAs, AreTheOnlyGreedyAs, KeepOutcomes};
 
-use crate::fault::FarmFault;
-use crate::workers::farm_out;
 use iloc_board::{Done, Gate, Jobs, NoDesk, NoMemory};
+use iloc_driver::{FarmFault, farm_out};
 use iloc_ops::{Block, IlocFile};
 use iloc_rules::Heuristic;
 use iloc_sched::schedule_as;
@@ -29,7 +28,7 @@ impl<'f> Model for BlockJobs<'f> {
     ghost use Rattle.std.specs.Prelude.{◌≤◌, length};
     ghost use Rattle.std.specs.List.{All};
     ghost use Rattle.iloc_ops.specs.Limits.{MAX_BLOCKS, MAX_OPS};
-    ghost use Rattle.iloc_farm.specs.Schedules.{ToSchedule};
+    ghost use Rattle.iloc_driver.specs.Schedules.{ToSchedule};
 
     ghost Value = { ToSchedule };
 
@@ -62,8 +61,8 @@ impl<'f> BlockJobs<'f> {
 
 impl<'f> Jobs for BlockJobs<'f> {
     ghost use Rattle.std.specs.Prelude.{length};
-    ghost use Rattle.iloc_farm.specs.Listing.{cycles_of};
-    ghost use Rattle.iloc_farm.specs.Schedules.{IsScheduleOf};
+    ghost use Rattle.iloc_driver.specs.Listing.{cycles_of};
+    ghost use Rattle.iloc_driver.specs.Schedules.{IsScheduleOf};
 
     type Answer = Schedule;
 

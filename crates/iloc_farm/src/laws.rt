@@ -1,9 +1,5 @@
 //! Laws of listings and of rows, as contracts of functions that do nothing.
-ghost use Rattle.iloc_farm.specs.Laws.{ChecksIgnoreWorkers, GreedySchedulesCanBeListed, HandInsDontChangeTheTask};
-ghost use Rattle.iloc_farm.specs.Laws.{ByTheBookTakesTheLeast, CountedOptimaAreOptimal, ListedOptimaAreOptimal};
-ghost use Rattle.iloc_farm.specs.Laws.{ListingsIgnoreWorkers, OptimaIgnoreWorkers};
-ghost use Rattle.iloc_farm.specs.Laws.{PassedChecksKeepOutcomes, PassedChecksMayPass};
-ghost use Rattle.iloc_farm.specs.Laws.{SimulatingListsRuns, Status0MeansTheSame};
+ghost use Rattle.iloc_farm.specs.Laws.{ChecksIgnoreWorkers, GreedySchedulesCanBeListed, HandInsDontChangeTheTask, ByTheBookTakesTheLeast, CountedOptimaAreOptimal, ListedOptimaAreOptimal, ListingsIgnoreWorkers, OptimaIgnoreWorkers, PassedChecksKeepOutcomes, PassedChecksMayPass, SimulatingListsRuns, Status0MeansTheSame};
 
 /// The number of workers leaves no trace in a listing.
 ///

@@ -2,7 +2,8 @@
 #![tactic(auto)]
 
 use iloc_args::{Request, Task, parse_line};
-use iloc_farm::{Texts, run_program};
+use iloc_driver::Texts;
+use iloc_farm::run_program;
 use std::env;
 use std::fs::{self, File};
 use std::io::{self, IsTerminal};

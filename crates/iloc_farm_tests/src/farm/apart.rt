@@ -1,7 +1,8 @@
 //! Checks of rows for the blocks of a text of their own: which of the two is read, and what is said of each.
 use super::fakes::{Shelf, Source, giving, taking_all};
 use crate::asked::asked;
-use iloc_farm::{Finding, RunFault, TaskFault, run};
+use iloc_driver::{Finding, RunFault, TaskFault};
+use iloc_farm::run;
 use iloc_rows::RowsFault;
 use iloc_text::ReadFault;
 use std::io::ErrorKind;

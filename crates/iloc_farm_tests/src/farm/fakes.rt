@@ -1,5 +1,5 @@
 //! Readers and writers that are slow or fail.
-use iloc_farm::Texts;
+use iloc_driver::Texts;
 use std::alloc::Global;
 use std::io::{Error, ErrorKind, Read, Result as IoResult, Write};
 

@@ -3,7 +3,8 @@ ghost use Rattle.std.specs.Prelude.{◌<◌, ◌≤◌};
 
 use crate::asserted::assert_list;
 use iloc_board::{FreeGate, Gate, NoDesk};
-use iloc_farm::{BlockJobs, farm_out, schedule_all, schedules_of};
+use iloc_driver::farm_out;
+use iloc_farm::{BlockJobs, schedule_all, schedules_of};
 use iloc_ops::{Op, Reg};
 use iloc_rules::Heuristic;
 use iloc_text::laws::files_are_within_limits;

@@ -1,0 +1,117 @@
+-- What is found of a block by each heuristic.
+use Rattle.std.proofs.Common.{◌≡◌, ◌==◌, ◌<◌, ◌≤◌, ℕ, Bool, true, List, [], ◌∷◌, ◌++◌, ◌+◌, take, get_or, append_assoc, append-nil, inl, inr, None, length, refl, sym, ap, ap₂, subst, ◌∙◌, arith}
+use Rattle.std.proofs.lemmas.Bool.{and_parts, eqb-true}
+use Rattle.std.proofs.lemmas.List.{ext_get_or, get_or_default, take_more}
+use Rattle.std.proofs.lemmas.Grind.{flat_map-append}
+use Rattle.std.specs.List.{list_all, range_with_len}
+use Rattle.iloc_rules.specs.Steps.Members.{In}
+use Rattle.iloc_rules.proofs.Basics.Members.{in_range_from}
+use Rattle.std.specs.Prelude.{slice_index}
+use Rattle.iloc_ops.specs.Limits.{MAX_OPS}
+use Rattle.iloc_ops.specs.declared.file.Block.{Block}
+use Rattle.iloc_timed.specs.declared.latencies.Latencies.{Latencies}
+use Rattle.iloc_timed.specs.Schedule.{Table}
+use Rattle.iloc_rules.specs.Heuristics.{priorities_by}
+use Rattle.iloc_rules.specs.Heuristics.Listed.{heuristics}
+use Rattle.iloc_rules.specs.Least.{least}
+use Rattle.iloc_rules.specs.declared.heuristic.Heuristic.{Heuristic}
+use Rattle.iloc_rules.specs.declared.heuristic.Heuristic.TheVariants.{Chain}
+use Rattle.iloc_bound.proofs.LeastBound.{least_bound}
+use Rattle.iloc_block_commands.specs.Compare.{AreCounts, IsComparedCycles, column, columns, cycles_by, place}
+use Rattle.iloc_driver.specs.Listing.{cycles_of}
+use Rattle.iloc_driver.specs.Limits.{most_cycles}
+use Rattle.iloc_driver.specs.Schedules.{IsCount}
+use Rattle.iloc_driver.proofs.Schedules.{cycles_few_by}
+use Rattle.iloc_block_commands.specs.declared.compare.ComparedCycles.{ComparedCycles}
+
+-- the bound is small, since some schedule takes as many cycles
+pub bound_small : (heuristic : Heuristic) (lat : Latencies) (b : Block) (n : ℕ) → IsCount heuristic lat b n
+    → length b.ops ≤ MAX_OPS → least lat b.ops ≤ most_cycles
+bound_small heuristic lat b n count short =
+    let s : Table = count.schedule in
+    let bound : least lat b.ops ≤ cycles_of lat s = least_bound lat b.ops s.ops s.rows count.greedy.greedy.lawful in
+    let few : cycles_of lat s ≤ most_cycles =
+    cycles_few_by (priorities_by heuristic lat s.ops) lat b.ops s count.greedy.greedy short in
+    omega arith
+
+-- the cycles by a heuristic are one number
+one_count : (heuristic : Heuristic) (lat : Latencies) (b : Block) (n m : ℕ) → IsCount heuristic lat b n
+    → IsCount heuristic lat b m → n ≡ m
+one_count heuristic lat b n m is is' =
+    is.counted ∙ (ap (cycles_of lat) (is'.greedy.only is.schedule is.greedy.greedy) ∙ sym is'.counted)
+
+-- Places
+
+-- the heuristic at its place
+pub at_place : (heuristic : Heuristic) → get_or heuristics (place heuristic) Chain ≡ heuristic
+at_place Chain = refl
+at_place _ = refl
+
+pub place_within : (heuristic : Heuristic) → place heuristic < length heuristics
+place_within Chain = omega arith
+place_within _ = omega arith
+
+-- and the place of a heuristic that is there
+pub place_of : (i : ℕ) → i < length heuristics → place (get_or heuristics i Chain) ≡ i
+place_of i within = eqb-true (place (get_or heuristics i Chain)) i
+    (at_each (λ k. place (get_or heuristics k Chain) == k) (range_with_len 0 (length heuristics)) i refl
+    (in_range_from 0 (length heuristics) i (omega arith) (omega arith)))
+  where
+    at_each : (p : ℕ → Bool) (xs : List ℕ) (x : ℕ) → list_all p xs ≡ true → In xs x → p x ≡ true
+    at_each p [] x all there = absurd there
+    at_each p (y ∷ xs) x all there =
+        let parts = and_parts (p y) (list_all p xs) all in
+        elim there [ inl same ↦ subst (λ z. p z ≡ true) same parts.0 | inr later ↦ at_each p xs x parts.1 later ]
+
+pub place_there : (i : ℕ) (d : Heuristic) → i < length heuristics → place (get_or heuristics i d) ≡ i
+place_there i d within = ap place (get_or_default heuristics i d Chain within) ∙ place_of i within
+
+-- Columns
+
+-- what is at its place
+pub cycles_at : (c : ComparedCycles) (i : ℕ) (d : Heuristic) → i < length heuristics
+    → slice_index c.cycles i ≡ cycles_by (get_or heuristics i d) c
+cycles_at c i d within = ap (slice_index c.cycles) (sym (place_there i d within))
+
+-- a number more
+pub columns_more : (csv : Bool) (number : Heuristic → ℕ) (before text next : List ℕ) (i n : ℕ) (d : Heuristic)
+    → i < length heuristics → text ≡ before ++ columns csv number (take i heuristics)
+    → n ≡ number (get_or heuristics i d) → next ≡ text ++ column csv (get_or heuristics i d) n
+    → next ≡ before ++ columns csv number (take (i + 1) heuristics)
+columns_more csv number before text next i n d within so_far is more =
+    let f : Heuristic → List ℕ = λ h. column csv h (number h) in
+    let h : Heuristic = get_or heuristics i d in
+    more ∙ ap₂ (λ t k. t ++ column csv h k) so_far is
+    ∙ append_assoc before (columns csv number (take i heuristics)) (f h)
+    ∙ ap (λ xs. before ++ xs) (ap (λ xs. columns csv number (take i heuristics) ++ xs) (sym (append-nil (f h)))
+    ∙ sym (flat_map-append f (take i heuristics) (h ∷ []))
+    ∙ ap (columns csv number) (sym (take_more heuristics i d within)))
+
+-- the counts by all of them
+pub all_counted : (lat : Latencies) (b : Block) (cycles : List ℕ) → length cycles ≡ length heuristics
+    → ((i : ℕ) → i < length heuristics → IsCount (get_or heuristics i Chain) lat b (slice_index cycles i))
+    → AreCounts lat b cycles
+all_counted lat b cycles size each = record {
+  all = size;
+  each = λ heuristic. subst (λ h. IsCount h lat b (slice_index cycles (place heuristic))) (at_place heuristic)
+      (each (place heuristic) (place_within heuristic));
+}
+
+-- there is one list of them
+one_list : (lat : Latencies) (b : Block) (xs ys : List ℕ) → AreCounts lat b xs → AreCounts lat b ys → xs ≡ ys
+one_list lat b xs ys is is' =
+    ext_get_or 0 xs ys (is.all ∙ sym is'.all) (λ i below.
+    let h : Heuristic = get_or heuristics i Chain in
+    let at : place h ≡ i = place_of i (omega (arith, is.all)) in
+    ap (slice_index xs) (sym at)
+    ∙ one_count h lat b (slice_index xs (place h)) (slice_index ys (place h)) (is.each h) (is'.each h)
+    ∙ ap (slice_index ys) at)
+
+-- there is one comparison of a block without a search
+pub one_comparison : (lat : Latencies) (b : Block) (c c' : ComparedCycles) → IsComparedCycles lat None b c
+    → IsComparedCycles lat None b c' → c ≡ c'
+one_comparison lat b c c' is is' =
+    let bounds : c.least ≡ c'.least = is.bound ∙ sym is'.bound in
+    let none : c.sought ≡ c'.sought = is.sought ∙ sym is'.sought in
+    let all : c.cycles ≡ c'.cycles = one_list lat b c.cycles c'.cycles is.counts is'.counts in
+    λ i. record { least = bounds i; sought = none i; cycles = all i }

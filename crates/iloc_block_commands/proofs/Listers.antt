@@ -1,0 +1,116 @@
+-- What the commands list of a block.
+use Rattle.std.proofs.Common.{◌≡◌, ℕ, ℤ, false, List, [], ◌++◌, Option, Some, refl, ap, ap₂, ◌∙◌, append-nil, ◌&&◌, Bool, arith}
+use Rattle.std.specs.Prelude.{is_none}
+use Rattle.iloc_ops.specs.declared.file.Block.{Block}
+use Rattle.iloc_ops.specs.declared.op.Op.{Op}
+use Rattle.iloc_fault.proofs.Places.{one_place}
+use Rattle.iloc_timed.specs.declared.latencies.Latencies.{Latencies}
+use Rattle.iloc_timed.specs.Schedule.{Table}
+use Rattle.iloc_rules.specs.declared.heuristic.Heuristic.{Heuristic}
+use Rattle.iloc_optimum.specs.declared.optimizer.Optimum.{Optimum}
+use Rattle.iloc_optimum.specs.Optimum.{IsOptimumOf}
+use Rattle.iloc_meaning.specs.Outcome.{outcome, shown}
+use Rattle.iloc_meaning.specs.declared.outcome.Outcome.{Outcome}
+use Rattle.iloc_timed.specs.Timed.{timed_outcome}
+use Rattle.iloc_rules.proofs.Outcome.LawfulOutcomes.{lawful_same_outcome}
+use Rattle.iloc_args.specs.declared.request.Request.{Request}
+use Rattle.iloc_block_commands.specs.Compare.{IsCompareEntry, IsCompareListing, IsComparedCycles, compare_ending, compare_header, compare_line}
+use Rattle.iloc_block_commands.specs.Counts.{IsCountEntry, IsCountListing, count_ending, count_header}
+use Rattle.iloc_driver.specs.Listing.{count_line, bound_comment, cycles_of, entries, opening_as, outcome_entry, schedule_entry, shown_entry, words_or_fault}
+use Rattle.iloc_block_commands.specs.Optimize.{IsOptimizeEntry}
+use Rattle.iloc_block_commands.specs.Run.{IsRunEntry, IsShownOf}
+use Rattle.iloc_driver.specs.Command.{initial_memory}
+use Rattle.iloc_block_commands.specs.Schedule.{IsScheduleEntry}
+use Rattle.iloc_block_commands.specs.Simulate.{IsSimulateEntry}
+use Rattle.iloc_driver.specs.Schedules.{IsCount, IsGreedyAs}
+use Rattle.iloc_driver.specs.Entries.{AreListed, Adds}
+use Rattle.iloc_block_commands.specs.declared.compare.ComparedCycles.{ComparedCycles}
+use Rattle.iloc_driver.proofs.Entries.{lined_listing}
+use Rattle.iloc_driver.proofs.Schedules.{the_greedy}
+
+-- the words, or that there is a fault, are what is shown, unless the place of the fault is asked for
+pub shown_plainly : (asked : Bool) (ops : List Op) (memory : List ℤ) (came : Outcome) (words : Option (List ℤ))
+    → words ≡ shown came → (asked && is_none words) ≡ false → IsShownOf asked ops memory came (words_or_fault words)
+shown_plainly asked ops memory came words' are none = grind arith
+
+-- one text is shown
+pub one_shown : (asked : Bool) (ops : List Op) (memory : List ℤ) (came : Outcome) (text text' : List ℕ)
+    → IsShownOf asked ops memory came text → IsShownOf asked ops memory came text' → text ≡ text'
+one_shown asked ops memory came text text' is is' = grind (arith, one_place)
+
+-- what a call has appended is the entry, by the name and the words or cycles that it was handed
+
+module _ (request : Request) (k : ℕ) (b : Block) (text more : List ℕ) (name : Option (List ℕ)) (named : name ≡ b.name) where
+  pub run_listed : (words : Option (List ℤ)) → words ≡ shown (outcome b.ops (initial_memory request))
+      → (request.fault_place && is_none words) ≡ false → more ≡ text ++ shown_entry k name words
+      → Adds (IsRunEntry request k b) text more tt
+  run_listed words are plain added = grind (arith, shown_plainly)
+
+  module _ (s : Table) (greedy : IsGreedyAs request.priority request.latencies b.ops s) where
+    pub simulate_listed : (words : Option (List ℤ))
+        → words ≡ shown (timed_outcome request.latencies s.ops s.rows (initial_memory request))
+        → more ≡ text ++ shown_entry k name words → Adds (IsSimulateEntry request k b) text more tt
+    simulate_listed words are added = record {
+      entry = outcome_entry k b.name (timed_outcome request.latencies s.ops s.rows (initial_memory request));
+      right = record {
+        schedule = s;
+        greedy = the_greedy request.priority request.latencies b s greedy;
+        timed = refl;
+        plain = ap (outcome_entry k b.name)
+            (lawful_same_outcome request.latencies b.ops s.ops s.rows (initial_memory request) greedy.lawful);
+      };
+      added = added ∙ ap₂ (λ n w. text ++ shown_entry k n w) named are;
+    }
+
+-- what was made of the greedy schedule is the entry
+pub schedule_is : (request : Request) (k : ℕ) (b : Block) (s : Table) → IsGreedyAs request.priority request.latencies b.ops s
+    → (entry : List ℕ) (cycles : ℕ) → entry ≡ schedule_entry request.latencies k b.name s ++ []
+    → cycles ≡ cycles_of request.latencies s → IsScheduleEntry request k b entry cycles
+schedule_is request k b s greedy entry cycles listed counted = record {
+  schedule = s;
+  greedy = the_greedy request.priority request.latencies b s greedy;
+  listed = listed ∙ append-nil (schedule_entry request.latencies k b.name s);
+  counted = counted;
+}
+
+-- and what was made of the best one that was found
+pub optimum_is : (lat : Latencies) (k : ℕ) (b : Block) (best : Optimum) → IsOptimumOf lat b.ops best → (entry : List ℕ) (cycles : ℕ)
+    → entry ≡ schedule_entry lat k b.name best.schedule ++ bound_comment (Some best.bound) (cycles_of lat best.schedule)
+    → cycles ≡ cycles_of lat best.schedule → IsOptimizeEntry lat k b entry cycles
+optimum_is lat k b best found entry cycles listed counted = grind arith
+
+-- the cycles that were found are those of the greedy schedule
+pub is_count : (heuristic : Heuristic) (lat : Latencies) (b : Block) (s : Table) → IsGreedyAs heuristic lat b.ops s
+    → (cycles : ℕ) → cycles ≡ cycles_of lat s → IsCount heuristic lat b cycles
+is_count heuristic lat b s greedy cycles counted = record {
+  schedule = s;
+  greedy = the_greedy heuristic lat b s greedy;
+  counted = counted;
+}
+
+-- the listing of the cycles that were found
+pub counted_listing : (request : Request) (blocks : List Block) (found : List ℕ) (text : List ℕ)
+    → AreListed (λ k b c. IsCount request.priority request.latencies b c) blocks found
+    → text ≡ (opening_as request.csv count_header ++ entries (count_line request.csv) 1 blocks found)
+    ++ count_ending request.csv found
+    → IsCountListing request blocks text
+counted_listing request blocks found text are whole =
+    lined_listing (IsCountEntry request) (IsCount request.priority request.latencies) (count_line request.csv)
+    (λ k b c count. record {
+      schedule = count.schedule;
+      greedy = count.greedy;
+      listed = ap (count_line request.csv k b.name) count.counted;
+      counted = count.counted;
+    }) (opening_as request.csv count_header) (count_ending request.csv) blocks found text are whole
+
+-- and of what was compared
+pub compared_listing : (request : Request) (blocks : List Block) (found : List ComparedCycles) (text : List ℕ)
+    → AreListed (λ k b c. IsComparedCycles request.latencies request.nodes b c) blocks found
+    → text ≡ (opening_as request.csv (compare_header request.nodes) ++ entries (compare_line request.csv) 1 blocks found)
+    ++ compare_ending request.csv request.nodes found
+    → IsCompareListing request blocks text
+compared_listing request blocks found text are whole =
+    lined_listing (IsCompareEntry request) (IsComparedCycles request.latencies request.nodes) (compare_line request.csv)
+    (λ k b c compares. record { compares = compares; listed = refl })
+    (opening_as request.csv (compare_header request.nodes)) (compare_ending request.csv request.nodes) blocks found text are
+    whole

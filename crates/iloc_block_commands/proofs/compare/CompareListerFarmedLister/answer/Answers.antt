@@ -1,0 +1,32 @@
+use Rattle.std.proofs.Common.{◌≤◌, ap, arith, subst, ◌∙◌}
+use Rattle.iloc_sched.specs.Graph.GraphOf.{GraphOf}
+use Rattle.iloc_rules.specs.Least.{least, least_of}
+use Rattle.iloc_rules.specs.declared.heuristic.Heuristic.TheVariants.{Chain}
+use Rattle.iloc_block_commands.specs.Optimize.{IsSoughtIf}
+use Rattle.iloc_driver.specs.Limits.{most_cycles}
+use Rattle.iloc_block_commands.proofs.Comparisons.{bound_small}
+use Rattle.iloc_block_commands.proofs.compare.CompareListerFarmedLister.answer.Goals as goal
+
+pub sought_if-requires : goal.sought_if-requires
+sought_if-requires c = ap (λ (g : GraphOf). g.ops) c.in_ok-refill.ensures.graph
+
+pub overflow_cast-result : goal.overflow_cast-result
+overflow_cast-result c =
+    let lat = c.args.request.now.latencies in
+    let block = c.args.block.now in
+    let graph = c.in_ok-refill.ensures.graph in
+    let small : least lat block.ops ≤ most_cycles =
+    bound_small Chain lat block _ ((c.in_ok-cycles.ensures lat block graph).each Chain) c.requires.short in
+    rw (c.in_ok-least.ensures ∙ ap (λ (g : GraphOf). least_of g.latencies g.ops) graph) (omega (arith, small))
+
+pub returns : goal.returns
+returns c =
+    let lat = c.args.request.now.latencies in
+    let block = c.args.block.now in
+    let graph = c.in_ok-refill.ensures.graph in
+    record {
+      bound = c.in_ok-least.ensures ∙ ap (λ (g : GraphOf). least_of g.latencies g.ops) graph;
+      sought = subst (λ (g : GraphOf). IsSoughtIf c.args.request.now.nodes g.latencies block.ops c.in_ok-sought.sought) graph
+          c.in_ok-sought.ensures;
+      counts = c.in_ok-cycles.ensures lat block graph;
+    }

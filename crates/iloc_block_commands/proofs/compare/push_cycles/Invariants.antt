@@ -1,0 +1,10 @@
+use Rattle.std.proofs.Common.{◌≡◌, ◌++◌, take}
+use Rattle.std.specs.List.{flat_map}
+use Rattle.iloc_rules.specs.Heuristics.Listed.{heuristics}
+use Rattle.iloc_block_commands.specs.Compare.{column, cycles_by}
+use Rattle.iloc_block_commands.proofs.compare.push_cycles.Given as goal
+
+abbrev pub invariant-loop-place : goal.invariant-loop-place
+invariant-loop-place l =
+    l.text.items
+    ≡ l.initial.text.items ++ flat_map (λ h. column l.csv h (cycles_by h l.comparison)) (take l.place heuristics)

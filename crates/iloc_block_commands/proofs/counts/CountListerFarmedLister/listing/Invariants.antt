@@ -1,0 +1,10 @@
+use Rattle.std.proofs.Common.{◌≡◌, ◌+◌, ◌++◌, drop}
+use Rattle.iloc_block_commands.specs.Counts.{count_header}
+use Rattle.iloc_driver.specs.Listing.{count_line, entries, opening_as}
+use Rattle.iloc_block_commands.proofs.counts.CountListerFarmedLister.listing.Given as goal
+
+abbrev pub invariant-loop-index : goal.invariant-loop-index
+invariant-loop-index l =
+    l.text.items
+    ++ entries (count_line l.request.csv) (l.index + 1) (drop l.index l.block-items) (drop l.index l.cycles.items)
+    ≡ opening_as l.request.csv count_header ++ entries (count_line l.request.csv) 1 l.block-items l.cycles.items

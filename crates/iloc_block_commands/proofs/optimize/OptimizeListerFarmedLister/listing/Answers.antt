@@ -1,0 +1,11 @@
+use Rattle.std.proofs.lemmas.Result.{IfOk-weaker}
+use Rattle.iloc_block_commands.specs.Optimize.{IsOptimizeEntry}
+use Rattle.iloc_driver.specs.Listing.{total_of_all}
+use Rattle.iloc_driver.proofs.Entries.{made_listing}
+use Rattle.iloc_block_commands.proofs.optimize.OptimizeListerFarmedLister.listing.Goals as goal
+
+pub returns : goal.returns
+returns c =
+    IfOk-weaker c.with_total.result _ _
+    (λ text is. made_listing (IsOptimizeEntry c.args._request.now.latencies) (λ e. e.text) (λ e. e.cycles) total_of_all
+    c.args.blocks c.args.entries.items text c.requires.right is) c.with_total.ensures

@@ -1,0 +1,17 @@
+use Rattle.std.proofs.Common.{◌∙◌, ap}
+use Rattle.iloc_meaning.specs.Outcome.{shown}
+use Rattle.iloc_timed.specs.Timed.{timed_outcome}
+use Rattle.iloc_driver.proofs.Entries.{if_ok}
+use Rattle.iloc_block_commands.proofs.Listers.{simulate_listed}
+use Rattle.iloc_block_commands.proofs.simulate.SimulateListerLister.list.Goals as goal
+
+pub returns-clause-listed : goal.returns-clause-listed
+returns-clause-listed c =
+    let request = c.args.request.now in
+    let s = c.in_ok-schedule.schedule in
+    let words = c.outputs.ensures
+    ∙ ap shown (c.in_ok-run.ensures.outcome ∙ ap (timed_outcome request.latencies s.ops s.rows) c.requires.starts) in
+    if_ok _ c.push_outcome.result
+    (λ _. simulate_listed request c.args.number c.args.block.now c.args.text.now.items _ _ c.as_ref.ensures.value s
+    (c.in_ok-schedule.ensures _ _ c.in_ok-refill.ensures.graph).greedy _ words)
+    c.push_outcome.ensures

@@ -1,0 +1,31 @@
+-- `optimize` lists for each block the best schedule that is found, and a bound on the cycles of every one.
+use Rattle.std.specs.Prelude.{◌≡◌, ◌++◌, ℕ, List, MatchOption, None, Option, Some}
+use Rattle.iloc_ops.specs.declared.file.Block.{Block}
+use Rattle.iloc_ops.specs.declared.op.Op.{Op}
+use Rattle.iloc_timed.specs.declared.latencies.Latencies.{Latencies}
+use Rattle.iloc_optimum.specs.declared.optimizer.Optimum.{Optimum}
+use Rattle.iloc_rules.specs.declared.sought.Sought.{Sought}
+use Rattle.iloc_optimum.specs.Optimum.{IsOptimumOf, IsSought}
+use Rattle.iloc_driver.specs.Listing.{bound_comment, cycles_of, schedule_entry, total_of_all}
+use Rattle.iloc_driver.specs.Command.{Command, Shared, of_files}
+use Rattle.iloc_driver.specs.Entries.{IsListingOf}
+use Rattle.iloc_driver.specs.declared.listing.text.ScheduleEntry.{ScheduleEntry}
+
+-- The entry of block k: some lawful schedule that has the block's outcome on every memory and takes at most as many cycles as
+-- each greedy one, which are found, and a number of cycles that every lawful schedule takes.
+pub record IsOptimizeEntry (lat : Latencies) (k : ℕ) (b : Block) (entry : List ℕ) (cycles : ℕ) : Type 0 where
+  pub best : Optimum
+  pub found : IsOptimumOf lat b.ops best
+  pub listed : entry ≡ schedule_entry lat k b.name best.schedule ++ bound_comment (Some best.bound) cycles
+  pub counted : cycles ≡ cycles_of lat best.schedule
+
+-- where a request has nodes, this is found of the cycles that a block takes, and else nothing is
+abbrev pub IsSoughtIf : Option ℕ → Latencies → List Op → Option Sought → Type 0
+IsSoughtIf None lat block sought = sought ≡ None
+IsSoughtIf (Some nodes) lat block sought = MatchOption sought ⊥ (IsSought lat block)
+
+-- workers hand back the entries
+abbrev pub optimize_command : Command
+optimize_command = record (of_files (λ request. IsListingOf (IsOptimizeEntry request.latencies) total_of_all)) {
+  listers = Shared ScheduleEntry (λ request k b e. IsOptimizeEntry request.latencies k b e.text e.cycles) (λ e. e.cycles);
+}

@@ -1,0 +1,2 @@
+-- What the code does piece by piece, as steps of proof: no contract of a public function names them.
+pub mod Tallies

@@ -1,0 +1,427 @@
+//! `compare`: the bound on blocks' cycles, and the cycles of their schedules by each heuristic.
+ghost use Rattle.std.specs.Prelude.{◌≡◌, ◌≤◌, ◌<◌, ◌^◌, ◌++◌, false, length, sum_by, IfOk, OnOk};
+ghost use Rattle.std.specs.Option.{option_copied};
+ghost use Rattle.iloc_ops.specs.Limits.{MAX_BLOCKS};
+ghost use Rattle.iloc_ops.specs.declared.file.Block.{Block as block_value};
+ghost use Rattle.iloc_timed.specs.declared.latencies.Latencies.{Latencies as latencies_value};
+ghost use Rattle.iloc_sched.specs.Graph.GraphOf.{of_block};
+ghost use Rattle.iloc_rules.specs.Heuristics.Listed.{heuristics};
+ghost use Rattle.iloc_rules.specs.declared.heuristic.Heuristic.{Heuristic as heuristic_value};
+ghost use Rattle.iloc_block_commands.specs.Compare as compare;
+ghost use Rattle.iloc_block_commands.specs.Compare.{AreCounts};
+ghost use Rattle.iloc_driver.specs.Listing.{opening_as};
+ghost use Rattle.iloc_driver.specs.Schedules.{IsCount};
+ghost use Rattle.iloc_block_commands.specs.Steps.Tallies.{counted, limit_of};
+
+use crate::optimize::sought_if;
+use iloc_args::{Request, priority_name};
+use iloc_bound::least_of;
+use iloc_driver::{FarmedLister, Listing, count_of, push_field, push_head, push_numbered};
+use iloc_ops::{Block, Blocks, Name, NoMemory};
+use iloc_optimum::Optimizer;
+use iloc_rules::{HEURISTIC_COUNT, HEURISTICS, Heuristic, Sought};
+use iloc_sched::{Graph, Scheduler};
+use std::alloc::Global;
+
+/// The bound on a block's cycles, and the cycles of its schedules by each heuristic.
+#[derive(Clone, Copy, Drop)]
+pub struct ComparedCycles {
+    /// How many cycles a lawful schedule takes at least.
+    pub least: u32,
+    /// What a search finds of them, if there is one.
+    pub sought: Option<Sought>,
+    /// How many each schedule takes, in the order in which the heuristics are listed.
+    pub cycles: [u32; HEURISTIC_COUNT],
+}
+
+/// How many cycles a lawful schedule is known to take at least.
+fn bound_of(comparison: &ComparedCycles) -> u32
+    ensures { result ≡ compare.bound_of comparison.now }
+{
+    match &comparison.sought {
+        Some(sought) => sought.bound,
+        None => comparison.least,
+    }
+}
+
+/// How many the best schedule takes that a search finds, if there is one.
+fn best_of(comparison: &ComparedCycles) -> u32
+    ensures { result ≡ compare.best_of comparison.now }
+{
+    match &comparison.sought {
+        Some(sought) => sought.best,
+        None => 0,
+    }
+}
+
+/// Whether the schedule by no heuristic takes fewer.
+fn is_fewest(cycles: u32, comparison: &ComparedCycles) -> bool
+    ensures { result ≡ compare.is_fewest cycles comparison.now }
+{
+    comparison.cycles.iter().all(|other| cycles <= *other)
+}
+
+/// What is summed over blocks.
+#[derive(Clone, Copy)]
+enum Tally {
+    /// The cycles of their schedules.
+    Cycles,
+    /// In how many the schedule by no other heuristic takes fewer.
+    Fewest,
+    /// In how many the schedule takes as many as the bound that is known.
+    Optimal,
+}
+
+impl Tally {
+    /// What one block adds for the heuristic at this place.
+    fn of(self, place: usize, comparison: &ComparedCycles) -> u32
+        requires { place < length heuristics }
+        ensures { (h : heuristic_value) → place ≡ compare.place h → result ≡ counted self h comparison.now }
+    {
+        let cycles = comparison.cycles[place];
+        match self {
+            Tally::Cycles => cycles,
+            Tally::Fewest => u32::from(is_fewest(cycles, comparison)),
+            Tally::Optimal => u32::from(cycles == bound_of(comparison)),
+        }
+    }
+
+    /// What all add.
+    fn sum(self, place: usize, found: &[ComparedCycles]) -> u64
+        requires there { place < length heuristics }
+        requires few { length found.now ≤ MAX_BLOCKS }
+        ensures { (h : heuristic_value) → place ≡ compare.place h → result ≡ sum_by (counted self h) found.now }
+    {
+        let mut sum = 0;
+        for comparison in found {
+            sum += u64::from(self.of(place, comparison));
+        }
+        sum
+    }
+}
+
+/// What is summed over blocks, whatever the heuristic.
+#[derive(Clone, Copy)]
+enum Limit {
+    /// The bounds by the formula.
+    Least,
+    /// The bounds that are known.
+    Bound,
+    /// The cycles of the best schedules that are found.
+    Best,
+}
+
+impl Limit {
+    /// What one block adds.
+    fn of(self, comparison: &ComparedCycles) -> u32
+        ensures { result ≡ limit_of self comparison.now }
+    {
+        match self {
+            Limit::Least => comparison.least,
+            Limit::Bound => bound_of(comparison),
+            Limit::Best => best_of(comparison),
+        }
+    }
+
+    /// What all add.
+    fn sum(self, found: &[ComparedCycles]) -> u64
+        requires { length found.now ≤ MAX_BLOCKS }
+        ensures { result ≡ sum_by (limit_of self) found.now }
+    {
+        let mut sum = 0;
+        for comparison in found {
+            sum += u64::from(self.of(comparison));
+        }
+        sum
+    }
+}
+
+/// Appends a number by its heuristic.
+fn push_number_by(
+    text: &mut Vec<u8>,
+    csv: bool,
+    heuristic: Heuristic,
+    number: u64,
+) -> Result<(), NoMemory>
+    ensures { OnOk result (text.new.items ≡ text.old.items ++ compare.column csv heuristic number) }
+{
+    push_field(text, csv, priority_name(heuristic), number)
+}
+
+/// Appends for each heuristic the cycles of its schedule.
+fn push_cycles(text: &mut Vec<u8>, csv: bool, comparison: &ComparedCycles) -> Result<(), NoMemory>
+    ensures { OnOk result (text.new.items ≡ text.old.items
+        ++ compare.columns csv (λ heuristic. compare.cycles_by heuristic comparison.now) heuristics) }
+{
+    for (place, heuristic) in HEURISTICS.iter().enumerate() {
+        let cycles = comparison.cycles[place];
+        push_number_by(text, csv, *heuristic, u64::from(cycles))?;
+    }
+    Ok(())
+}
+
+/// Appends for each heuristic what is summed over all blocks.
+fn push_sums(text: &mut Vec<u8>, tally: Tally, found: &[ComparedCycles]) -> Result<(), NoMemory>
+    requires { length found.now ≤ MAX_BLOCKS }
+    ensures { OnOk result (text.new.items ≡ text.old.items
+        ++ compare.columns false (λ heuristic. sum_by (counted tally heuristic) found.now) heuristics) }
+{
+    for (place, heuristic) in HEURISTICS.iter().enumerate() {
+        let sum = tally.sum(place, found);
+        push_number_by(text, false, *heuristic, sum)?;
+    }
+    Ok(())
+}
+
+/// Appends the bound and the cycles that a search finds, if there is one.
+fn push_sought(text: &mut Vec<u8>, csv: bool, sought: &Option<Sought>) -> Result<(), NoMemory>
+    ensures { OnOk result (text.new.items ≡ text.old.items ++ compare.sought_columns csv sought.now) }
+{
+    if let Some(sought) = sought {
+        push_field(text, csv, "bound", u64::from(sought.bound))?;
+        push_field(text, csv, "best", u64::from(sought.best))?;
+    }
+    Ok(())
+}
+
+/// Appends ` least L`, or `,L` in a table, with these.
+fn push_bounds(text: &mut Vec<u8>, csv: bool, comparison: &ComparedCycles) -> Result<(), NoMemory>
+    ensures { OnOk result (text.new.items ≡ text.old.items ++ compare.bounds_columns csv comparison.now) }
+{
+    push_field(text, csv, "least", u64::from(comparison.least))?;
+    push_sought(text, csv, &comparison.sought)
+}
+
+/// Appends the line of the block with this number, counted from 1, or its row in a table.
+fn push_comparison(
+    text: &mut Vec<u8>,
+    csv: bool,
+    number: usize,
+    name: Option<&Name>,
+    comparison: &ComparedCycles,
+) -> Result<(), NoMemory>
+    requires { number < 2 ^ 63 }
+    ensures { OnOk result (text.new.items ≡ text.old.items
+        ++ compare.compare_line csv number (option_copied name.entry) comparison.now) }
+{
+    push_head(text, csv, number, name)?;
+    push_bounds(text, csv, comparison)?;
+    push_cycles(text, csv, comparison)?;
+    text.push(b'\n')?;
+    Ok(())
+}
+
+/// Appends the bounds and the cycles that a search finds of all blocks together, if there is one.
+fn push_sought_sums(
+    text: &mut Vec<u8>,
+    nodes: Option<u32>,
+    found: &[ComparedCycles],
+) -> Result<(), NoMemory>
+    requires { length found.now ≤ MAX_BLOCKS }
+    ensures { OnOk result (text.new.items ≡ text.old.items ++ compare.sought_sums nodes found.now) }
+{
+    if nodes.is_some() {
+        push_field(text, false, "bound", Limit::Bound.sum(found))?;
+        push_field(text, false, "best", Limit::Best.sum(found))?;
+    }
+    Ok(())
+}
+
+/// Appends `total least L`, with these.
+fn push_bounds_total(
+    text: &mut Vec<u8>,
+    nodes: Option<u32>,
+    found: &[ComparedCycles],
+) -> Result<(), NoMemory>
+    requires { length found.now ≤ MAX_BLOCKS }
+    ensures { OnOk result (text.new.items ≡ text.old.items ++ compare.bounds_total nodes found.now) }
+{
+    push_numbered(text, b"total least ", Limit::Least.sum(found), b"")?;
+    push_sought_sums(text, nodes, found)
+}
+
+/// Appends the line of the bounds and the cycles of all blocks together.
+fn push_sums_line(
+    text: &mut Vec<u8>,
+    nodes: Option<u32>,
+    found: &[ComparedCycles],
+) -> Result<(), NoMemory>
+    requires { length found.now ≤ MAX_BLOCKS }
+    ensures { OnOk result (text.new.items ≡ text.old.items ++ compare.sums_line nodes found.now) }
+{
+    push_bounds_total(text, nodes, found)?;
+    push_sums(text, Tally::Cycles, found)?;
+    text.push(b'\n')?;
+    Ok(())
+}
+
+/// Appends the line of what is counted of all blocks, after this label.
+fn push_tally_line(
+    text: &mut Vec<u8>,
+    label: &[u8],
+    tally: Tally,
+    found: &[ComparedCycles],
+) -> Result<(), NoMemory>
+    requires { length found.now ≤ MAX_BLOCKS }
+    ensures { OnOk result
+        (text.new.items ≡ text.old.items ++ compare.tally_line label.now (counted tally) found.now) }
+{
+    text.extend_from_slice(label)?;
+    push_sums(text, tally, found)?;
+    push_numbered(text, b" of ", found.len() as u64, b"\n")
+}
+
+/// Appends what all blocks add up to, but in a table.
+fn push_totals(
+    text: &mut Vec<u8>,
+    csv: bool,
+    nodes: Option<u32>,
+    found: &[ComparedCycles],
+) -> Result<(), NoMemory>
+    requires { length found.now ≤ MAX_BLOCKS }
+    ensures { OnOk result (text.new.items ≡ text.old.items ++ compare.compare_ending csv nodes found.now) }
+{
+    if csv {
+        return Ok(());
+    }
+    push_sums_line(text, nodes, found)?;
+    push_tally_line(text, b"fewest", Tally::Fewest, found)?;
+    push_tally_line(text, b"optimal", Tally::Optimal, found)
+}
+
+/// Appends the name of each heuristic, with a comma before it.
+fn push_names(text: &mut Vec<u8>) -> Result<(), NoMemory>
+    ensures { OnOk result (text.new.items ≡ text.old.items ++ compare.names) }
+{
+    for heuristic in HEURISTICS.iter() {
+        text.push(b',')?;
+        text.extend_from_slice(priority_name(*heuristic).as_bytes())?;
+    }
+    Ok(())
+}
+
+/// What a table begins with before that.
+fn heading(nodes: Option<u32>) -> &'static [u8]
+    ensures { result.now ≡ compare.heading nodes }
+{
+    match nodes {
+        Some(_) => b"block,name,least,bound,best",
+        None => b"block,name,least",
+    }
+}
+
+/// Appends what a table begins with.
+fn push_header(text: &mut Vec<u8>, nodes: Option<u32>) -> Result<(), NoMemory>
+    ensures { OnOk result (text.new.items ≡ text.old.items ++ compare.compare_header nodes) }
+{
+    text.extend_from_slice(heading(nodes))?;
+    push_names(text)?;
+    Ok(text.push(b'\n')?)
+}
+
+/// Appends it, if a table is asked for.
+fn push_opening(text: &mut Vec<u8>, csv: bool, nodes: Option<u32>) -> Result<(), NoMemory>
+    ensures { OnOk result
+        (text.new.items ≡ text.old.items ++ opening_as csv (compare.compare_header nodes)) }
+{
+    if csv {
+        push_header(text, nodes)?;
+    }
+    Ok(())
+}
+
+/// Schedules each block by each heuristic, and answers how many cycles the schedules take.
+#[derive(Drop)]
+pub struct CompareLister {
+    graph: Graph,
+    scheduler: Scheduler,
+    optimizer: Optimizer,
+}
+
+/// How many cycles the schedule of this graph's block by this heuristic takes.
+fn count(scheduler: &mut Scheduler, graph: &Graph, heuristic: Heuristic) -> Result<u32, NoMemory>
+    ensures { IfOk result (λ cycles. (lat : latencies_value) (block : block_value) → graph.now ≡ of_block lat block.ops
+        → IsCount heuristic lat block cycles) }
+{
+    let schedule = scheduler.lend_as(graph, heuristic)?;
+    let cycles = count_of(&schedule, graph.latencies());
+    scheduler.take_back(schedule);
+    Ok(cycles)
+}
+
+/// How many cycles the schedules of this graph's block take, by each heuristic.
+fn counts(scheduler: &mut Scheduler, graph: &Graph) -> Result<[u32; HEURISTIC_COUNT], NoMemory>
+    ensures { IfOk result (λ cycles. (lat : latencies_value) (block : block_value) → graph.now ≡ of_block lat block.ops
+        → AreCounts lat block cycles) }
+{
+    let mut cycles = [0; HEURISTIC_COUNT];
+    for (place, heuristic) in HEURISTICS.iter().enumerate() {
+        cycles[place] = count(scheduler, graph, *heuristic)?;
+    }
+    Ok(cycles)
+}
+
+impl FarmedLister for CompareLister {
+    ghost use Rattle.iloc_rules.specs.declared.heuristic.Heuristic.TheVariants.{Chain};
+    ghost use Rattle.iloc_block_commands.specs.Compare.{IsCompareListing, IsComparedCycles, cycles_by};
+    ghost use Rattle.iloc_driver.specs.Entries.{AreListed};
+
+    type Answer = ComparedCycles;
+
+    ghost answers = { λ request _ block found. IsComparedCycles request.latencies request.nodes block found };
+
+    ghost cycles_in = { λ found. cycles_by Chain found };
+
+    ghost lists = { λ request. IsCompareListing request };
+
+    fn new(alloc: Global) -> CompareLister {
+        CompareLister {
+            graph: Graph::new(alloc),
+            scheduler: Scheduler::new(alloc),
+            optimizer: Optimizer::new(alloc),
+        }
+    }
+
+    fn answer(
+        &mut self,
+        alloc: Global,
+        request: &Request,
+        _number: usize,
+        block: &Block,
+    ) -> Result<ComparedCycles, NoMemory> {
+        self.graph.refill(block, &request.latencies)?;
+        let least = least_of(alloc, &self.graph)?;
+        let sought = sought_if(&mut self.optimizer, block, &self.graph, request.nodes)?;
+        let cycles = counts(&mut self.scheduler, &self.graph)?;
+        Ok(ComparedCycles {
+            least: least as u32,
+            sought,
+            cycles,
+        })
+    }
+
+    fn cycles(found: &ComparedCycles) -> u32 {
+        found.cycles[0]
+    }
+
+    fn listing(
+        alloc: Global,
+        request: &Request,
+        blocks: Blocks,
+        found: Vec<ComparedCycles>,
+    ) -> Result<Listing, NoMemory>
+        requires few { length blocks ≤ MAX_BLOCKS }
+        requires right { AreListed
+            (λ _ block each. IsComparedCycles request.now.latencies request.now.nodes block each) blocks found.items }
+        ensures { IfOk result (IsCompareListing request.now blocks) }
+    {
+        let mut text = Vec::new(alloc);
+        push_opening(&mut text, request.csv, request.nodes)?;
+        for (index, block) in blocks.as_slice().iter().enumerate() {
+            let name = block.name.as_ref();
+            push_comparison(&mut text, request.csv, index + 1, name, &found[index])?;
+        }
+        push_totals(&mut text, request.csv, request.nodes, &found)?;
+        Ok(Listing::of_text(alloc, text))
+    }
+}

@@ -1,0 +1,92 @@
+//! `counts`: how many cycles blocks' schedules take.
+ghost use Rattle.std.specs.Prelude.{◌≡◌, ◌≤◌, ◌<◌, ◌++◌, length, IfOk, OnOk};
+ghost use Rattle.iloc_ops.specs.Limits.{MAX_BLOCKS};
+ghost use Rattle.iloc_block_commands.specs.Counts.{count_ending};
+
+use iloc_args::Request;
+use iloc_driver::{FarmedLister, Listing, count_of, push_count, push_opening, push_total_of};
+use iloc_ops::{Block, Blocks, NoMemory};
+use iloc_sched::{Graph, Scheduler};
+use std::alloc::Global;
+
+/// What a table begins with.
+const HEADER: &[u8] = b"block,name,cycles\n";
+
+/// Appends the line of these cycles together, but in a table.
+fn push_ending(text: &mut Vec<u8>, csv: bool, cycles: &[u32]) -> Result<(), NoMemory>
+    requires { length cycles.now ≤ MAX_BLOCKS }
+    ensures { OnOk result (text.new.items ≡ text.old.items ++ count_ending csv cycles.now) }
+{
+    if csv {
+        return Ok(());
+    }
+    push_total_of(text, cycles)
+}
+
+/// Schedules each block, and answers how many cycles its schedule takes.
+#[derive(Drop)]
+pub struct CountLister {
+    graph: Graph,
+    scheduler: Scheduler,
+}
+
+impl FarmedLister for CountLister {
+    ghost use Rattle.iloc_block_commands.specs.Counts.{IsCountListing};
+    ghost use Rattle.iloc_driver.specs.Entries.{AreListed};
+    ghost use Rattle.iloc_driver.specs.Schedules.{IsCount};
+
+    type Answer = u32;
+
+    ghost answers = { λ request _ block cycles. IsCount request.priority request.latencies block cycles };
+
+    ghost cycles_in = { λ cycles. cycles };
+
+    ghost lists = { λ request. IsCountListing request };
+
+    fn new(alloc: Global) -> CountLister {
+        CountLister {
+            graph: Graph::new(alloc),
+            scheduler: Scheduler::new(alloc),
+        }
+    }
+
+    fn answer(
+        &mut self,
+        _alloc: Global,
+        request: &Request,
+        _number: usize,
+        block: &Block,
+    ) -> Result<u32, NoMemory> {
+        self.graph.refill(block, &request.latencies)?;
+        let schedule = self.scheduler.lend_as(&self.graph, request.priority)?;
+        let cycles = count_of(&schedule, &request.latencies);
+        self.scheduler.take_back(schedule);
+        Ok(cycles)
+    }
+
+    fn cycles(cycles: &u32) -> u32 {
+        *cycles
+    }
+
+    fn listing(
+        alloc: Global,
+        request: &Request,
+        blocks: Blocks,
+        cycles: Vec<u32>,
+    ) -> Result<Listing, NoMemory>
+        requires few { length blocks ≤ MAX_BLOCKS }
+        requires right { AreListed (λ _ block count. IsCount request.now.priority request.now.latencies block count)
+            blocks cycles.items }
+        ensures { IfOk result (IsCountListing request.now blocks) }
+    {
+        let mut text = Vec::new(alloc);
+        push_opening(&mut text, request.csv, HEADER)?;
+        for (index, block) in blocks.as_slice().iter().enumerate() {
+            let count = u64::from(cycles[index]);
+            let name = block.name.as_ref();
+            push_count(&mut text, request.csv, index + 1, name, count)?;
+        }
+        push_ending(&mut text, request.csv, &cycles)?;
+        Ok(Listing::of_text(alloc, text))
+    }
+}

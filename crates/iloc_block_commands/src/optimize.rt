@@ -1,0 +1,97 @@
+//! `optimize`: the best schedules that are found, with a bound on the cycles of every one.
+ghost use Rattle.std.specs.Prelude.{◌≡◌, ◌≤◌, length, IfOk};
+ghost use Rattle.iloc_ops.specs.Limits.{MAX_BLOCKS};
+ghost use Rattle.iloc_rules.specs.Renaming.{renamed};
+ghost use Rattle.iloc_block_commands.specs.Optimize.{IsSoughtIf};
+
+use iloc_args::Request;
+use iloc_driver::{EntryMaker, FarmedLister, Listing, ScheduleEntry, with_total};
+use iloc_ops::{Block, Blocks, NoMemory};
+use iloc_optimum::Optimizer;
+use iloc_rules::Sought;
+use iloc_sched::Graph;
+use std::alloc::Global;
+
+/// What a search with so many nodes finds of a block's cycles, if there is to be one.
+pub fn sought_if(
+    optimizer: &mut Optimizer,
+    block: &Block,
+    graph: &Graph,
+    nodes: Option<u32>,
+) -> Result<Option<Sought>, NoMemory>
+    requires { graph.now.ops ≡ renamed block.now.ops }
+    ensures { IfOk result (IsSoughtIf nodes graph.now.latencies block.now.ops) }
+{
+    match nodes {
+        Some(nodes) => Ok(Some(optimizer.seek(block, graph, nodes)?)),
+        None => Ok(None),
+    }
+}
+
+/// Searches for the best schedule of each block, and lists it.
+#[derive(Drop)]
+pub struct OptimizeLister {
+    graph: Graph,
+    optimizer: Optimizer,
+    entries: EntryMaker,
+}
+
+impl FarmedLister for OptimizeLister {
+    ghost use Rattle.iloc_block_commands.specs.Optimize.{IsOptimizeEntry};
+    ghost use Rattle.iloc_driver.specs.Entries.{AreListed, IsListingOf};
+    ghost use Rattle.iloc_driver.specs.Listing.{total_of_all};
+
+    type Answer = ScheduleEntry;
+
+    ghost answers = { λ request k block entry. IsOptimizeEntry request.latencies k block entry.text entry.cycles };
+
+    ghost cycles_in = { λ entry. entry.cycles };
+
+    ghost lists = { λ request. IsListingOf (IsOptimizeEntry request.latencies) total_of_all };
+
+    fn new(alloc: Global) -> OptimizeLister {
+        OptimizeLister {
+            graph: Graph::new(alloc),
+            optimizer: Optimizer::new(alloc),
+            entries: EntryMaker::new(alloc),
+        }
+    }
+
+    fn answer(
+        &mut self,
+        _alloc: Global,
+        request: &Request,
+        number: usize,
+        block: &Block,
+    ) -> Result<ScheduleEntry, NoMemory> {
+        let latencies = &request.latencies;
+        let nodes = request.nodes.unwrap_or(0);
+        self.graph.refill(block, latencies)?;
+        let optimum = self.optimizer.optimize(block, &self.graph, nodes)?;
+        let bound = Some(optimum.bound);
+        let entry = self
+            .entries
+            .entry(latencies, number, block, &optimum.schedule, bound)?;
+        self.optimizer.take_back(optimum.schedule);
+        Ok(entry)
+    }
+
+    fn cycles(entry: &ScheduleEntry) -> u32 {
+        entry.cycles
+    }
+
+    fn listing(
+        alloc: Global,
+        _request: &Request,
+        blocks: Blocks,
+        entries: Vec<ScheduleEntry>,
+    ) -> Result<Listing, NoMemory>
+        requires few { length blocks ≤ MAX_BLOCKS }
+        requires right { AreListed (λ k block entry.
+            IsOptimizeEntry _request.now.latencies k block entry.text entry.cycles) blocks entries.items }
+        ensures { IfOk result (IsListingOf (IsOptimizeEntry _request.now.latencies) total_of_all blocks) }
+    {
+        drop(blocks);
+        with_total(alloc, entries)
+    }
+}

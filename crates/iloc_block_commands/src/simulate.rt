@@ -1,0 +1,56 @@
+//! `simulate`: what comes of blocks' schedules on the timed machine.
+use iloc_args::Request;
+use iloc_driver::{Lister, initial_memory, push_outcome};
+use iloc_ops::{Block, NoMemory};
+use iloc_sched::{Graph, Scheduler};
+use iloc_timed::Simulator;
+use std::alloc::Global;
+
+/// Runs each block's schedule, and lists what comes of it.
+#[derive(Drop)]
+pub struct SimulateLister {
+    graph: Graph,
+    scheduler: Scheduler,
+    simulator: Simulator,
+}
+
+impl Lister for SimulateLister {
+    ghost use Rattle.iloc_driver.specs.Entries.{no_ending};
+    ghost use Rattle.iloc_block_commands.specs.Simulate.{IsSimulateEntry};
+
+    type Found = ();
+
+    ghost lists = { IsSimulateEntry };
+
+    ghost ending = { no_ending };
+
+    ghost memory = { λ _ lister. lister.simulator.memory };
+
+    fn new(alloc: Global, request: &Request) -> Result<SimulateLister, NoMemory> {
+        let memory = initial_memory(alloc, request)?;
+        Ok(SimulateLister {
+            graph: Graph::new(alloc),
+            scheduler: Scheduler::new(alloc),
+            simulator: Simulator::new(alloc, memory)?,
+        })
+    }
+
+    fn list(
+        &mut self,
+        _alloc: Global,
+        request: &Request,
+        number: usize,
+        block: &Block,
+        text: &mut Vec<u8>,
+    ) -> Result<(), NoMemory> {
+        self.graph.refill(block, &request.latencies)?;
+        let schedule = self.scheduler.lend_as(&self.graph, request.priority)?;
+        self.simulator.run(&schedule, &request.latencies)?;
+        self.scheduler.take_back(schedule);
+        push_outcome(text, number, block.name.as_ref(), self.simulator.outputs())
+    }
+
+    fn push_ending(_text: &mut Vec<u8>, _found: &[()]) -> Result<(), NoMemory> {
+        Ok(())
+    }
+}

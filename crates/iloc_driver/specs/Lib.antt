@@ -1,0 +1,11 @@
+pub mod Command
+pub mod Coming
+pub mod Entries
+pub mod Fault
+pub mod Limits
+pub mod Listing
+pub mod Program
+pub mod Schedules
+pub mod Run
+pub mod Steps
+pub mod Work

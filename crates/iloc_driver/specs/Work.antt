@@ -1,0 +1,45 @@
+-- The work of several workers, and the receipt for it.
+use Rattle.std.specs.Prelude.{◌≡◌, ℕ, List, length, Option, None}
+use Rattle.std.specs.Option.{IsSomeAnd}
+use Rattle.std.specs.List.{All, range_with_len}
+use Rattle.iloc_ops.specs.declared.file.Block.{Block}
+use Rattle.iloc_board.specs.Collecting.{workers_of}
+use Rattle.iloc_board.specs.Finished.{IsDoneBy, ReceiptView}
+use Rattle.iloc_board.specs.Working.{IsDone}
+use Rattle.iloc_args.specs.declared.request.Request.{Request}
+use Rattle.iloc_args.specs.declared.request.Task.{Task}
+use Rattle.iloc_driver.specs.Command.{Alone, Command, Listers, Shared}
+use Rattle.iloc_driver.specs.Entries.{ListsRead, OfBlock}
+use Rattle.iloc_driver.specs.Run.{IsListingFor}
+
+-- So many workers did all jobs. The receipt has one journal of each, in order, and each was told that no job is left. By these
+-- journals, what they did is one legal history of a board of one thread, in which each job is taken once and handed back once.
+-- These are the answers, in the order of the jobs.
+pub record AreFarmed {A : Type 0} (count : ℕ) (fits : ℕ → A → Type 0) (price : A → ℕ) (workers : ℕ) (receipt : ReceiptView)
+    (answers : List A) : Type 0 where
+  pub made : receipt.made ≡ workers
+  pub journals : workers_of receipt.gathered ≡ range_with_len 0 workers
+  pub told : All IsDone receipt.gathered
+  pub done : IsDoneBy count fits price receipt answers
+
+-- The bytes that were read denote a file, and the text is the listing of its blocks. What is listed of each of these very
+-- blocks, a worker handed back for it, at its cycles.
+pub record ListsFarmed {A : Type 0} (lists : ℕ → Block → A → Type 0) (cycles_in : A → ℕ)
+    (is_listing : List Block → List ℕ → Type 0) (workers : ℕ) (old new : Option (List ℕ)) (text : List ℕ)
+    (receipt : ReceiptView) : Type 0 where
+  pub read : ListsRead is_listing old new text
+  pub answers : List A
+  pub farmed : AreFarmed (length read.blocks) (OfBlock lists read.blocks) cycles_in workers receipt answers
+
+-- Where workers share what the command lists, this is the receipt for what the request's workers listed of the file that was
+-- read: of each block its entry, or the cycles of its schedule, or all that is compared. Else there is none.
+abbrev pub HasReceiptFrom : Listers → (List Block → List ℕ → Type 0) → Request → Option (List ℕ) → Option (List ℕ) → List ℕ
+    → Option ReceiptView → Type 0
+HasReceiptFrom Alone is_listing request old new text receipt = receipt ≡ None
+HasReceiptFrom (Shared A answers cycles_in) is_listing request old new text receipt =
+    IsSomeAnd receipt (ListsFarmed (answers request) cycles_in is_listing request.workers old new text)
+
+abbrev pub HasReceipt : (Task → Command) → Task → Request → Option (List ℕ) → Option (List ℕ) → List ℕ → Option ReceiptView
+    → Type 0
+HasReceipt command_of t request old new text receipt =
+    HasReceiptFrom (command_of t).listers (IsListingFor command_of t request) request old new text receipt

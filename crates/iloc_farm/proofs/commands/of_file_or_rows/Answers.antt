@@ -1,6 +1,0 @@
-use Rattle.std.proofs.Common.{rules}
-use Rattle.iloc_farm.proofs.commands.of_file_or_rows.Goals as goal
-
-pub returns-else-is_some : goal.returns-else-is_some
-returns-else-is_some g c =
-    let comes = c.alone.ensures (g.T.Texts.held c.args.texts.now) in search rules

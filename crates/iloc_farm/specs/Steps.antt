@@ -1,8 +1,0 @@
--- What the code does piece by piece, as steps of proof: no contract of a public function names them.
-pub mod Tallies
-pub mod Text
-pub mod Joined
-pub mod Listed
-pub mod Coming
-pub mod Limits
-pub mod Checking

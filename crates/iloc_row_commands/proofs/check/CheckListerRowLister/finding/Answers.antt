@@ -1,0 +1,12 @@
+use Rattle.std.proofs.Common.{◌∙◌, ap, rules, tests}
+use Rattle.std.proofs.lemmas.Iterator.{YieldsList-from_slice}
+use Rattle.std.proofs.lemmas.Iterator.Search.{all_from_yields_List}
+use Rattle.iloc_judge.specs.Checked.{passes}
+use Rattle.iloc_driver.specs.Fault.{finding_of}
+use Rattle.iloc_row_commands.proofs.check.CheckListerRowLister.finding.Goals as goal
+
+pub returns : goal.returns
+returns c =
+    let all = all_from_yields_List (passes c.args.request.now.lawful) _ _ c.all.result c.all.ensures.ran (YieldsList-from_slice c.args.found.now cc)
+    (λ x b q k. search (rules, tests)) in
+    c.of.ensures ∙ ap finding_of all

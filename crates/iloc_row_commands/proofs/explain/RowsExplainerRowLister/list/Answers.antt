@@ -1,0 +1,69 @@
+use Rattle.std.proofs.Common.{◌≡◌, ◌≤◌, ℕ, List, ◌++◌, length, arith, refl, ap, ◌∙◌, Option}
+use Rattle.std.specs.Prelude.{codes}
+use Rattle.iloc_ops.specs.declared.op.Op.{Op}
+use Rattle.iloc_ops.specs.declared.file.Block.{Block}
+use Rattle.iloc_timed.specs.Limits.{MAX_ROWS}
+use Rattle.iloc_timed.specs.declared.latencies.Latencies.{Latencies}
+use Rattle.iloc_timed.specs.Cycles.{cycles}
+use Rattle.iloc_timed.specs.Schedule.{Table}
+use Rattle.iloc_rows.specs.declared.proposal.Proposed.{Proposed}
+use Rattle.iloc_rules.specs.declared.heuristic.Heuristic.{Heuristic}
+use Rattle.iloc_row_commands.specs.declared.explain.explained.ExplainedRows.{ExplainedRows}
+use Rattle.iloc_row_commands.specs.Explain.Explained.{IsRowsExplanation}
+use Rattle.iloc_row_commands.specs.Explain.{IsRowsEntry}
+use Rattle.iloc_driver.specs.Listing.{block_head}
+use Rattle.iloc_driver.specs.Schedules.{IsGreedyAs}
+use Rattle.iloc_driver.specs.Limits.{most_proposed_cycles}
+use Rattle.iloc_driver.specs.Entries.{Adds}
+use Rattle.iloc_driver.proofs.Entries.{parts_joined}
+use Rattle.iloc_driver.proofs.Schedules.{the_greedy}
+use Rattle.iloc_driver.proofs.Schedules.{cycles_within}
+use Rattle.iloc_row_commands.proofs.explain.RowsExplainerRowLister.list.Goals as goal
+
+-- What explains proposals.
+
+-- the cycles of one proposal are few
+few_told : (heuristic : Heuristic) (lat : Latencies) (block : List Op) (s : Table) (p : Proposed) (one : ExplainedRows)
+    (text : List ℕ) → IsRowsExplanation heuristic lat block s p one text → length p.rows ≤ MAX_ROWS → one.cycles ≤ most_proposed_cycles
+few_told heuristic lat block s p one text is few = grind (arith, cycles_within)
+
+-- what was appended is the entry
+rows_listed : (heuristic : Heuristic) (lat : Latencies) (k : ℕ) (b : Block) (s : Table) (p : Proposed) (one : ExplainedRows)
+    (text headed lined more said : List ℕ) (name : Option (List ℕ)) → IsGreedyAs heuristic lat b.ops s → name ≡ b.name
+    → headed ≡ text ++ block_head k name → lined ≡ headed ++ codes "\n"
+    → IsRowsExplanation heuristic lat b.ops s p one said → more ≡ lined ++ said
+    → Adds (IsRowsEntry heuristic lat k (b, p)) text more one
+rows_listed heuristic lat k b s p one text headed lined more said name greedy named opened ended is added = record {
+  entry = block_head k b.name ++ codes "\n" ++ said;
+  right = record {
+    ours = s;
+    greedy = the_greedy heuristic lat b s greedy;
+    text = said;
+    right = is;
+    listed = refl;
+  };
+  added = added
+      ∙ (ap (λ xs. xs ++ said) (ended ∙ ap (λ xs. xs ++ codes "\n") (opened ∙ ap (λ n. text ++ block_head k n) named))
+      ∙ parts_joined text (block_head k b.name) (codes "\n") said);
+}
+
+pub invariant_of-known : goal.invariant_of-known
+invariant_of-known c = record {
+  lawful = (c.in_ok-ours.ensures _ _ c.in_ok-refill.ensures.graph).greedy.lawful;
+  drawn = c.in_ok-refill.ensures.graph;
+}
+
+pub returns-clause-listed : goal.returns-clause-listed
+returns-clause-listed c =
+    let request = c.args.request.now in
+    let said = c.in_ok-found.ensures in
+    rows_listed request.priority request.latencies c.args.number c.args.block.now c.in_ok-ours.ours c.args.proposal
+    c.in_ok-found.found c.args.text.now.items _ _ _ said.0 _ (c.in_ok-ours.ensures _ _ c.in_ok-refill.ensures.graph).greedy c.as_ref.ensures.value
+    c.in_ok-push_block_head.ensures c.in_ok-push.ensures.items said.1 said.2
+
+pub returns-clause-small : goal.returns-clause-small
+returns-clause-small c =
+    let request = c.args.request.now in
+    let said = c.in_ok-found.ensures in
+    few_told request.priority request.latencies c.args.block.now.ops c.in_ok-ours.ours c.args.proposal c.in_ok-found.found
+    said.0 said.1 c.rows.ensures.few

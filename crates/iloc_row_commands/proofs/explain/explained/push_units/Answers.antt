@@ -1,0 +1,12 @@
+use Rattle.std.proofs.Common.{◌++◌, ◌∙◌, ap, append_assoc}
+use Rattle.std.specs.Prelude.{codes}
+use Rattle.std.proofs.lemmas.Result.{on_ok_weaker}
+use Rattle.iloc_judge.specs.Entry.Listing.{bad_row}
+use Rattle.iloc_row_commands.proofs.explain.explained.push_units.Goals as goal
+
+pub returns : goal.returns
+returns c =
+    let row = bad_row c.args.ops.now c.args.rows.now c.args.row in
+    on_ok_weaker c.push_bad_row.result (λ pushed. pushed
+    ∙ (ap (λ text. text ++ row) c.in_ok-extend_from_slice.ensures.items
+    ∙ append_assoc c.args.text.now.items (codes "  not lawful\n") row)) c.push_bad_row.ensures

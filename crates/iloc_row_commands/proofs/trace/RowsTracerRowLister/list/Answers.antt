@@ -1,0 +1,28 @@
+use Rattle.iloc_timed.proofs.WholeRuns.{if_ok}
+use Rattle.std.proofs.Common.{◌≡◌, ℕ, Bool, List, ◌++◌, Option, arith}
+use Rattle.std.specs.Prelude.{ℤ, codes}
+use Rattle.iloc_ops.specs.declared.file.Block.{Block}
+use Rattle.iloc_timed.specs.declared.latencies.Latencies.{Latencies}
+use Rattle.iloc_rows.specs.declared.proposal.Proposed.{Proposed}
+use Rattle.iloc_row_commands.specs.Trace.{IsRowsTraceEntry, IsTraceOf}
+use Rattle.iloc_driver.specs.Listing.{block_head}
+use Rattle.iloc_driver.specs.Entries.{Adds}
+use Rattle.iloc_driver.proofs.Entries.{parts_joined}
+use Rattle.iloc_row_commands.proofs.trace.RowsTracerRowLister.list.Goals as goal
+
+-- What proposals do.
+
+-- what was appended is the entry
+traced_listed : (lat : Latencies) (memory start : List ℤ) (k : ℕ) (b : Block) (p : Proposed) (traced : Bool)
+    (text headed lined more said : List ℕ) (name : Option (List ℕ)) → memory ≡ start → name ≡ b.name
+    → headed ≡ text ++ block_head k name → lined ≡ headed ++ codes "\n"
+    → IsTraceOf p.unread traced lat memory p.ops p.rows said → more ≡ lined ++ said
+    → Adds (IsRowsTraceEntry lat start k (b, p)) text more traced
+traced_listed lat memory start k b p traced text headed lined more said name starts named opened ended is added = grind (arith, parts_joined)
+
+pub returns-clause-listed : goal.returns-clause-listed
+returns-clause-listed c =
+    if_ok _ _ c.push_traced.result (λ traced said.
+    traced_listed c.args.request.now.latencies _ _ c.args.number c.args.block.now c.args.proposal traced
+    c.args.text.now.items _ _ _ said.0 _ c.requires.starts c.as_ref.ensures.value c.in_ok-push_block_head.ensures
+    c.in_ok-push.ensures.items said.1 said.2) c.push_traced.ensures.listed

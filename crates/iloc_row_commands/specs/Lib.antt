@@ -1,0 +1,4 @@
+pub mod Check
+pub mod Explain
+pub mod Trace
+pub mod Steps

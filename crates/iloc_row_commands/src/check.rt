@@ -1,0 +1,220 @@
+//! `check`: what is said of the schedules that others proposed for blocks.
+ghost use Rattle.std.specs.Prelude.{ℕ, ◌≡◌, ◌<◌, ◌≤◌, ◌^◌, ◌++◌, List, length, IfOk, OnOk};
+ghost use Rattle.std.specs.List.{All};
+ghost use Rattle.std.specs.Option.{option_copied};
+ghost use Rattle.iloc_row_commands.specs.Check as listed;
+ghost use Rattle.iloc_row_commands.specs.Check.{IsSaid, form_of, options_of, IsSmall as IsSmallCheck};
+ghost use Rattle.iloc_ops.specs.Limits.{MAX_BLOCKS};
+
+use crate::json::push_json_head;
+use crate::totals::Totals;
+use iloc_args::Request;
+use iloc_block_commands::sought_if;
+use iloc_bound::least_of;
+use iloc_driver::{Finding, RowLister, initial_memory, push_head};
+use iloc_judge::{CheckOptions, Checked, Form, Judging, Task, push_check, push_unread};
+use iloc_meaning::Memory;
+use iloc_ops::{Block, Name, NoMemory};
+use iloc_optimum::Optimizer;
+use iloc_rows::Proposal;
+use iloc_rules::Heuristic;
+use iloc_sched::{Graph, Scheduler};
+use iloc_timed::MAX_ROWS;
+use std::alloc::Global;
+
+/// What a table begins with.
+const HEADER: &[u8] = b"block,name,verdict,cycles,ours,least,claimed\n";
+
+/// What it begins with where schedules are searched for.
+const SEARCHED_HEADER: &[u8] = b"block,name,verdict,cycles,ours,best,bound,least,claimed\n";
+
+/// Judges what is proposed for each block, beside our schedule of it.
+#[derive(Drop)]
+pub struct CheckLister {
+    graph: Graph,
+    scheduler: Scheduler,
+    optimizer: Optimizer,
+    memory: Memory,
+    /// How many blocks are judged.
+    blocks: usize,
+}
+
+/// What a table begins with, by the nodes that a search has.
+fn header(nodes: Option<u32>) -> &'static [u8]
+    ensures { result.now ≡ listed.check_header nodes }
+{
+    match nodes {
+        Some(_) => SEARCHED_HEADER,
+        None => HEADER,
+    }
+}
+
+/// The form of the listing that a request asks for.
+fn form_of(request: &Request) -> Form
+    ensures { result ≡ form_of request.now }
+{
+    match (request.csv, request.json) {
+        (_, true) => Form::Json,
+        (true, false) => Form::Table,
+        (false, false) => Form::Lines,
+    }
+}
+
+/// What a request asks of rows.
+fn options_of(request: &Request) -> CheckOptions
+    ensures { result ≡ options_of request.now }
+{
+    CheckOptions {
+        lawful: request.lawful,
+        operations: request.operations,
+        outputs_alone: request.outputs,
+        form: form_of(request),
+    }
+}
+
+/// Appends how the entry of a block begins.
+fn push_check_head(
+    text: &mut Vec<u8>,
+    form: Form,
+    number: usize,
+    name: Option<&Name>,
+) -> Result<(), NoMemory>
+    requires { number < 2 ^ 63 }
+    ensures { OnOk result
+        (text.new.items ≡ text.old.items ++ listed.check_head form number (option_copied name.entry)) }
+{
+    match form {
+        Form::Lines => push_head(text, false, number, name),
+        Form::Table => push_head(text, true, number, name),
+        Form::Json => push_json_head(text, number, name),
+    }
+}
+
+/// Appends the header of a table.
+fn push_check_opening(text: &mut Vec<u8>, form: Form, nodes: Option<u32>) -> Result<(), NoMemory>
+    ensures { OnOk result (text.new.items ≡ text.old.items ++ listed.check_opening form nodes) }
+{
+    match form {
+        Form::Lines | Form::Json => Ok(()),
+        Form::Table => Ok(text.extend_from_slice(header(nodes))?),
+    }
+}
+
+/// Appends the totals, where lines are listed.
+fn push_check_ending(
+    text: &mut Vec<u8>,
+    form: Form,
+    nodes: Option<u32>,
+    found: &[Checked],
+) -> Result<(), NoMemory>
+    requires few { length found.now ≤ MAX_BLOCKS }
+    requires small { All IsSmallCheck found.now }
+    ensures { OnOk result (text.new.items ≡ text.old.items ++ listed.check_ending form nodes found.now) }
+{
+    match form {
+        Form::Lines => Totals::of(found).push_line(text, nodes),
+        Form::Table | Form::Json => Ok(()),
+    }
+}
+
+/// Appends what is said of a proposal beside our schedule of the block: of its first row that can't be read, if there is one,
+/// and else of its rows.
+fn push_judged(
+    alloc: Global,
+    text: &mut Vec<u8>,
+    judging: &Judging<'_>,
+    task: &Task<'_>,
+    proposal: Proposal,
+) -> Result<Checked, NoMemory>
+    ensures sought { IfOk result (λ checked. checked.sought ≡ task.now.sought) }
+    ensures entry { IfOk result (λ checked. (entry : List ℕ)
+        × IsSaid proposal.unread judging.now.options task.now.latencies.now
+        judging.now.memory.now task.now.block.now.ops task.now.ours.now proposal checked entry
+        × (text.new.items ≡ text.old.items ++ entry)) }
+{
+    if let Some(unread) = proposal.unread() {
+        return push_unread(alloc, text, judging.options.form, task, &proposal, unread);
+    }
+    push_check(alloc, text, judging, task, proposal)
+}
+
+impl RowLister for CheckLister {
+    ghost use Rattle.iloc_row_commands.specs.Check.{IsCheckEntry, check_ending, check_opening, form_of, options_of, IsSmall};
+    ghost use Rattle.iloc_driver.specs.Command.{initial_memory};
+    ghost use Rattle.iloc_judge.specs.Checked.{passes};
+
+    type Found = Checked;
+
+    ghost lists = { λ request.
+        IsCheckEntry (options_of request) request.nodes request.latencies (initial_memory request) };
+
+    ghost opening = { λ request. check_opening (form_of request) request.nodes };
+
+    ghost ending = { λ request. check_ending (form_of request) request.nodes };
+
+    ghost passes = { λ request. passes request.lawful };
+
+    ghost fits = { IsSmall };
+
+    ghost memory = { λ _ lister. lister.memory };
+
+    fn new(alloc: Global, request: &Request, blocks: usize) -> Result<CheckLister, NoMemory> {
+        Ok(CheckLister {
+            graph: Graph::new(alloc),
+            scheduler: Scheduler::new(alloc),
+            optimizer: Optimizer::new(alloc),
+            memory: initial_memory(alloc, request)?,
+            blocks,
+        })
+    }
+
+    fn push_opening(request: &Request, text: &mut Vec<u8>) -> Result<(), NoMemory> {
+        push_check_opening(text, form_of(request), request.nodes)
+    }
+
+    fn list(
+        &mut self,
+        alloc: Global,
+        request: &Request,
+        number: usize,
+        block: &Block,
+        proposal: Proposal,
+        text: &mut Vec<u8>,
+    ) -> Result<Checked, NoMemory> {
+        let latencies = &request.latencies;
+        prove!(proposal.rows().len() <= MAX_ROWS);
+        self.graph.refill(block, latencies)?;
+        let least = least_of(alloc, &self.graph)?;
+        let sought = sought_if(&mut self.optimizer, block, &self.graph, request.nodes)?;
+        let ours = self.scheduler.lend_as(&self.graph, Heuristic::Chain)?;
+        push_check_head(text, form_of(request), number, block.name.as_ref())?;
+        let judging = Judging {
+            options: options_of(request),
+            memory: &self.memory,
+            blocks: self.blocks,
+        };
+        let task = Task {
+            block,
+            ours: &ours,
+            sought,
+            least,
+            latencies,
+        };
+        let checked = push_judged(alloc, text, &judging, &task, proposal)?;
+        self.scheduler.take_back(ours);
+        Ok(checked)
+    }
+
+    fn push_ending(
+        request: &Request,
+        text: &mut Vec<u8>,
+        found: &[Checked],
+    ) -> Result<(), NoMemory> {
+        push_check_ending(text, form_of(request), request.nodes, found)
+    }
+
+    fn finding(request: &Request, found: &[Checked]) -> Finding {
+        let lawful = request.lawful;
+        Finding::of(found.iter().all(|checked| checked.passes(lawful)))
+    }
+}

@@ -1,0 +1,160 @@
+//! Why the rows that are proposed for a block take their cycles.
+ghost use Rattle.std.specs.Prelude.{ℕ, ◌≡◌, ◌≤◌, ◌<◌, ◌++◌, true, List, length, IfOk, OnOk};
+ghost use Rattle.iloc_timed.specs.Rows.{IsTable};
+ghost use Rattle.iloc_rules.specs.Lawful.{IsLawful};
+ghost use Rattle.iloc_sched.specs.Graph.GraphOf.{of_block};
+ghost use Rattle.iloc_validation.specs.ByTheBook.{IssueTheSame};
+ghost use Rattle.iloc_judge.specs.Entry.Listing.{bad_row};
+ghost use Rattle.iloc_judge.specs.Entry.Reasons.{reasons_told};
+ghost use Rattle.iloc_row_commands.specs.Explain.Explained.{not_lawful, IsRowsExplanation, IsSaidOf, HaveUnread};
+
+use iloc_judge::{push_bad_row, push_reasons, push_unread_line};
+use iloc_ops::{Block, NoMemory, Op};
+use iloc_reasons::{Reasons, reasons_of};
+use iloc_rows::{Proposal, Unread};
+use iloc_rules::Heuristic;
+use iloc_sched::Graph;
+use iloc_timed::{Latencies, MAX_ROWS, Row, Schedule, cycles_of};
+use iloc_validation::{Decision, decide, own_rows};
+use iloc_view_commands::explain_by_graph;
+use std::alloc::Global;
+
+/// A block that somebody proposes rows for, and what we know of it.
+#[derive(Drop)]
+pub(crate) struct KnownBlock<'a> {
+    pub(crate) block: &'a Block,
+    /// Its graph.
+    pub(crate) graph: &'a Graph,
+    /// Our schedule of it.
+    pub(crate) ours: &'a Schedule,
+    /// The latencies of the machine.
+    pub(crate) latencies: &'a Latencies,
+    pub(crate) ghost lawful: { IsLawful latencies.now block.now.ops ours.now.ops ours.now.rows },
+    pub(crate) ghost drawn: { graph.now ≡ of_block latencies.now block.now.ops },
+}
+
+/// What is found of the rows that are proposed for a block.
+#[derive(Clone, Copy, Debug, PartialEq, Eq)]
+pub struct ExplainedRows {
+    /// Whether they are known to be a schedule of the block by the book.
+    pub is_lawful: bool,
+    /// How many cycles they take.
+    pub cycles: u64,
+}
+
+/// Appends that rows aren't lawful, and the first of them that breaks the rules of the units.
+fn push_units(text: &mut Vec<u8>, ops: &[Op], rows: &[Row], row: usize) -> Result<(), NoMemory>
+    requires { row < length rows.now }
+    ensures { OnOk result (text.new.items ≡ text.old.items ++ not_lawful (bad_row ops.now rows.now row)) }
+{
+    text.extend_from_slice(b"  not lawful\n")?;
+    push_bad_row(text, ops, rows, row)
+}
+
+/// Appends that rows aren't lawful, and why.
+fn push_why(text: &mut Vec<u8>, reasons: &Reasons) -> Result<(), NoMemory>
+    ensures { OnOk result (text.new.items ≡ text.old.items ++ not_lawful (reasons_told reasons.now)) }
+{
+    text.extend_from_slice(b"  not lawful\n")?;
+    push_reasons(text, reasons)
+}
+
+/// Appends that rows aren't lawful, and the first line among them that can't be read.
+fn push_unread_rows(alloc: Global, text: &mut Vec<u8>, unread: &Unread) -> Result<(), NoMemory>
+    ensures { OnOk result ((entry : List ℕ) × HaveUnread unread.now entry
+        × (text.new.items ≡ text.old.items ++ entry)) }
+{
+    text.extend_from_slice(b"  not lawful\n")?;
+    push_unread_line(alloc, text, unread)
+}
+
+/// Appends what is said of a schedule that somebody made for a block, beside ours, and answers whether it is by the book.
+fn push_said(
+    alloc: Global,
+    text: &mut Vec<u8>,
+    known: &KnownBlock<'_>,
+    theirs: &Schedule,
+    heuristic: Heuristic,
+) -> Result<bool, NoMemory>
+    requires table { IsTable theirs.now.ops theirs.now.rows }
+    requires few_rows { length theirs.now.rows ≤ MAX_ROWS }
+    ensures said { IfOk result (λ is_lawful. (entry : List ℕ)
+        × IsSaidOf is_lawful heuristic known.now.latencies.now known.now.block.now.ops theirs.now.ops theirs.now.rows
+        entry × (text.new.items ≡ text.old.items ++ entry)) }
+    ensures own { IfOk result (λ is_lawful.
+        IssueTheSame known.now.ours.now.ops known.now.ours.now.rows theirs.now.ops theirs.now.rows
+        → is_lawful ≡ true) }
+{
+    let (block, latencies) = (known.block, known.latencies);
+    match decide(alloc, block, known.ours, theirs, latencies)? {
+        Decision::Lawful(pairing) => {
+            let own = own_rows(alloc, block, theirs, known.ours.ops(), &pairing)?;
+            let (schedule, issued) = (&own.schedule, &own.issued);
+            explain_by_graph(alloc, text, block, known.graph, schedule, issued, heuristic)?;
+            Ok(true)
+        }
+        Decision::Unlawful => {
+            let reasons = reasons_of(alloc, block, theirs, latencies)?;
+            push_why(text, &reasons)?;
+            Ok(false)
+        }
+        Decision::Undecided => {
+            text.extend_from_slice(b"  undecided\n")?;
+            Ok(false)
+        }
+    }
+}
+
+/// Appends what is said of a proposal whose rows can all be read, beside our schedule of the block, and answers whether it is by
+/// the book.
+fn push_read_rows(
+    alloc: Global,
+    text: &mut Vec<u8>,
+    known: &KnownBlock<'_>,
+    proposal: Proposal,
+    heuristic: Heuristic,
+) -> Result<bool, NoMemory>
+    ensures said { IfOk result (λ is_lawful. (entry : List ℕ)
+        × IsSaidOf is_lawful heuristic known.now.latencies.now known.now.block.now.ops proposal.ops proposal.rows entry
+        × (text.new.items ≡ text.old.items ++ entry)) }
+    ensures own { IfOk result (λ is_lawful.
+        IssueTheSame known.now.ours.now.ops known.now.ours.now.rows proposal.ops proposal.rows → is_lawful ≡ true) }
+{
+    if let Some(row) = proposal.bad_row() {
+        push_units(text, proposal.ops(), proposal.rows(), row)?;
+        return Ok(false);
+    }
+    let theirs = proposal.into_schedule();
+    prove!(theirs.rows().len() <= MAX_ROWS);
+    push_said(alloc, text, known, &theirs, heuristic)
+}
+
+/// Appends what explains the rows that are proposed for a block, beside our schedule of it, after the block's head. Rows by the
+/// book are explained as the schedule of the block that they are, with each operation as the block has it and as it is issued;
+/// of others it is said that they aren't lawful, and why, or that this isn't decided.
+///
+/// Promise: what is appended explains the rows, which then are by the book, or tells facts of rows that aren't; and what our
+/// schedule issues is explained.
+pub(crate) fn push_rows_explanation(
+    alloc: Global,
+    text: &mut Vec<u8>,
+    known: &KnownBlock<'_>,
+    proposal: Proposal,
+    heuristic: Heuristic,
+) -> Result<ExplainedRows, NoMemory>
+    ensures { IfOk result (λ found. (entry : List ℕ)
+        × IsRowsExplanation heuristic known.now.latencies.now known.now.block.now.ops known.now.ours.now proposal found
+        entry × (text.new.items ≡ text.old.items ++ entry)) }
+{
+    let (ops, rows) = (proposal.ops(), proposal.rows());
+    let cycles = cycles_of(ops, rows, known.latencies);
+    if let Some(unread) = proposal.unread() {
+        push_unread_rows(alloc, text, unread)?;
+        return Ok(ExplainedRows {
+            is_lawful: false,
+            cycles,
+        });
+    }
+    let is_lawful = push_read_rows(alloc, text, known, proposal, heuristic)?;
+    Ok(ExplainedRows { is_lawful, cycles })
+}

@@ -1,0 +1,10 @@
+//! The commands that show how blocks' schedules come about, and what they do.
+#![tactic(auto)]
+
+mod explain;
+mod graph;
+mod trace;
+
+pub use explain::{ExplainLister, explain_by_graph};
+pub use graph::GraphLister;
+pub use trace::TraceLister;
