@@ -1,5 +1,6 @@
 -- What the commands list of a block.
-use Rattle.std.proofs.Common.{◌≡◌, ℕ, ℤ, false, List, [], ◌++◌, Option, Some, refl, ap, ap₂, ◌∙◌, append-nil, ◌&&◌, Bool, arith}
+use Rattle.std.proofs.Common.{◌≡◌, ℕ, ◌+◌, ◌≤◌, ℤ, false, List, [], ◌++◌, drop, length, Option, Some, refl, ap, ap₂, sym, ◌∙◌, append-nil, ◌&&◌, Bool, arith}
+use Rattle.std.proofs.lemmas.List.{drop_all}
 use Rattle.std.specs.Prelude.{is_none}
 use Rattle.iloc_ops.specs.declared.file.Block.{Block}
 use Rattle.iloc_ops.specs.declared.op.Op.{Op}
@@ -87,6 +88,16 @@ is_count heuristic lat b s greedy cycles counted = record {
   greedy = the_greedy heuristic lat b s greedy;
   counted = counted;
 }
+
+-- what a loop has appended that went over all blocks
+pub gone_over : {X : Type 0} (entry : ℕ → Option (List ℕ) → X → List ℕ) (opening text : List ℕ) (i : ℕ)
+    (blocks blocks' : List Block) (found : List X) → length blocks ≤ i → blocks ≡ blocks'
+    → text ++ entries entry (i + 1) (drop i blocks) (drop i found) ≡ opening ++ entries entry 1 blocks found
+    → text ≡ opening ++ entries entry 1 blocks' found
+gone_over entry opening text i blocks blocks' found all same so_far =
+    sym (append-nil text)
+    ∙ (ap (λ bs. text ++ entries entry (i + 1) bs (drop i found)) (sym (drop_all i blocks all))
+    ∙ (so_far ∙ ap (λ bs. opening ++ entries entry 1 bs found) same))
 
 -- the listing of the cycles that were found
 pub counted_listing : (request : Request) (blocks : List Block) (found : List ℕ) (text : List ℕ)

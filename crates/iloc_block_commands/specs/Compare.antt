@@ -139,8 +139,15 @@ IsCompareListing request blocks text =
     IsListingAfter (IsCompareEntry request) (opening_as request.csv (compare_header request.nodes))
     (compare_ending request.csv request.nodes) blocks text
 
+-- that of blocks of which this is compared
+abbrev pub listing_of_compared : Request → List Block → List ComparedCycles → List ℕ
+listing_of_compared request blocks found =
+    (opening_as request.csv (compare_header request.nodes) ++ entries (compare_line request.csv) 1 blocks found)
+    ++ compare_ending request.csv request.nodes found
+
 -- workers hand back all that is compared
 abbrev pub compare_command : Command
 compare_command = record (of_files IsCompareListing) {
-  listers = Shared ComparedCycles (λ request k b c. IsComparedCycles request.latencies request.nodes b c) (cycles_by Chain);
+  listers = Shared ComparedCycles (λ request k b c. IsComparedCycles request.latencies request.nodes b c) (cycles_by Chain)
+      listing_of_compared;
 }

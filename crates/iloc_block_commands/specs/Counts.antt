@@ -29,8 +29,14 @@ abbrev pub IsCountListing : Request → List Block → List ℕ → Type 0
 IsCountListing request blocks text =
     IsListingAfter (IsCountEntry request) (opening_as request.csv count_header) (count_ending request.csv) blocks text
 
+-- that of blocks of which these are the cycles
+abbrev pub listing_of_counts : Bool → List Block → List ℕ → List ℕ
+listing_of_counts csv blocks cycles =
+    (opening_as csv count_header ++ entries (count_line csv) 1 blocks cycles) ++ count_ending csv cycles
+
 -- workers hand back the cycles
 abbrev pub counts_command : Command
 counts_command = record (of_files IsCountListing) {
-  listers = Shared ℕ (λ request k b c. IsCount request.priority request.latencies b c) (λ c. c);
+  listers = Shared ℕ (λ request k b c. IsCount request.priority request.latencies b c) (λ c. c)
+      (λ request. listing_of_counts request.csv);
 }

@@ -9,6 +9,7 @@ use Rattle.iloc_optimum.specs.Optimum.{IsOptimumOf, IsSought}
 use Rattle.iloc_driver.specs.Listing.{bound_comment, cycles_of, schedule_entry, total_of_all}
 use Rattle.iloc_driver.specs.Command.{Command, Shared, of_files}
 use Rattle.iloc_driver.specs.Entries.{IsListingOf}
+use Rattle.iloc_block_commands.specs.Schedule.{listing_of_entries}
 use Rattle.iloc_driver.specs.declared.listing.text.ScheduleEntry.{ScheduleEntry}
 
 -- The entry of block k: some lawful schedule that has the block's outcome on every memory and takes at most as many cycles as
@@ -27,5 +28,6 @@ IsSoughtIf (Some nodes) lat block sought = MatchOption sought ⊥ (IsSought lat 
 -- workers hand back the entries
 abbrev pub optimize_command : Command
 optimize_command = record (of_files (λ request. IsListingOf (IsOptimizeEntry request.latencies) total_of_all)) {
-  listers = Shared ScheduleEntry (λ request k b e. IsOptimizeEntry request.latencies k b e.text e.cycles) (λ e. e.cycles);
+  listers = Shared ScheduleEntry (λ request k b e. IsOptimizeEntry request.latencies k b e.text e.cycles) (λ e. e.cycles)
+      (λ request blocks entries. listing_of_entries entries);
 }

@@ -363,7 +363,7 @@ fn counts(scheduler: &mut Scheduler, graph: &Graph) -> Result<[u32; HEURISTIC_CO
 
 impl FarmedLister for CompareLister {
     ghost use Rattle.iloc_rules.specs.declared.heuristic.Heuristic.TheVariants.{Chain};
-    ghost use Rattle.iloc_block_commands.specs.Compare.{IsCompareListing, IsComparedCycles, cycles_by};
+    ghost use Rattle.iloc_block_commands.specs.Compare.{IsCompareListing, IsComparedCycles, cycles_by, listing_of_compared};
     ghost use Rattle.iloc_driver.specs.Entries.{AreListed};
 
     type Answer = ComparedCycles;
@@ -371,6 +371,8 @@ impl FarmedLister for CompareLister {
     ghost answers = { λ request _ block found. IsComparedCycles request.latencies request.nodes block found };
 
     ghost cycles_in = { λ found. cycles_by Chain found };
+
+    ghost made_of = { listing_of_compared };
 
     ghost lists = { λ request. IsCompareListing request };
 
@@ -413,7 +415,8 @@ impl FarmedLister for CompareLister {
         requires few { length blocks ≤ MAX_BLOCKS }
         requires right { AreListed
             (λ _ block each. IsComparedCycles request.now.latencies request.now.nodes block each) blocks found.items }
-        ensures { IfOk result (IsCompareListing request.now blocks) }
+        ensures made { IfOk result (λ text. text ≡ listing_of_compared request.now blocks found.items) }
+        ensures right { IfOk result (IsCompareListing request.now blocks) }
     {
         let mut text = Vec::new(alloc);
         push_opening(&mut text, request.csv, request.nodes)?;

@@ -31,7 +31,7 @@ pub struct CountLister {
 }
 
 impl FarmedLister for CountLister {
-    ghost use Rattle.iloc_block_commands.specs.Counts.{IsCountListing};
+    ghost use Rattle.iloc_block_commands.specs.Counts.{IsCountListing, listing_of_counts};
     ghost use Rattle.iloc_driver.specs.Entries.{AreListed};
     ghost use Rattle.iloc_driver.specs.Schedules.{IsCount};
 
@@ -40,6 +40,8 @@ impl FarmedLister for CountLister {
     ghost answers = { λ request _ block cycles. IsCount request.priority request.latencies block cycles };
 
     ghost cycles_in = { λ cycles. cycles };
+
+    ghost made_of = { λ request. listing_of_counts request.csv };
 
     ghost lists = { λ request. IsCountListing request };
 
@@ -77,7 +79,8 @@ impl FarmedLister for CountLister {
         requires few { length blocks ≤ MAX_BLOCKS }
         requires right { AreListed (λ _ block count. IsCount request.now.priority request.now.latencies block count)
             blocks cycles.items }
-        ensures { IfOk result (IsCountListing request.now blocks) }
+        ensures made { IfOk result (λ text. text ≡ listing_of_counts request.now.csv blocks cycles.items) }
+        ensures right { IfOk result (IsCountListing request.now blocks) }
     {
         let mut text = Vec::new(alloc);
         push_opening(&mut text, request.csv, HEADER)?;

@@ -38,6 +38,7 @@ pub struct OptimizeLister {
 
 impl FarmedLister for OptimizeLister {
     ghost use Rattle.iloc_block_commands.specs.Optimize.{IsOptimizeEntry};
+    ghost use Rattle.iloc_block_commands.specs.Schedule.{listing_of_entries};
     ghost use Rattle.iloc_driver.specs.Entries.{AreListed, IsListingOf};
     ghost use Rattle.iloc_driver.specs.Listing.{total_of_all};
 
@@ -46,6 +47,8 @@ impl FarmedLister for OptimizeLister {
     ghost answers = { λ request k block entry. IsOptimizeEntry request.latencies k block entry.text entry.cycles };
 
     ghost cycles_in = { λ entry. entry.cycles };
+
+    ghost made_of = { λ _ _ entries. listing_of_entries entries };
 
     ghost lists = { λ request. IsListingOf (IsOptimizeEntry request.latencies) total_of_all };
 
@@ -89,7 +92,8 @@ impl FarmedLister for OptimizeLister {
         requires few { length blocks ≤ MAX_BLOCKS }
         requires right { AreListed (λ k block entry.
             IsOptimizeEntry _request.now.latencies k block entry.text entry.cycles) blocks entries.items }
-        ensures { IfOk result (IsListingOf (IsOptimizeEntry _request.now.latencies) total_of_all blocks) }
+        ensures made { IfOk result (λ text. text ≡ listing_of_entries entries.items) }
+        ensures right { IfOk result (IsListingOf (IsOptimizeEntry _request.now.latencies) total_of_all blocks) }
     {
         drop(blocks);
         with_total(alloc, entries)

@@ -1,5 +1,5 @@
 //! `schedule`: blocks' schedules, a line a row.
-ghost use Rattle.std.specs.Prelude.{◌≤◌, length, IfOk};
+ghost use Rattle.std.specs.Prelude.{◌≡◌, ◌≤◌, length, IfOk};
 ghost use Rattle.iloc_ops.specs.Limits.{MAX_BLOCKS};
 
 use iloc_args::Request;
@@ -17,7 +17,7 @@ pub struct ScheduleLister {
 }
 
 impl FarmedLister for ScheduleLister {
-    ghost use Rattle.iloc_block_commands.specs.Schedule.{IsScheduleEntry};
+    ghost use Rattle.iloc_block_commands.specs.Schedule.{IsScheduleEntry, listing_of_entries};
     ghost use Rattle.iloc_driver.specs.Entries.{AreListed, IsListingOf};
     ghost use Rattle.iloc_driver.specs.Listing.{total_of_all};
 
@@ -26,6 +26,8 @@ impl FarmedLister for ScheduleLister {
     ghost answers = { λ request k block entry. IsScheduleEntry request k block entry.text entry.cycles };
 
     ghost cycles_in = { λ entry. entry.cycles };
+
+    ghost made_of = { λ _ _ entries. listing_of_entries entries };
 
     ghost lists = { λ request. IsListingOf (IsScheduleEntry request) total_of_all };
 
@@ -67,7 +69,8 @@ impl FarmedLister for ScheduleLister {
         requires few { length blocks ≤ MAX_BLOCKS }
         requires right { AreListed (λ k block entry. IsScheduleEntry _request.now k block entry.text entry.cycles)
             blocks entries.items }
-        ensures { IfOk result (IsListingOf (IsScheduleEntry _request.now) total_of_all blocks) }
+        ensures made { IfOk result (λ text. text ≡ listing_of_entries entries.items) }
+        ensures right { IfOk result (IsListingOf (IsScheduleEntry _request.now) total_of_all blocks) }
     {
         drop(blocks);
         with_total(alloc, entries)

@@ -21,10 +21,10 @@ is_of_rows OfRows = true
 is_of_rows _ = false
 
 -- Who lists the blocks of a file: one thread, or the workers, of whom each hands back for a block with its number such an
--- answer, with the cycles of the block's schedule in it.
+-- answer, with the cycles of the block's schedule in it. The listing is made of the blocks and of all answers.
 pub data Listers : Type 1 where
   Alone : Listers
-  Shared : (A : Type 0) → (Request → ℕ → Block → A → Type 0) → (A → ℕ) → Listers
+  Shared : (A : Type 0) → (Request → ℕ → Block → A → Type 0) → (A → ℕ) → (Request → List Block → List A → List ℕ) → Listers
 
 pub record Command : Type 1 where
   -- what it reads

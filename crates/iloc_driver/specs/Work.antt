@@ -22,22 +22,23 @@ pub record AreFarmed {A : Type 0} (count : ℕ) (fits : ℕ → A → Type 0) (p
   pub told : All IsDone receipt.gathered
   pub done : IsDoneBy count fits price receipt answers
 
--- The bytes that were read denote a file, and the text is the listing of its blocks. What is listed of each of these very
--- blocks, a worker handed back for it, at its cycles.
+-- The bytes that were read denote a file, and the text is the listing of its blocks. It is made of what workers handed back for
+-- these very blocks, at their cycles.
 pub record ListsFarmed {A : Type 0} (lists : ℕ → Block → A → Type 0) (cycles_in : A → ℕ)
-    (is_listing : List Block → List ℕ → Type 0) (workers : ℕ) (old new : Option (List ℕ)) (text : List ℕ)
-    (receipt : ReceiptView) : Type 0 where
+    (made_of : List Block → List A → List ℕ) (is_listing : List Block → List ℕ → Type 0) (workers : ℕ)
+    (old new : Option (List ℕ)) (text : List ℕ) (receipt : ReceiptView) : Type 0 where
   pub read : ListsRead is_listing old new text
   pub answers : List A
   pub farmed : AreFarmed (length read.blocks) (OfBlock lists read.blocks) cycles_in workers receipt answers
+  pub made : text ≡ made_of read.blocks answers
 
 -- Where workers share what the command lists, this is the receipt for what the request's workers listed of the file that was
 -- read: of each block its entry, or the cycles of its schedule, or all that is compared. Else there is none.
 abbrev pub HasReceiptFrom : Listers → (List Block → List ℕ → Type 0) → Request → Option (List ℕ) → Option (List ℕ) → List ℕ
     → Option ReceiptView → Type 0
 HasReceiptFrom Alone is_listing request old new text receipt = receipt ≡ None
-HasReceiptFrom (Shared A answers cycles_in) is_listing request old new text receipt =
-    IsSomeAnd receipt (ListsFarmed (answers request) cycles_in is_listing request.workers old new text)
+HasReceiptFrom (Shared A answers cycles_in made_of) is_listing request old new text receipt =
+    IsSomeAnd receipt (ListsFarmed (answers request) cycles_in (made_of request) is_listing request.workers old new text)
 
 abbrev pub HasReceipt : (Task → Command) → Task → Request → Option (List ℕ) → Option (List ℕ) → List ℕ → Option ReceiptView
     → Type 0

@@ -128,8 +128,8 @@ pub fn shared<L: FarmedLister + Send + Sync, H: Threads + Wait + Sync, R: Read>(
 ) -> Result<(Listed, Option<Receipt>), RunFault>
 where
     L::Answer: Send,
-    ensures { (held : Held) → ComesTo (record (of_files L.lists) { listers = Shared L.Answer L.answers L.cycles_in }) held
-        request.now (R.remaining reader.old) (R.remaining reader.new) result }
+    ensures { (held : Held) → ComesTo (record (of_files L.lists) { listers = Shared L.Answer L.answers L.cycles_in L.made_of })
+        held request.now (R.remaining reader.old) (R.remaining reader.new) result }
 {
     let (text, receipt) = listed_by_workers::<L, H, R>(rt, alloc, reader, request)?;
     Ok((Listed::of_file(text), Some(receipt)))

@@ -33,6 +33,9 @@ pub trait FarmedLister: Drop {
     // the cycles of the block's schedule
     ghost cycles_in: { Self.Answer → ℕ };
 
+    // for the request, what is made of these blocks and these answers
+    ghost made_of: { request_value → List block_value → List Self.Answer → List ℕ };
+
     // for the request, this is the listing of these blocks
     ghost lists: { request_value → List block_value → List ℕ → Type 0 };
 
@@ -64,7 +67,8 @@ pub trait FarmedLister: Drop {
     ) -> Result<Listing, NoText>
         requires few { length blocks ≤ MAX_BLOCKS }
         requires right { AreListed (answers request.now) blocks found.items }
-        ensures { IfOk result (lists request.now blocks) };
+        ensures made { IfOk result (λ text. text ≡ made_of request.now blocks found.items) }
+        ensures right { IfOk result (lists request.now blocks) };
 }
 
 /// Blocks that are to be listed for a request. The answer to job i is what is to be listed of block i, and costs the cycles
@@ -179,7 +183,7 @@ pub(crate) fn listed_by_workers<L: FarmedLister + Send + Sync, H: Threads + Wait
 where
     L::Answer: Send,
     ensures ok { IfOk result (λ listed.
-        ListsFarmed (L.answers request.now) L.cycles_in (L.lists request.now) request.now.workers
+        ListsFarmed (L.answers request.now) L.cycles_in (L.made_of request.now) (L.lists request.now) request.now.workers
         (R.remaining reader.old) (R.remaining reader.new) listed.0 listed.1) }
     ensures err { IfErr result (IsCaused (of_shared_file (R.remaining reader.old) (R.remaining reader.new))) }
 {

@@ -77,7 +77,7 @@ of_submission old new = record of_reading { rows = Refuses submissions.IsRefused
 -- of a file, by who lists it
 abbrev pub of_listed_file : Listers → Option (List ℕ) → Option (List ℕ) → Causes
 of_listed_file Alone old new = of_file old new
-of_listed_file (Shared A answers cycles_in) old new = of_shared_file old new
+of_listed_file (Shared A answers cycles_in made_of) old new = of_shared_file old new
 
 -- of a task, of whose text this is known
 abbrev pub of_task : Option (List ℕ) → Causes

@@ -22,8 +22,9 @@ returns-clause-ok g c =
         read = read.1;
         blocks = c.in_ok-blocks.blocks;
         denoted = read.2;
-        listed = c.in_ok-text.ensures;
+        listed = c.in_ok-text.ensures.right;
       };
       answers = c.in_ok-answers.answers.items;
       farmed = subst P c.as_slice.ensures c.in_ok-answers.ensures;
+      made = c.in_ok-text.ensures.made;
     }
