@@ -25,18 +25,22 @@ def uses_of(top):
 
 
 def linked(one, other):
-    """Gives what was proved a second name: a check replaces such a file, and never writes into it."""
+    """Gives a file a second name, where it is replaced and never written into."""
     try:
-        (os.link if one.endswith(".oantt") else shutil.copyfile)(one, other)
+        os.link(one, other)
     except OSError:     # on another disk
         shutil.copyfile(one, other)
 
 
-class Prover:
-    """For the functions of one crate, over the libraries below it: in the gate those that rt ci has just left there."""
+def linked_if_proved(one, other):
+    (linked if one.endswith(".oantt") else shutil.copyfile)(one, other)
 
-    def __init__(self, top, name, in_the_gate):
-        self.folder, self.name, self.uses, self.in_the_gate = f"{top}/crates", name, uses_of(top), in_the_gate
+
+class Prover:
+    """For the functions of one crate, over the libraries below it: those in this folder, or those in the crates' own."""
+
+    def __init__(self, top, name, libraries):
+        self.folder, self.name, self.uses, self.libraries = f"{top}/crates", name, uses_of(top), libraries
         self.below = self.all_below(name)
         self.kit = os.path.dirname(os.path.dirname(os.path.realpath(shutil.which("rt"))))
 
@@ -45,18 +49,13 @@ class Prover:
         return [*dict.fromkeys(it for used in self.uses[name] if used in self.uses for it in (*self.all_below(used), used))]
 
     def rlib(self, name):
-        return f"{self.folder}/{name}/out/rlib/{name}.rlib"
-
-    def is_of_the_gate(self, name):
-        """Whether rt ci has just left this library there. What rt lib built has a stamp, and rt lib knows what it is of."""
-        stamp = f"{self.folder}/{name}/out/rlib/stamp"
-        return self.in_the_gate and os.path.exists(f"{self.rlib(name)}/format") and not os.path.exists(stamp)
+        return f"{self.libraries or f'{self.folder}/{name}/out/rlib'}/{name}.rlib"
 
     def build_below(self):
-        """Builds the libraries below. Gives what rt said of the first that it couldn't build."""
+        """Builds the crates' own libraries below. Gives what rt said of the first that it couldn't build."""
         with BUILDING:
-            for name in self.below:
-                if name not in BUILT and not self.is_of_the_gate(name):
+            for name in () if self.libraries else self.below:
+                if name not in BUILT:
                     ran = subprocess.run(["rt", "lib", "--jobs", "1"], cwd=f"{self.folder}/{name}", **QUIET)
                     if ran.returncode:
                         return ran.stdout.decode(errors="replace")
@@ -77,9 +76,9 @@ class Prover:
         return f"{self.folder}/{self.name}"
 
     def begin(self, kept):
-        """Puts what rt check kept of the crate into this new folder."""
-        if os.path.isdir(f"{self.crate_folder()}/out/incremental"):
-            shutil.copytree(f"{self.crate_folder()}/out/incremental", kept, copy_function=linked)
+        """Puts what rt check kept of the crate into this new folder, over the crates' own libraries."""
+        if not self.libraries and os.path.isdir(f"{self.crate_folder()}/out/incremental"):
+            shutil.copytree(f"{self.crate_folder()}/out/incremental", kept, copy_function=linked_if_proved)
 
     def check(self, functions, texts, kept):
         """Checks these functions of the crate, and what they call, with these texts in place of its own, over the work
@@ -92,5 +91,6 @@ class Prover:
                 with open(f"{room}/{name}", "w", encoding="utf-8") as file:
                     file.write(text)
             only = [word for it in functions for word in ("--only", it)]
-            ran = subprocess.run([f"{self.kit}/bin/rattle", "check", *self.words(kept), *only], cwd=room, **QUIET)
+            words = ["setpriv", "--pdeathsig", "KILL", f"{self.kit}/bin/rattle", "check", *self.words(kept), *only]
+            ran = subprocess.run(words, cwd=room, **QUIET)
         return ran.returncode, ran.stdout.decode(errors="replace").splitlines()

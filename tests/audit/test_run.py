@@ -6,7 +6,7 @@ import os
 import shutil
 import subprocess
 
-from harness.place import InFolder
+from harness.place import InFolder, until
 from harness.program import SECONDS, TOP
 
 RT = """#!/bin/sh
@@ -14,7 +14,11 @@ echo "${PWD##*/} $*" >>"$TEST/asked"
 mkdir -p out/rlib/low.rlib && touch out/rlib/low.rlib/format out/rlib/stamp
 """
 RATTLE = """#!/bin/sh
+echo $$ >"$TEST/child"
 echo "$@" >>"$TEST/checked"
+while [ -e "$TEST/hold" ]; do sleep 0.02; done
+low=${*##*--extern low=}
+cat "${low%% *}/format" >>"$TEST/libraries" 2>/dev/null
 kept=${*##*--incremental }
 cp "${kept%% *}"/* "$TEST" 2>/dev/null
 worst=0
@@ -45,7 +49,7 @@ SAID = {
     "unknown": ("rattle: no verdict\n", 3),
 }
 
-
+LOW = "rt: low proved\n"        # what a build says
 WANTS = "it needs a line 'only:', and a line 'old:' with a line 'new:' after it"
 NO_START, UNREAD = "it didn't reach the prover: ", "the edited text can't be read: "
 GONE = "it is refused only since a proof names what it took away: "
@@ -71,7 +75,7 @@ OTHER_FORMS = {
 }
 
 
-class Audit(InFolder):
+class Repository(InFolder):
     def setUp(self):
         super().setUp()
         for name, (text, status) in SAID.items():
@@ -94,18 +98,26 @@ class Audit(InFolder):
     def edit(self, name, new, old="right", only="only: f\n", gate="", file="src/lib.rt"):
         self.write(f"top/audit/high/{name}.edit", f"{only}{gate}file: {file}\nold: {old}\nnew: {new}\n")
 
-    def ran(self, *words):
-        given = {"PATH": f"{self.path('kit/bin')}:{os.environ['PATH']}", "TEST": self.folder}
-        return subprocess.run([self.path("top/audit/run"), *words], env=given, capture_output=True, text=True, timeout=SECONDS)
+    def started(self, name, *words, **more):
+        given = {"PATH": f"{self.path('kit/bin')}:{os.environ['PATH']}", "TEST": self.folder, **more}
+        started = subprocess.Popen([self.path(f"top/{name}"), *words], env=given, stdin=subprocess.PIPE, stdout=subprocess.PIPE,
+                                   stderr=subprocess.PIPE, text=True)
+        self.addCleanup(lambda: (started.kill(), started.communicate()))
+        return started
+
+    def ended(self, started, said=None):
+        out, err = started.communicate(said, timeout=SECONDS)
+        self.expect("standard error", err, "")
+        return started.returncode, out.splitlines()
 
     def status_and_lines(self, *words):
-        ran = self.ran(*words)
-        self.expect("standard error", ran.stderr, "")
-        return ran.returncode, ran.stdout.splitlines()
+        return self.ended(self.started("audit/run", *words, RT_JOBS="1"), LOW)
 
     def asked(self, name):
         return self.text(name).splitlines() if os.path.exists(self.path(name)) else []
 
+
+class Audit(Repository):
     def test_refused_at_a_goal(self):
         self.edit("returns_another", "wrong")
         self.edit("returns_nothing", "unanswered")
@@ -117,7 +129,7 @@ class Audit(InFolder):
                                   for name, said in (("returns_nothing", "unanswered"), ("returns_what_is_far", "searched"))),
                                 "3 passed, 0 failed"])
         checks = self.asked("checked")
-        self.expect("checks", len(checks), 4)
+        self.expect("checks, each first without edits", len(checks), 6)
         for it in ("--crate-name high", f"--extern low={self.path('top')}/crates/low/out/rlib/low.rlib", "--only f",
                    f"--extern thiserror={self.folder}/kit/rlibs/thiserror.rlib"):
             self.expect(it, all(it in words for words in checks), True)
@@ -153,7 +165,7 @@ class Audit(InFolder):
         self.expect("lines", lines, [goals[0], "FAILED high/fourth: it is still proved", goals[1], "2 passed, 1 failed"])
         self.expect("checks", len(self.asked("checked")), 3)
         self.status_and_lines()
-        self.expect("checks of all, first without edits", len(self.asked("checked")), 6)
+        self.expect("checks of all, first without edits", len(self.asked("checked")), 7)
 
     def test_one_that_does_not_read(self):
         """It keeps no other from being tried."""
@@ -178,20 +190,41 @@ class Audit(InFolder):
 
     def test_crate_that_is_not_there(self):
         self.edit("first", "wrong")
-        ran = self.ran("hihg")
-        self.expect("status", ran.returncode, 1)
-        self.expect("usage", "audit/run [--gate] [CRATE..]" in ran.stderr, True)
+        started = self.started("audit/run", "hihg")
+        self.expect("usage", "audit/run [--gate] [CRATE..]" in started.communicate(timeout=SECONDS)[1], True)
+        self.expect("status", started.returncode, 1)
 
     def test_builds_what_is_below(self):
-        """But, in the gate, for what rt ci has built: that has no stamp."""
+        """But not in the gate, where the build does."""
         self.edit("first", "wrong", **GATES)
-        for words, count in (([], 1), (["--gate"], 2)):
+        for words in ["--gate"], []:
             self.status_and_lines(*words)
-            self.expect(f"asked for with {words}", self.asked("asked"), ["low lib --jobs 1"] * count)
-        os.remove(f"{self.path('top')}/crates/low/out/rlib/stamp")
-        for words, count in ((["--gate"], 2), ([], 3)):
-            self.status_and_lines(*words)
-            self.expect(f"asked for with {words} once rt ci has built it", len(self.asked("asked")), count)
+            self.expect(f"asked for with {words}", self.asked("asked"), [] if words else ["low lib --jobs 1"])
+
+    def test_beside_a_build(self):
+        """A crate's begin once those below it are proved, over the libraries of then."""
+        self.edit("first", "wrong", **GATES)
+        self.edit("second", "unanswered", **GATES)
+        self.write("top/audit/low/first.edit", "only: f\ngate: yes\nfile: src/lib.rt\nold: right\nnew: wrong\n")
+        self.write("top/crates/low/src/lib.rt", "fn f() { right }\n")
+        started = self.started("audit/run", "--gate", RT_JOBS="1")
+        until("low's is tried", lambda: self.asked("checked"))
+        self.write("hold", "")
+        self.write("top/crates/low/out/rlib/low.rlib/format", "of the build")
+        started.stdin.write(f"rt: low: its tests are proved\n{LOW}rt: high is kept: as before\n")
+        started.stdin.flush()
+        until("high's are tried", lambda: len(self.asked("checked")) == 2)
+        shutil.rmtree(self.path("top/crates/low/out"))
+        os.remove(self.path("hold"))
+        status, lines = self.ended(started, "3 passed, 0 failed\n")
+        self.expect("ending", (status, len(lines), lines[-1]), (0, 4, "3 passed, 0 failed"))
+        self.expect("crates", [it.split()[2] for it in self.asked("checked")], ["low", "high", "high"])
+        self.expect("libraries", self.text("libraries"), "of the build" * 2)
+
+    def test_build_that_ends_before(self):
+        self.edit("first", "wrong", **GATES)
+        ended = self.ended(self.started("audit/run", "--gate"), "rt: low NOT PROVED\n0 passed, 2 failed\n")
+        self.expect("ending", ended, (1, ["FAILED high: a library below it isn't proved", "0 passed, 1 failed"]))
 
     def test_fails(self):
         for name, (body, why, how) in FAIL.items():

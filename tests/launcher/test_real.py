@@ -1,0 +1,55 @@
+"""./ilocfarm with the toolchain's own rt: a small program unproved, and the commands of the README in fresh copies."""
+import os
+import shutil
+import subprocess
+
+from harness.place import shown_on
+from harness.program import TOP
+from launcher.test_launcher import UNPROVED, Repository
+
+# What ./ilocfarm needs of the repository to run the README's commands, and how long each may take, all at once.
+CLONED = ("ilocfarm", "launcher.sh", "crates.txt", "HANDLES", "crates", "examples")
+UNPROVED_SECONDS = 900
+
+
+class Real(Repository):
+    def test_toolchain(self):
+        """What the real rt says of an unproved run is understood: a program ends well, and one has no end."""
+        shutil.rmtree(f"{self.top}/crates")
+        self.write(f"{self.top}/crates.txt", "ilocfarm:\n")
+        os.makedirs(f"{self.top}/crates/ilocfarm/src")
+        self.write(f"{self.top}/crates/ilocfarm/src/main.rt", """#![tactic(auto)]
+
+use std::io;
+
+fn main(rt: HostRuntime) -> io::Result<()> {
+    for line in rt.lines(rt.alloc()) {
+        let text = line?;
+        println!(rt; "{text}")?;
+        eprintln!(rt; "ilocfarm: a word")?;
+    }
+    Ok(())
+}
+""")
+        status, out, err = self.ran("run", given="one\ntwo\n", env={"PATH": os.environ["PATH"]})
+        self.assertEqual((status, out), (0, "one\ntwo\n"))
+        self.assertRegex(err, rf"\A{UNPROVED}(ilocfarm: a word\n){{2}}\Z")
+
+    def clone(self, number):
+        """A copy of what ./ilocfarm needs of the repository, where nothing is built."""
+        def left_out(at, names):
+            return [it for it in names if it == "out" or at == TOP and it not in CLONED]
+        return shutil.copytree(TOP, f"{self.folder}/clone {number}", symlinks=True, ignore=left_out)
+
+    def test_readme_on_a_fresh_clone(self):
+        """Where nothing is built each command of the README prints what is shown below it."""
+        shown = [it for it in shown_on("README.md") if "./ilocfarm " in it[0]]
+        started = [subprocess.Popen(["bash", "-c", command], cwd=self.clone(number), stdin=subprocess.DEVNULL,
+                                    stdout=subprocess.PIPE, stderr=subprocess.PIPE, text=True)
+                   for number, (command, _) in enumerate(shown)]
+        self.assertTrue(started)
+        for (command, below), it in zip(shown, started):
+            with self.subTest(command):
+                out, err = it.communicate(timeout=UNPROVED_SECONDS)
+                self.assertEqual(out, below)
+                self.assertRegex(err, rf"\A{UNPROVED}\Z")
