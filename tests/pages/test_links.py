@@ -1,7 +1,8 @@
-"""The pages lead somewhere: their links, and the files in the table of docs/ARCHITECTURE.md, are there."""
+"""The pages lead somewhere: their links, and the files in the table of docs/ARCHITECTURE.md, are there; edits cost what is said."""
 import glob
 import os
 import re
+import subprocess
 import unittest
 
 from pages.promises import CRATES, TOP, read
@@ -34,3 +35,8 @@ class Links(unittest.TestCase):
                     self.assertIn(f"{name} :", read(f"{CRATES}/{it}.antt"))
                 for it in re.findall(r"`([\w/]+)`", tests):
                     self.assertTrue(glob.glob(f"{TOP}/{it}*") or glob.glob(f"{CRATES}/{it}*"), it)
+
+    def test_costs(self):
+        ran = subprocess.run([f"{TOP}/tests/studies/reach"], capture_output=True, text=True)
+        self.assertEqual((ran.returncode, ran.stderr), (0, ""))
+        self.assertIn(f"\n\n{ran.stdout}", read(f"{TOP}/docs/CHANGING.md"), "tests/studies/reach --write")
