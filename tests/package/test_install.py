@@ -1,6 +1,7 @@
 """Cases of ./install: what it installs, that it removes just that, and that it does nothing by halves."""
 import os
 import re
+import shlex
 import stat
 import subprocess
 import unittest
@@ -29,6 +30,12 @@ SOURCES = "charts cluster docs examples grading install man CHANGELOG.md README.
 
 def files_below(folder):
     return {os.path.relpath(f"{at}/{name}", folder) for at, _, names in os.walk(folder) for name in names}
+
+
+def folders_above(name):
+    """Of `a/b/c` it is `a` and `a/b`."""
+    while name := os.path.dirname(name):
+        yield name
 
 
 def dead_links(folder):
@@ -70,7 +77,8 @@ class Install(Place):
         wanted = {form.format(name) for form in FORMS for name in COMMANDS} | set(ALONE)
         wanted |= {f"{at}/{name}" for folder, at in WHOLE.items() for name in files_below(f"{TOP}/{folder}")}
         self.expect("files", sorted(files_below(self.path("a prefix"))), sorted(wanted))
-        self.expect("the list of files", self.text("a prefix/share/ilocfarm/installed").splitlines(), sorted(wanted))
+        wanted |= {f"{at}/" for name in wanted for at in folders_above(name)}
+        self.expect("the list", self.text("a prefix/share/ilocfarm/installed").splitlines(), sorted(wanted))
         self.expect("dead links", list(dead_links(self.path("a prefix/share/doc/ilocfarm"))), [])
         for made, source in (("bin/ilocfarm", TESTED.program), ("share/man/man1/ilocfarm.1", "man/ilocfarm.1"),
                              ("share/ilocfarm/cluster/join", "cluster/join")):
@@ -118,7 +126,7 @@ class Install(Place):
         for name in ("share/ilocfarm/older/file", "share/ilocfarm/mine/file", "bin/mine"):
             self.write(f"made/{name}", "")
         listed = self.text("made/share/ilocfarm/installed")
-        self.write("made/share/ilocfarm/installed", f"{listed}share/ilocfarm/older/file\n")
+        self.write("made/share/ilocfarm/installed", f"{listed}share/ilocfarm/older/\nshare/ilocfarm/older/file\n")
         os.unlink(self.path("made/bin/ilocfarm"))
         os.symlink("mine", self.path("made/bin/ilocfarm"))      # is replaced, and not followed
         self.installs("made")
@@ -126,6 +134,59 @@ class Install(Place):
         self.expect("older", os.path.exists(self.path("made/share/ilocfarm/older")), False)
         self.expect("listed", self.text("made/share/ilocfarm/installed"), listed)
         self.removes("made", ["bin/mine", "share/ilocfarm/mine/file"])
+
+    def test_folder_becomes_file(self):
+        """What was a folder of an older version, and is a file of this one."""
+        self.installs("made")
+        os.remove(self.path("made/share/ilocfarm/charts/page"))
+        self.write("made/share/ilocfarm/charts/page/older", "")
+        older = "share/ilocfarm/charts/page/\nshare/ilocfarm/charts/page/older\n"
+        self.write("made/share/ilocfarm/installed", self.text("made/share/ilocfarm/installed") + older)
+        self.installs("made")
+        self.expect("page", self.read("made/share/ilocfarm/charts/page"), self.read("charts/page"))
+        self.removes("made")
+
+    def test_what_was_there(self):
+        """Folders that were there stay, empty ones too; one in the way of a file is named, and nothing is written."""
+        for name in ("bin", "elsewhere", "share"):
+            os.makedirs(self.path(f"made/{name}"))
+        os.symlink("../elsewhere", self.path("made/share/man"))
+        os.symlink("made", self.path("a link"))
+        self.installs("a link")
+        self.expect("by a link", os.path.exists(self.path("made/elsewhere/man1/ilocfarm.1")), True)
+        self.expect("uninstall", self.call("./install", "--uninstall", "a link"), (0, b"", b""))
+        left = sorted(os.path.relpath(at, self.path("made")) for at, _, _ in os.walk(self.path("made")))
+        self.expect("left", (left, files_below(self.path("made"))), ([".", "bin", "elsewhere", "share"], set()))
+        os.mkdir(self.path("made/bin/ilocgrade"))
+        self.fails(["made", "bin/ilocfarm"], b"install: made/bin/ilocgrade is a folder: nothing is installed\n")
+        self.expect("nothing", files_below(self.path("made")), set())
+        self.write("file", "")
+        self.expect("a file", self.call("./install", "file", "bin/ilocfarm")[:2], (1, b""))
+
+    def test_odd_names(self):
+        """Of the prefix, of the folder that it is installed from, and of the one for what is temporary."""
+        for name in ("it's \"one\"", "a*b?[c]", "$HOME `id`\\", "-- dash", " blank "):
+            self.write(f"{name}/file", "")
+            self.shell(f"cp -RL {SOURCES} ./{shlex.quote(name)}/")
+            ended = self.call(f"./{name}/install", f"./{name}/made", "bin/ilocfarm", TMPDIR=self.path(name))
+            self.expect(f"install {name}", ended, self.version)
+            self.expect("by it", self.call(f"./{name}/made/bin/ilocview", "--version"), self.version)
+            self.expect("uninstall", self.call("./install", "--uninstall", f"./{name}/made"), (0, b"", b""))
+            self.expect("left", {"install", "made"} & {*os.listdir(self.path(name))}, {"install"})
+
+    def test_read_only(self):
+        """Nothing is written; of what is installed nothing is removed, and the list stays."""
+        os.mkdir(self.path("disk"))
+        mounted(self, self.path("disk"), "64m")
+        self.installs("disk/made")
+        files = files_below(self.path("disk"))
+        self.call("mount", "-o", "remount,ro", self.path("disk"))
+        for words in (("disk/made", "bin/ilocfarm"), ("disk/other", "bin/ilocfarm"), ("--uninstall", "disk/made")):
+            status, out, err = self.call("./install", *words)
+            self.expect(f"{words}", (status != 0, out, b"Read-only file system" in err), (True, b"", True))
+        self.expect("files", files_below(self.path("disk")), files)
+        self.call("mount", "-o", "remount,rw", self.path("disk"))
+        self.removes("disk/made")
 
     def test_removes_nothing_else(self):
         self.fails(["--uninstall", "made"], NOT_THERE)
