@@ -26,7 +26,8 @@ with open(f"{TOP}/CHANGELOG.md", encoding="utf-8") as changes:
     NUMBER = re.search(r"^## (\S+)", changes.read(), re.MULTILINE)[1]
 # What somebody may have set.
 ODD = {"SOURCE_DATE_EPOCH": "1", "TZ": "Pacific/Auckland", "LC_ALL": "C", "TAR_OPTIONS": "--sparse", "GZIP": "-1",
-       "DPKG_DEB_COMPRESSOR_TYPE": "gzip", "GIT_DIR": "/nowhere", "CDPATH": "/", "POSIXLY_CORRECT": "1"}
+       "DPKG_DEB_COMPRESSOR_TYPE": "gzip", "GIT_DIR": "/nowhere", "CDPATH": "/", "POSIXLY_CORRECT": "1",
+       "DESTDIR": "/nowhere"}
 CONTROL = {"Depends": "libc6 (>= 2.34), python3 (>= 3.9)", "Maintainer": f"{WHO} <{ADDRESS}>",
            "Recommends": "bubblewrap, graphviz, librsvg2-bin, python3-seccomp"}
 DATED = f" -- {WHO} <{ADDRESS}>  Sun, 29 Nov 2026 13:38:28 +0000\n"
@@ -113,6 +114,8 @@ class Release(Clones):
         self.call("chmod", "-R", "g+s,o=", self.path("a clone"))
         self.git(".", "config", "--global", "core.autocrlf", "true")
         self.git(".", "config", "--global", "log.showSignature", "true")
+        self.write("attributes", "*.md text eol=crlf\n*.py export-ignore\n")
+        self.git(".", "config", "--global", "core.attributesFile", self.path("attributes"))
         self.addCleanup(os.umask, os.umask(0o077))
         self.expect("in odd company", digests(self.packages("a clone/of two", **ODD)), digests(made))
         sums = dict(line.split("  ")[::-1] for line in made["SHA256SUMS"].decode().splitlines())
@@ -161,6 +164,7 @@ class Release(Clones):
         wanted = {name.replace("/zsh/site-functions/", "/zsh/vendor-completions/") for name in wanted}
         wanted |= {f"{name}.gz" for name in pages}
         wanted |= {f"share/doc/ilocfarm/{name}" for name in ("changelog.gz", "copyright")}
+        wanted |= {"share/lintian/overrides/ilocfarm"}
         self.expect("files", files_below(self.path("deb/usr")), wanted)
         self.expect("sums", self.call("md5sum", "--check", "--quiet", "DEBIAN/md5sums", at="deb"), (0, b"", b""))
         self.expect("dead links", list(dead_links(self.path("deb/usr/share/doc/ilocfarm"))), [])
@@ -244,6 +248,13 @@ class Refusals(Clones):
         self.script("old/python3", "#!/bin/sh\nexit 3\n")
         self.refuses("one", "the release can't be made, for the reason above",
                      PATH=f"{self.path('old')}:{os.environ['PATH']}")
+
+    def test_nothing_runs_in_the_room(self):
+        os.mkdir(self.path("tmp"))
+        mounted(self, self.path("tmp"), "64m,noexec")
+        status, out, err = self.call("./package", TESTED.program, at="one", TMPDIR=self.path("tmp"))
+        said = err.endswith(b": set TMPDIR to a folder where programs may\n")
+        self.expect("noexec", (status, out, said), (125, b"", True))
 
     def test_full_disk(self):
         """What was there stays, and nothing new."""
