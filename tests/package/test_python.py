@@ -93,6 +93,17 @@ class Floor(Place):
                 self.expect(f"Python {version}: {line}", made, due)
             os.remove(self.path("bin/python3"))
 
+    def test_modules_of_others(self):
+        """Packages that somebody installed may have the names of our modules."""
+        usual = self.made()
+        modules = {os.path.basename(path).removesuffix(".py") for folder in ("charts", "grading", "man")
+                   for path in glob.glob(f"{TOP}/{folder}/*") if os.path.isdir(path) or path.endswith(".py")}
+        self.expect("modules", {"svg", "options", "completions", "programs"} <= modules, True)
+        for name in modules:
+            self.write(f"others/{name}.py", "raise SystemExit('the module of others')\n")
+        self.environment["PYTHONPATH"] = self.path("others")
+        self.expect("the same", self.made(), usual)
+
     def made(self):
         """What each script makes of the examples."""
         given = self.read("examples/dot.iloc")
