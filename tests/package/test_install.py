@@ -108,6 +108,9 @@ class Install(Place):
         self.removes("/usr", DESTDIR="a root")
         self.write("elsewhere/made here/bin/ilocfarm", "")
         self.removes("made here", CDPATH=self.path("elsewhere"))
+        os.mkdir(self.path("tmp"))
+        self.installs("made here", PATH=f".:{os.environ['PATH']}", TMPDIR="tmp")
+        self.expect("what is temporary", os.listdir(self.path("tmp")), [])
         self.expect("elsewhere", files_below(self.path("elsewhere")), {"made here/bin/ilocfarm"})
 
     def test_modes(self):

@@ -156,7 +156,9 @@ class Release(Clones):
         self.expect("ilocgrade", self.call("a folder/of mine/bin/ilocgrade", *folders), GRADED)
 
     def test_debian(self):
-        """Files, control and changelog, as Debian has them."""
+        """Files, control and changelog, as Debian has them, and no link to what isn't installed."""
+        self.write("one/README.md", self.text("one/README.md") + "[a list](tests/packages), [a page](install#it)\n")
+        self.commits("one")
         self.packages("one")
         self.call("dpkg-deb", "--raw-extract", f"one/out/release/{self.names()[1]}", "deb")
         pages = {f"share/man/man1/{name}.1" for name in COMMANDS}
