@@ -7,10 +7,11 @@ from harness.program import TESTED, Run, ending, stored, told
 from harness.suite import Check, table
 from judged.labs import Given, scheduled
 from judged.students import WRONG, own_names, registers_reused
+from limits import MAX_NUMBER
 from oracle import alike
 from oracle.judge import proposed
 from oracle.machine import bad_row, row_text
-from oracle.operations import text_of, words_for
+from oracle.operations import Op, text_of, words_for
 from oracle.pairings import has_pairing
 from oracle.scheduler import ORDERS, Schedule
 
@@ -20,6 +21,8 @@ TINY, ALL_TINY = 2000, 20_000
 MOST_TINY = 7
 AT_ONCE = 500           # blocks of a text
 ENTRY = re.compile(rb"block \d+ \S+ (\w+) cycles [^\n]*\n((?:  [^\n]*\n)*)")
+# How schedules are made.
+MADE = [*(["schedule", "--priority", by] for by in ORDERS), ["optimize", "--nodes", "20"]]
 SHORT, LONG = {"load": 2, "store": 3, "mult": 1}, {"load": 16, "store": 7, "mult": 2}
 
 # Blocks, and rows by the book in which some operations may be any of several of the block.
@@ -66,6 +69,9 @@ add r2, r3 => r1
 add r2, r3 => r3
 add r5, r5 => r5
 """
+# The first and the last constants, some of which are one modulo 2^31 - 1, and operations that differ in them alone.
+ENDS = [0, 1, MAX_NUMBER - 1, MAX_NUMBER]
+APART = [Op("loadI", [MAX_NUMBER, 4]), Op("loadI", [0, 2]), Op("loadI", [0, 0]), Op("add", [1, 0, 0]), Op("add", [3, 4, 2])]
 MILLION = 1_000_000
 NOT_FOUND = {"void", "undecided"}     # of rows for a block that shows nothing
 
@@ -79,18 +85,18 @@ def parts(items, count):
     return [items[k:k + count] for k in range(0, len(items), count)]
 
 
-def own_rows_pass(blocks, by, latencies=()):
-    """Of our schedules by this priority, by each command that judges rows."""
+def own_rows_pass(blocks, made, latencies=()):
+    """Of our schedules that are made so, by each command that judges rows."""
     for some in parts(blocks, AT_ONCE):
         task, words = text_of(some), words_for(dict(latencies))
-        rows, file = ending(["schedule", "--priority", by, *words], task)[1], stored("alike.iloc", task)
+        rows, file = ending([*made, *words], task)[1], stored("alike.iloc", task)
         for asked in ([], ["--lawful"]):
             end = ending(["check", *asked, *words, "--task", file], rows)
             if end[0] != PASSED or found_of(end[1]) != ["lawful"] * len(some):
-                yield f"check {asked} {by} {words}: {unlawful(some, end[1]) or told(end)}"
+                yield f"check {asked} {made} {words}: {unlawful(some, end[1]) or told(end)}"
         end = ending(["explain", *words, "--task", file], rows)
         if end[0] != PASSED or b"not lawful" in end[1] or end[1].count(b"\npath ") != len(some):
-            yield f"explain {by} {words}: {told(end)}"
+            yield f"explain {made} {words}: {told(end)}"
 
 
 def unlawful(blocks, listing):
@@ -98,12 +104,12 @@ def unlawful(blocks, listing):
     return next((f"{[*map(str, ops)]} {found}" for ops, found in zip(blocks, found_of(listing)) if found != "lawful"), None)
 
 
-def own_drawn():
+def own_drawn(*constants):
     chance = random.Random(64)
-    blocks = [alike.block(chance) for _ in range(OWN if TESTED.is_short else ALL_OWN)]
-    for number, some in enumerate(parts(blocks, len(blocks) // len(ORDERS) + 1)):
+    blocks = [alike.block(chance, constants=constants) for _ in range(OWN if TESTED.is_short else ALL_OWN)]
+    for number, some in enumerate(parts(blocks, len(blocks) // len(MADE) + 1)):
         latencies = (SHORT, LONG, {})[number % 3]
-        yield from own_rows_pass(some, ORDERS[number], latencies)
+        yield from own_rows_pass(some, MADE[number], latencies)
 
 
 # Rows for a tiny block, which `labs` has with our schedule of it.
@@ -181,9 +187,11 @@ def alike_checks():
     yield Check("judged/alike/unused_sums", own_as_ours, UNUSED_SUMS)
     yield lawful_rows("behind_empty_rows", SUMS + "[ ]\n" * MILLION + ROWS_OF_SUMS, MILLION + 3, 3)
     yield lawful_rows("behind_empty_lines", SUMS + "[ ]\n" + "\n" * MILLION + ROWS_OF_SUMS, 4, 3)
-    for by in ORDERS:
-        yield Check(f"judged/alike/sums/{by}", own_rows_pass, [*alike.sums()], by)
+    for made in MADE:
+        yield Check(f"judged/alike/sums/{'_'.join(made)}", own_rows_pass, [*alike.sums()], made)
+        yield Check(f"judged/alike/apart/{'_'.join(made)}", own_rows_pass, [APART], made)
     yield Check("judged/alike/own", own_drawn)
+    yield Check("judged/alike/own_of_ends", own_drawn, *ENDS)
     yield Check("judged/alike/as_exhaustively", as_exhaustively)
     yield Check("judged/alike/graphs", graphs)
 

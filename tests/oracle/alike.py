@@ -16,10 +16,10 @@ def sums():
         yield [*loads, *(Op("add", [*it, 3 + k]) for k, it in enumerate(read))]
 
 
-def block(chance, most=12):
-    """A block of few opcodes, registers and constants."""
+def block(chance, most=12, constants=()):
+    """A block of few opcodes, registers and constants: of these, if any are given."""
     opcodes, registers = chance.choice(FEW), chance.choice([2, 3, 4, 6])
-    constants = chance.choice([[4], [4], [4, 8]])
+    constants = constants or chance.choice([[4], [4], [4, 8]])
     return [Op(opcode, [chance.choice(constants) if role == "c" else chance.randrange(registers) for role in ROLES[opcode]])
             for opcode in chance.choices(opcodes, k=chance.randint(2, most))]
 

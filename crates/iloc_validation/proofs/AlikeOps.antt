@@ -8,11 +8,11 @@ use Rattle.iloc_ops.specs.declared.op.Op.{Op}
 use Rattle.iloc_ops.specs.contracts.op.OpPartialEq.TheImpl as of_ops
 use Rattle.iloc_ops.specs.contracts.op.OpOrd.TheImpl as in_order
 use Rattle.iloc_ops.specs.contracts.op.OpOrd.TheImpl.Laws.{matches_eq-law}
-use Rattle.iloc_validation.specs.declared.counterparts.unpaired.Unpaired.{Unpaired}
+use Rattle.iloc_validation.specs.declared.by_label.ByLabel.{ByLabel}
 use Rattle.iloc_validation.specs.ByTheBook.{label}
 use Rattle.iloc_validation.specs.Counts.{are_alike, count_like}
 use Rattle.iloc_validation.specs.Labels.{label_key}
-use Rattle.iloc_validation.specs.Steps.Counterparts.{first_like, SetsLike}
+use Rattle.iloc_validation.specs.Steps.ByLabel.{number_like, SetsLike}
 use Rattle.iloc_validation.proofs.LabelKeys.{one_label, same_key}
 use Rattle.iloc_validation.proofs.SameOps.{op_same}
 
@@ -44,11 +44,11 @@ key_is a b =
     ∙ one_answer ((of_ops.ghosts).eq (label_key a) (label_key b)) (are_alike a b) (keys_test a b) (alike_test a b)
 
 -- a change at the key of an operation is one for those like it
-pub sets_like : (old new : Unpaired) (op key : Op) (first : Option ℕ) → key ≡ label_key op
-    → ((k : Op) → get (in_order.ghosts).cmp new.first k
-    ≡ cond (eq_by_cmp (in_order.ghosts).cmp key k) first (get (in_order.ghosts).cmp old.first k))
+pub sets_like : (old new : ByLabel) (op key : Op) (first : Option ℕ) → key ≡ label_key op
+    → ((k : Op) → get (in_order.ghosts).cmp new.numbers k
+    ≡ cond (eq_by_cmp (in_order.ghosts).cmp key k) first (get (in_order.ghosts).cmp old.numbers k))
     → SetsLike old new op first
 sets_like old new op key first is each other =
     let test : eq_by_cmp (in_order.ghosts).cmp key (label_key other) ≡ are_alike op other =
     ap (λ k. eq_by_cmp (in_order.ghosts).cmp k (label_key other)) is ∙ key_is op other in
-    each (label_key other) ∙ ap (λ b. cond b first (first_like old other)) test
+    each (label_key other) ∙ ap (λ b. cond b first (number_like old other)) test

@@ -13,7 +13,7 @@ use Rattle.iloc_validation.specs.declared.colours.issue_order.IssueOrder.{IssueO
 use Rattle.iloc_validation.specs.declared.reading.Reading.{Reading}
 use Rattle.iloc_validation.specs.declared.reading.sources.Sources.{Sources}
 use Rattle.iloc_validation.specs.ByTheBook.{result_in, IsScheduleUnder}
-use Rattle.iloc_validation.specs.Steps.Colours.{AreKept, IsBelow, AreBelow, ReadAlike, HaveColours, ArePassed, ArePassedTo, IsOrderOf, AreColoured}
+use Rattle.iloc_validation.specs.Steps.Colours.{IsBelow, AreBelow, ReadAlike, HaveColours, ArePassed, ArePassedTo, IsOrderOf, AreColoured}
 use Rattle.iloc_validation.specs.Readings.{reading_at, sources_of, sources_at}
 use Rattle.iloc_validation.specs.Steps.Sides.{AreSides}
 use Rattle.iloc_validation.specs.Steps.Sources.{by_numbers}
@@ -78,7 +78,7 @@ module _ (lat : Latencies) (block : List Op) (givens : List Sources) (schedule :
           ∙ reads_alike (slice_index order.ops.items p) (known p inside);
     }
 
-    module _ (here there : List ℕ) (kept : AreKept lat block schedule.ops schedule.rows here there) (start : Coloured)
+    module _ (here there : List ℕ) (kept : HaveColours (length schedule.ops) origin here there) (start : Coloured)
         (same : start.here.items ≡ here) (each : (p : ℕ) → p < length order.ops.items
         → slice_index start.there.items p ≡ slice_index there (slice_index order.ops.items p)) where
       first : HaveColours (length order.sources.items) to start.here.items start.there.items
@@ -105,7 +105,7 @@ module _ (block : List Op) (givens : List Sources) (schedule : Table) (readings 
     → slice_index start.there.items p ≡ slice_index there (slice_index order.ops.items p)) where
   pub none_coloured : ArePassed givens order.sources.items start None
       → AreColoured block givens schedule readings here there None
-  none_coloured none = λ lat sides kept origin partner under.
+  none_coloured none = λ lat sides origin partner under kept.
       none_under lat block givens schedule readings sides order is origin partner under here there kept start same each none
 
   pub all_coloured : (last new : Coloured) → ArePassedTo givens order.sources.items start last
@@ -117,7 +117,7 @@ module _ (block : List Op) (givens : List Sources) (schedule : Table) (readings 
   all_coloured last new passed count count_too same_here size moved = record {
     here_size = ap length same_here ∙ passed.here_size ∙ count;
     there_size = size ∙ is.all ∙ count_too;
-    kept = λ lat sides kept origin partner under k within.
+    kept = λ lat sides origin partner under kept k within.
         kept_under lat block givens schedule readings sides order is origin partner under here there kept start same each last
         new.there.items passed moved k within
         ∙ ap (λ cs. slice_index cs (origin k)) (sym same_here);

@@ -23,12 +23,14 @@ pub mod ColourSums
 pub mod BackwardColours
 pub mod PassedColours
 pub mod KeptColours
+pub mod NoPartner
 pub mod UnderWayExcludes
 pub mod SameOps
 pub mod SameRows
 pub mod NotedSlots
 pub mod SlotNumbers
 pub mod StoresUnderWay
+pub mod NumberedLabels
 pub mod FirstColours
 pub mod FewerNumbers
 pub mod PlacesKept

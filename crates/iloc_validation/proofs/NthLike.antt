@@ -10,9 +10,10 @@ use Rattle.iloc_ops.specs.declared.op.Op.{Op}
 use Rattle.iloc_meaning.specs.Trace.{op_at}
 use Rattle.iloc_meaning.proofs.Cases.{by_bool}
 use Rattle.iloc_validation.specs.declared.counterparts.chains.Chains.{Chains}
-use Rattle.iloc_validation.specs.declared.counterparts.unpaired.Unpaired.{Unpaired}
+use Rattle.iloc_validation.specs.declared.by_label.ByLabel.{ByLabel}
 use Rattle.iloc_validation.specs.Counts.{are_alike, count_like, lacks_counterpart, lacking, IsShort}
-use Rattle.iloc_validation.specs.Steps.Counterparts.{first_like, SetsLike, noted_at, IsNth, AreChained, IsCounterpart, AreCounterparts}
+use Rattle.iloc_validation.specs.Steps.ByLabel.{number_like, SetsLike}
+use Rattle.iloc_validation.specs.Steps.Counterparts.{noted_at, IsNth, AreChained, IsCounterpart, AreCounterparts}
 use Rattle.iloc_validation.proofs.AlikeOps.{alike_itself, alike_same, alike_back, count_same}
 use Rattle.iloc_validation.proofs.CountsLike.{counts_same, one_more, no_more, one_counted}
 
@@ -32,7 +33,7 @@ moved ops op n m o same nth = subst (λ x. IsNth ops op x o) same nth
 -- Chains, made from the end
 
 pub none_chained : (ops : List Op) (k : ℕ) (chains : Chains) → k ≡ length ops → length chains.next.items ≡ length ops
-    → ((op : Op) → first_like chains.waiting op ≡ None) → AreChained ops k chains
+    → ((op : Op) → number_like chains.waiting op ≡ None) → AreChained ops k chains
 none_chained ops k chains end size none = record {
   size = size;
   first = λ op.
@@ -46,27 +47,27 @@ pub chained_at : (ops : List Op) (n k : ℕ) (chains : Chains) → AreChained op
 chained_at ops n k chains are same = subst (λ m. AreChained ops m chains) same are
 
 pub put_first_chained : (ops : List Op) (k : ℕ) (old new : Chains) (o : Option ℕ) → k < length ops → AreChained ops (k + 1) old
-    → o ≡ first_like old.waiting (op_at ops k) → new.next.items ≡ slice_set old.next.items k o
+    → o ≡ number_like old.waiting (op_at ops k) → new.next.items ≡ slice_set old.next.items k o
     → SetsLike old.waiting new.waiting (op_at ops k) (Some k) → AreChained ops k new
 put_first_chained ops k old new o within are first_is noted sets = record {
   size = ap length noted ∙ length-set old.next.items k o ∙ are.size;
   first = λ op.
       by_bool (are_alike (op_at ops k) op)
       (λ t.
-      let now : first_like new.waiting op ≡ Some k = sets op ∙ rw t refl in
+      let now : number_like new.waiting op ≡ Some k = sets op ∙ rw t refl in
       subst (IsNth ops op (count_like op (take k ops))) (sym now) (within, alike_back (op_at ops k) op t, refl))
       (λ t.
-      let now : first_like new.waiting op ≡ first_like old.waiting op = sets op ∙ rw t refl in
+      let now : number_like new.waiting op ≡ number_like old.waiting op = sets op ∙ rw t refl in
       subst (IsNth ops op (count_like op (take k ops))) (sym now)
-      (moved ops op _ _ (first_like old.waiting op) (no_more op ops k within (not_back (op_at ops k) op t)) (are.first op)));
+      (moved ops op _ _ (number_like old.waiting op) (no_more op ops k within (not_back (op_at ops k) op t)) (are.first op)));
   next = λ j from inside. elim (cases_eq j k) [
     | inl here ↦
-        let written : noted_at new.next.items k ≡ first_like old.waiting (op_at ops k) =
+        let written : noted_at new.next.items k ≡ number_like old.waiting (op_at ops k) =
         ap (λ (xs : List (Option ℕ)). noted_at xs k) noted
         ∙ get_or-set_same old.next.items k o None (omega (arith, are.size)) ∙ first_is in
         let next : IsNth ops (op_at ops k) (count_like (op_at ops k) (take k ops) + 1) (noted_at new.next.items k) =
         subst (IsNth ops (op_at ops k) (count_like (op_at ops k) (take k ops) + 1)) (sym written)
-        (moved ops (op_at ops k) _ _ (first_like old.waiting (op_at ops k))
+        (moved ops (op_at ops k) _ _ (number_like old.waiting (op_at ops k))
         (one_more (op_at ops k) ops k within (alike_itself (op_at ops k))) (are.first (op_at ops k))) in
         subst (λ n. IsNth ops (op_at ops n) (count_like (op_at ops n) (take n ops) + 1) (noted_at new.next.items n)) (sym here) next
     | inr other ↦
@@ -86,12 +87,12 @@ grown others op n m (Some k) few more nth =
     let here : count_like op (take k others) ≡ n = nth.2 in
     absurd (omega arith)
 
-module _ (ops others : List Op) (i : ℕ) (within : i < length ops) (old : Unpaired)
-    (waits : (op : Op) → IsNth others op (count_like op (take i ops)) (first_like old op)) where
+module _ (ops others : List Op) (i : ℕ) (within : i < length ops) (old : ByLabel)
+    (waits : (op : Op) → IsNth others op (count_like op (take i ops)) (number_like old op)) where
   abbrev it : Op
   it = op_at ops i
 
-  pub none_left : first_like old it ≡ None → (op : Op) → IsNth others op (count_like op (take (i + 1) ops)) (first_like old op)
+  pub none_left : number_like old it ≡ None → (op : Op) → IsNth others op (count_like op (take (i + 1) ops)) (number_like old op)
   none_left none op =
       by_bool (are_alike op it)
       (λ t.
@@ -100,19 +101,19 @@ module _ (ops others : List Op) (i : ℕ) (within : i < length ops) (old : Unpai
       let here = count_same op it others t in
       let there = count_same op it (take i ops) t in
       let more = one_more op ops i within t in
-      grown others op (count_like op (take i ops)) (count_like op (take (i + 1) ops)) (first_like old op)
+      grown others op (count_like op (take i ops)) (count_like op (take (i + 1) ops)) (number_like old op)
       (omega (arith, few, here, there)) (omega (arith, more)) (waits op))
-      (λ t. moved others op _ _ (first_like old op) (sym (no_more op ops i within t)) (waits op))
+      (λ t. moved others op _ _ (number_like old op) (sym (no_more op ops i within t)) (waits op))
 
-  pub one_taken : (new : Unpaired) (k : ℕ) (next : Option ℕ) → first_like old it ≡ Some k
+  pub one_taken : (new : ByLabel) (k : ℕ) (next : Option ℕ) → number_like old it ≡ Some k
       → IsNth others (op_at others k) (count_like (op_at others k) (take k others) + 1) next → SetsLike old new it next
-      → (op : Op) → IsNth others op (count_like op (take (i + 1) ops)) (first_like new op)
+      → (op : Op) → IsNth others op (count_like op (take (i + 1) ops)) (number_like new op)
   one_taken new k next is after sets op =
       let first : IsNth others it (count_like it (take i ops)) (Some k) =
       subst (IsNth others it (count_like it (take i ops))) is (waits it) in
       by_bool (are_alike it op)
       (λ t.
-      let now : first_like new op ≡ next = sets op ∙ rw t refl in
+      let now : number_like new op ≡ next = sets op ∙ rw t refl in
       let like : are_alike (op_at others k) op ≡ true = sym (alike_same it (op_at others k) op first.1) ∙ t in
       let count = count_same it (op_at others k) (take k others) first.1 in
       let count_too = count_same it op (take i ops) t in
@@ -122,17 +123,17 @@ module _ (ops others : List Op) (i : ℕ) (within : i < length ops) (old : Unpai
       (moved others op _ _ next (omega (arith, count, count_too, more, place))
       (nth_like others (op_at others k) op (count_like (op_at others k) (take k others) + 1) next like after)))
       (λ t.
-      let now : first_like new op ≡ first_like old op = sets op ∙ rw t refl in
+      let now : number_like new op ≡ number_like old op = sets op ∙ rw t refl in
       subst (IsNth others op (count_like op (take (i + 1) ops))) (sym now)
-      (moved others op _ _ (first_like old op) (sym (no_more op ops i within (not_back it op t))) (waits op)))
+      (moved others op _ _ (number_like old op) (sym (no_more op ops i within (not_back it op t))) (waits op)))
 
 pub taken : (ops others : List Op) (i : ℕ) → i < length ops → (old new : Chains)
-    → ((op : Op) → IsNth others op (count_like op (take i ops)) (first_like old.waiting op))
+    → ((op : Op) → IsNth others op (count_like op (take i ops)) (number_like old.waiting op))
     → ((k : ℕ) → k < length others → IsNth others (op_at others k) (count_like (op_at others k) (take k others) + 1)
     (noted_at old.next.items k))
-    → (o : Option ℕ) → o ≡ first_like old.waiting (op_at ops i) → IfNone o (new.waiting ≡ old.waiting)
+    → (o : Option ℕ) → o ≡ number_like old.waiting (op_at ops i) → IfNone o (new.waiting ≡ old.waiting)
     → IfSome o (λ k. SetsLike old.waiting new.waiting (op_at ops i) (noted_at old.next.items k))
-    → (op : Op) → IsNth others op (count_like op (take (i + 1) ops)) (first_like new.waiting op)
+    → (op : Op) → IsNth others op (count_like op (take (i + 1) ops)) (number_like new.waiting op)
 taken ops others i within old new waits nexts None is none some op =
     rw none
     (none_left ops others i within old.waiting waits (sym is) op)

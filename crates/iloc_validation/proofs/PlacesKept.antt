@@ -18,6 +18,7 @@ use Rattle.iloc_rules.proofs.Basics.Members.{in_filter, from_filter}
 use Rattle.iloc_rules.proofs.Basics.Ordered.{Ordered, ordered_filter}
 use Rattle.iloc_rules.proofs.Basics.Slots.{numbers_before, ComesLater, issued_in_order, issued_early, early_issued}
 use Rattle.iloc_rules.proofs.Basics.Kinds.{store_is, output_is}
+use Rattle.iloc_validation.specs.declared.by_label.ByLabel.{ByLabel}
 use Rattle.iloc_validation.specs.declared.decision.first_colours.Places.{Places}
 use Rattle.iloc_validation.specs.ByTheBook.{issued_before, IsScheduleUnder}
 use Rattle.iloc_validation.specs.Steps.Colours.{AreKept}
@@ -62,10 +63,10 @@ places_row ops rows c n places is are =
     (append_assoc (issued_before rows c) (option_to_list (row_at rows c).zero) (option_to_list (row_at rows c).one)) twice)
 
 -- the colours that a row is given
-pub slot_colour : (ops : List Op) (rows : List Row) (c : ℕ) (places : Places) (slot : Option ℕ)
+pub slot_colour : (labels : ByLabel) (ops : List Op) (rows : List Row) (c : ℕ) (places : Places) (slot : Option ℕ)
     → ArePlaces ops (issued_before rows c) places → (k : ℕ) → slot ≡ Some k → issue_cycle rows k ≡ c
-    → colour_in ops places.stores places.outputs slot ≡ first_there ops rows k
-slot_colour ops rows c places slot are k is at = grind arith
+    → colour_in labels ops places.stores places.outputs slot ≡ first_there labels ops rows k
+slot_colour labels ops rows c places slot are k is at = grind arith
 
 pub places_next : (ops : List Op) (i n : ℕ) (places next : Places) → n ≡ suc i → next ≡ with_op (op_at ops i) places
     → ArePlaces ops (numbers_below i) places → ArePlaces ops (numbers_below n) next
@@ -80,24 +81,24 @@ module _ (ops : List Op) (rows : List Row) (table : IsTable ops rows) (c : ℕ) 
       rw (first, same, same_rows) at second in
       rw both (places_row ops rows c (c + 1) places (omega arith) are)
 
-  pub row_coloured : (colours once twice : List ℕ)
-      → AreNotedBefore (length ops) (first_there ops rows) rows c colours
+  pub row_coloured : (labels : ByLabel) (colours once twice : List ℕ)
+      → AreNotedBefore (length ops) (first_there labels ops rows) rows c colours
       → once ≡ with_number colours (row_at lent_rows c).zero
-      (colour_in lent places.stores places.outputs (row_at lent_rows c).zero)
+      (colour_in labels lent places.stores places.outputs (row_at lent_rows c).zero)
       → twice ≡ with_number once (row_at lent_rows c).one
-      (colour_in lent places.stores places.outputs (row_at lent_rows c).one)
-      → AreNotedBefore (length ops) (first_there ops rows) rows (c + 1) twice
-  row_coloured colours once twice so_far first second =
+      (colour_in labels lent places.stores places.outputs (row_at lent_rows c).one)
+      → AreNotedBefore (length ops) (first_there labels ops rows) rows (c + 1) twice
+  row_coloured labels colours once twice so_far first second =
       let both : twice ≡ with_number (with_number colours (row_at rows c).zero
-      (colour_in ops places.stores places.outputs (row_at rows c).zero)) (row_at rows c).one
-      (colour_in ops places.stores places.outputs (row_at rows c).one) = rw (first, same, same_rows) at second in
-      rw both (one_row ops rows table (first_there ops rows) c colours so_far
-      (colour_in ops places.stores places.outputs (row_at rows c).zero)
-      (colour_in ops places.stores places.outputs (row_at rows c).one)
-      (λ k is. slot_colour ops rows c places (row_at rows c).zero are k is
-      (at_zero ops rows table (first_there ops rows) c k is))
-      (λ k is. slot_colour ops rows c places (row_at rows c).one are k is
-      (at_one ops rows table (first_there ops rows) c k is)))
+      (colour_in labels ops places.stores places.outputs (row_at rows c).zero)) (row_at rows c).one
+      (colour_in labels ops places.stores places.outputs (row_at rows c).one) = rw (first, same, same_rows) at second in
+      rw both (one_row ops rows table (first_there labels ops rows) c colours so_far
+      (colour_in labels ops places.stores places.outputs (row_at rows c).zero)
+      (colour_in labels ops places.stores places.outputs (row_at rows c).one)
+      (λ k is. slot_colour labels ops rows c places (row_at rows c).zero are k is
+      (at_zero ops rows table (first_there labels ops rows) c k is))
+      (λ k is. slot_colour labels ops rows c places (row_at rows c).one are k is
+      (at_one ops rows table (first_there labels ops rows) c k is)))
 
 -- Places are kept
 
@@ -196,9 +197,9 @@ module _ (lat : Latencies) (block ops : List Op) (rows : List Row) (origin partn
       → with_place a colour s o ≡ with_place a colour s' o'
   same_place a colour s s' o o' stores outputs = grind arith
 
-  first_same : (k : ℕ) → k < length ops → first_there ops rows k ≡ first_here block (origin k)
-  first_same k inside =
-      same_place (kind (op_at ops k)) (label_colour (op_at ops k)) _ _ _ _
+  first_same : (labels : ByLabel) (k : ℕ) → k < length ops → first_there labels ops rows k ≡ first_here labels block (origin k)
+  first_same labels k inside =
+      same_place (kind (op_at ops k)) (label_colour labels (op_at ops k)) _ _ _ _
       (λ placed. ap (λ n. n % 2 ^ 64) (count_kept is_store k inside (λ j store.
       stores_keep lat (kind (op_at ops j)) (kind (op_at ops k)) store placed)))
       (λ output. ap (λ n. n % 2 ^ 64) (count_kept is_output k inside (λ j is.
@@ -206,12 +207,12 @@ module _ (lat : Latencies) (block ops : List Op) (rows : List Row) (origin partn
       ∙ ap₂ (λ a colour. with_place a colour (count_of is_store block (numbers_below (origin k)) % 2 ^ 64)
       (count_of is_output block (numbers_below (origin k)) % 2 ^ 64))
       (kind_of lat block ops rows origin partner by k inside)
-      (same_label_colour (op_at ops k) (op_at block (origin k)) (by.paired.labels k inside))
+      (same_label_colour labels (op_at ops k) (op_at block (origin k)) (by.paired.labels k inside))
 
-pub first_kept : (lat : Latencies) (block ops : List Op) (rows : List Row) (here there : List ℕ)
-    → ((i : ℕ) → i < length block → slice_index here i ≡ first_here block i)
-    → ((k : ℕ) → k < length ops → slice_index there k ≡ first_there ops rows k) → AreKept lat block ops rows here there
-first_kept lat block ops rows here there each each_there = λ origin partner under k inside.
+pub first_kept : (labels : ByLabel) (lat : Latencies) (block ops : List Op) (rows : List Row) (here there : List ℕ)
+    → ((i : ℕ) → i < length block → slice_index here i ≡ first_here labels block i)
+    → ((k : ℕ) → k < length ops → slice_index there k ≡ first_there labels ops rows k) → AreKept lat block ops rows here there
+first_kept labels lat block ops rows here there each each_there = λ origin partner under k inside.
     each_there k inside
-    ∙ first_same lat block ops rows origin partner under k inside
+    ∙ first_same lat block ops rows origin partner under labels k inside
     ∙ sym (each (origin k) (under.paired.there k inside))

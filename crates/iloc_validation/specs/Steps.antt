@@ -5,6 +5,7 @@ pub mod Readings
 pub mod Waits
 pub mod Pairing
 pub mod Sides
+pub mod ByLabel
 pub mod Counterparts
 pub mod Colours
 pub mod Numbers

@@ -7,7 +7,8 @@
 //! reader, all pairs are kept, since parts that don't hang together and are alike may be exchanged, and it goes on with
 //! the next operation of the block.
 
-ghost use Rattle.std.specs.Prelude.{◌≡◌, length, IfOk, IfSome};
+ghost use Rattle.std.specs.Prelude.{length, IfOk};
+ghost use Rattle.iloc_validation.specs.Steps.Decisions.{IsFoundFor};
 
 mod graph;
 mod pairs;
@@ -24,16 +25,22 @@ use std::alloc::Global;
 /// How many steps it takes for each operation before it gives up. Blocks that aren't made to slow it take about 10.
 const STEPS: usize = 1000;
 
+/// What the search ends with.
+#[derive(Drop)]
+pub(crate) enum Found {
+    /// This pairing.
+    Paired(Pairing),
+    /// For this operation of the block no partner was found.
+    NoPartner(usize),
+}
+
 /// A pairing of the operations of rows with those of a block that have these colours, if one is found.
 pub(crate) fn found_pairing(
     alloc: Global,
     sides: &Sides,
     colours: &Coloured,
-) -> Result<Option<Pairing>, NoMemory>
-    ensures origins { IfOk result (λ found. IfSome found (λ it.
-        length it.origin.items ≡ length sides.now.readings.now)) }
-    ensures partners { IfOk result (λ found. IfSome found (λ it.
-        length it.partner.items ≡ length sides.now.block.now)) }
+) -> Result<Found, NoMemory>
+    ensures { IfOk result (IsFoundFor (length sides.now.block.now) (length sides.now.readings.now)) }
 {
     let mut reads = Vec::with_capacity(alloc, sides.readings.len())?;
     for reading in sides.readings {
@@ -42,13 +49,15 @@ pub(crate) fn found_pairing(
     let block = Graph::of(alloc, sides.givens, &colours.here)?;
     let rows = Graph::of(alloc, &reads, &colours.there)?;
     let mut search = Search::new(alloc, &block, &rows)?;
-    if !search.run(STEPS.saturating_mul(sides.block.len()))? {
-        return Ok(None);
-    }
+    let is_found = search.run(STEPS.saturating_mul(sides.block.len()))?;
+    let root = search.root();
     let found = search.into_pairing();
-    if found.origin.len() == sides.readings.len() && found.partner.len() == sides.block.len() {
-        Ok(Some(found))
+    if is_found
+        && found.origin.len() == sides.readings.len()
+        && found.partner.len() == sides.block.len()
+    {
+        Ok(Found::Paired(found))
     } else {
-        Ok(None)
+        Ok(Found::NoPartner(root))
     }
 }

@@ -101,8 +101,8 @@ fn by_number(alloc: Global, colours: &[u64], numbers: &[usize]) -> Result<Vec<u6
     Ok(own)
 }
 
-/// Colours that every pairing keeps, made of colours that it keeps and of what operations read and what reads them; or
-/// none, where they show that there is no pairing. A pass reaches through all that is read, or all that reads, at once.
+/// Colours that each pairing keeps that keeps these, made of them and of what operations read and what reads them; or
+/// none, where they show that there is no such pairing. A pass reaches through all that is read, or all that reads, at once.
 pub(crate) fn kept_colours(
     alloc: Global,
     sides: &Sides,

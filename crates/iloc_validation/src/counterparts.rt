@@ -2,4 +2,3 @@
 
 mod chains;
 pub mod lacking;
-mod unpaired;

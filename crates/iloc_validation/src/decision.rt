@@ -3,17 +3,19 @@ ghost use Rattle.std.specs.Prelude.{◌≡◌, true, length, IfNone, IfOk, IfSom
 ghost use Rattle.iloc_rules.specs.Lawful.{IsLawful};
 ghost use Rattle.iloc_validation.specs.ByTheBook.{IsScheduleUnder, IssueTheSame};
 ghost use Rattle.iloc_validation.specs.Decision.{IsDecision, IsFoundLawful, IsScheduleBy};
-ghost use Rattle.iloc_validation.specs.Steps.Decisions.{IsDecisionOf, IsExcluded};
+ghost use Rattle.iloc_validation.specs.Steps.Decisions.{IsDecisionOf, IsExcluded, KeptColours};
 ghost use Rattle.iloc_validation.specs.Steps.Sides.{AreSides};
 
 pub mod first_colours;
 mod ours;
+mod partners;
 mod under_way;
 
 use self::first_colours::coloured;
 use self::ours::{issue_the_same, paired_by_slot};
+use self::partners::has_no_partner;
 use self::under_way::is_under_way;
-use crate::backtracking::found_pairing;
+use crate::backtracking::{Found, found_pairing};
 use crate::colours::Coloured;
 use crate::pairing::Pairing;
 use crate::reading::given::{givens, without_nops};
@@ -73,26 +75,35 @@ fn is_excluded(sides: &Sides, latencies: &Latencies) -> bool
     is_under_way(sides.schedule, latencies)
 }
 
-/// A pairing that the search finds, under which rows are a schedule of a block by the book.
-pub(crate) fn searched(
+/// What is decided of rows by a search for a pairing that keeps these colours, as every pairing does.
+fn searched(
     alloc: Global,
     sides: &Sides,
     colours: &Coloured,
     latencies: &Latencies,
-) -> Result<Option<Pairing>, NoMemory>
-    requires { AreSides latencies.now sides.now.block.now sides.now.givens.now sides.now.schedule.now
+) -> Result<Decision, NoMemory>
+    requires sides { AreSides latencies.now sides.now.block.now sides.now.givens.now sides.now.schedule.now
         sides.now.readings.now }
-    ensures { IfOk result (λ found. IfSome found (IsScheduleBy latencies.now sides.now.block.now
-        sides.now.schedule.now.ops sides.now.schedule.now.rows)) }
+    requires kept { KeptColours latencies.now sides.now.block.now sides.now.schedule.now.ops sides.now.schedule.now.rows
+        colours.now }
+    ensures { IfOk result (IsDecisionOf latencies.now sides.now.block.now sides.now.schedule.now.ops
+        sides.now.schedule.now.rows) }
 {
-    let found = match found_pairing(alloc, sides, colours)? {
-        Some(found) => found,
-        None => return Ok(None),
-    };
-    if is_schedule_under(alloc, sides, &found, latencies)? {
-        Ok(Some(found))
-    } else {
-        Ok(None)
+    match found_pairing(alloc, sides, colours)? {
+        Found::Paired(found) => {
+            if is_schedule_under(alloc, sides, &found, latencies)? {
+                Ok(Decision::Lawful(found))
+            } else {
+                Ok(Decision::Undecided)
+            }
+        }
+        Found::NoPartner(i) => {
+            if has_no_partner(alloc, sides, colours, i)? {
+                Ok(Decision::Unlawful)
+            } else {
+                Ok(Decision::Undecided)
+            }
+        }
     }
 }
 
@@ -110,10 +121,7 @@ fn decided(alloc: Global, sides: &Sides, latencies: &Latencies) -> Result<Decisi
         Some(colours) => colours,
         None => return Ok(Decision::Unlawful),
     };
-    match searched(alloc, sides, &colours, latencies)? {
-        Some(pairing) => Ok(Decision::Lawful(pairing)),
-        None => Ok(Decision::Undecided),
-    }
+    searched(alloc, sides, &colours, latencies)
 }
 
 /// Decides whether rows that somebody made are a schedule of a block by the book: whether their operations can be paired
@@ -125,7 +133,8 @@ fn decided(alloc: Global, sides: &Sides, latencies: &Latencies) -> Result<Decisi
 /// those that are found to be unlawful are none, under any pairing. What a schedule of ours issues is found to be lawful,
 /// whatever numbers its operations have.
 ///
-/// Of some rows neither is found: of those whose operations are alike in too many ways for the search to try them all.
+/// Of some rows neither is found: where the search gives up, or ends without a pairing, and counting doesn't show that the
+/// operation where it ended has no partner.
 pub fn decide(
     alloc: Global,
     block: &Block,

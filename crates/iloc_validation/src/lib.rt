@@ -2,6 +2,7 @@
 #![tactic(auto)]
 
 mod backtracking;
+mod by_label;
 mod colours;
 mod counterparts;
 mod decision;

@@ -1,5 +1,5 @@
 -- Colours of the operations of a block and of rows, by which a pairing is looked for.
-use Rattle.std.specs.Prelude.{ℕ, ◌+◌, ◌*◌, ◌-◌, ◌%◌, ◌^◌, ◌≡◌, ◌<◌, ◌==◌, if◌then◌else◌, List, length, slice_index, sum_by, Option, Some, None, IfSome, ⊤}
+use Rattle.std.specs.Prelude.{ℕ, ◌+◌, ◌*◌, ◌-◌, ◌/◌, ◌%◌, ◌^◌, ◌≡◌, ◌<◌, ◌==◌, if◌then◌else◌, List, length, slice_index, slice_set, sum_by, Option, Some, None, IfSome, ⊤}
 use Rattle.std.specs.List.{range_with_len}
 use Rattle.iloc_ops.specs.declared.op.Op.{Op}
 use Rattle.iloc_timed.specs.declared.latencies.Latencies.{Latencies}
@@ -23,17 +23,20 @@ AreKept lat block ops rows here there = (origin partner : ℕ → ℕ) → IsSch
 
 -- New colours
 
--- the colour that is made of two: for y = 48271 a + 69621 b + 12345 that is y⁵ + a, modulo 2³¹ - 1
+-- a number for each: n (2 n + 1) modulo 2⁶⁴, with its halves exchanged
+abbrev pub stirred : ℕ → ℕ
+stirred n =
+    let product = (n * ((n * 2 % 2 ^ 64 + 1) % 2 ^ 64)) % 2 ^ 64 in
+    (product * 4294967296 % 2 ^ 64 + product / 4294967296) % 2 ^ 64
+
+-- the colour that is made of two
 unfoldable pub mixed : ℕ → ℕ → ℕ
 mixed one other =
-    let first = one % 2147483648 in
-    let y = (first * 48271 + other % 2147483648 * 69621 + 12345) % 2147483647 in
-    let square = y * y % 2147483647 in
-    (square * square % 2147483647 * y + first) % 2147483647
+    stirred (stirred ((one * 0x9E37_79B9_7F4A_7C15 % 2 ^ 64 + other * 0xD6E8_FEB8_6659_FD93 % 2 ^ 64) % 2 ^ 64))
 
 -- the colour of what is read; the start of a register has one of its own
 abbrev pub told : (ℕ → ℕ) → Option ℕ → ℕ
-told colour None = 1073741824
+told colour None = 9223372036854775808
 told colour (Some j) = colour j
 
 -- a colour with those of what is read, left to right
@@ -122,19 +125,33 @@ pub record IsOrderOf (readings : List Reading) (order : IssueOrder) : Type 0 whe
 
 -- All of it
 
--- where all pairings keep the first colours, they keep the new ones
+-- a pairing that keeps the old colours keeps the new ones
 pub record AreColouredAs (block : List Op) (givens : List Sources) (schedule : Table) (readings : List Reading)
     (here there : List ℕ) (new : Coloured) : Type 0 where
   pub here_size : length new.here.items ≡ length block
   pub there_size : length new.there.items ≡ length schedule.ops
-  pub kept : (lat : Latencies) → AreSides lat block givens schedule readings
-      → AreKept lat block schedule.ops schedule.rows here there
-      → AreKept lat block schedule.ops schedule.rows new.here.items new.there.items
+  pub kept : (lat : Latencies) → AreSides lat block givens schedule readings → (origin partner : ℕ → ℕ)
+      → IsScheduleUnder lat block schedule.ops schedule.rows origin partner
+      → HaveColours (length schedule.ops) origin here there
+      → HaveColours (length schedule.ops) origin new.here.items new.there.items
 
--- colours that every pairing keeps, if it keeps the first ones; or none, where there is no pairing
+-- no pairing keeps these colours
+abbrev pub AreKeptByNone : List Op → List Sources → Table → List Reading → List ℕ → List ℕ → Type 0
+AreKeptByNone block givens schedule readings here there = (lat : Latencies) → AreSides lat block givens schedule readings
+    → (origin partner : ℕ → ℕ) → IsScheduleUnder lat block schedule.ops schedule.rows origin partner
+    → HaveColours (length schedule.ops) origin here there → ⊥
+
+-- what is made of colours: new ones, or none, and then no pairing keeps the old ones
 abbrev pub AreColoured : List Op → List Sources → Table → List Reading → List ℕ → List ℕ → Option Coloured → Type 0
-AreColoured block givens schedule readings here there None = (lat : Latencies)
-    → AreSides lat block givens schedule readings → AreKept lat block schedule.ops schedule.rows here there
-    → (origin partner : ℕ → ℕ) → IsScheduleUnder lat block schedule.ops schedule.rows origin partner → ⊥
+AreColoured block givens schedule readings here there None = AreKeptByNone block givens schedule readings here there
 AreColoured block givens schedule readings here there (Some new) =
     AreColouredAs block givens schedule readings here there new
+
+-- colours in which one operation has the colour of none but by chance
+abbrev pub marked : List ℕ → ℕ → List ℕ
+marked colours k = slice_set colours k 9223372036854775808
+
+-- where operations i and k have one colour, no pairing keeps those in which they have another of their own
+abbrev pub IsNoPair : List Op → List Sources → Table → List Reading → List ℕ → List ℕ → ℕ → ℕ → Type 0
+IsNoPair block givens schedule readings here there i k = slice_index there k ≡ slice_index here i
+    → AreKeptByNone block givens schedule readings (marked here i) (marked there k)

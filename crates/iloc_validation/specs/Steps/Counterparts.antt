@@ -1,22 +1,11 @@
 -- The counterparts of operations: each is paired with the one of its label that has as many before it.
-use Rattle.std.specs.Prelude.{ℕ, ◌+◌, ◌≡◌, ◌<◌, ◌≤◌, if◌then◌else◌, true, List, length, take, slice_index_or, count_by, is_none, Option, Some, None}
-use Rattle.std.specs.BTreeMap.{get}
+use Rattle.std.specs.Prelude.{ℕ, ◌+◌, ◌≡◌, ◌<◌, ◌≤◌, true, List, length, take, slice_index_or, count_by, is_none, Option, Some, None}
 use Rattle.iloc_ops.specs.declared.op.Op.{Op}
-use Rattle.iloc_ops.specs.contracts.op.OpOrd.TheImpl as of_ops
 use Rattle.iloc_meaning.specs.Trace.{op_at}
-use Rattle.iloc_validation.specs.declared.counterparts.unpaired.Unpaired.{Unpaired}
 use Rattle.iloc_validation.specs.declared.counterparts.chains.Chains.{Chains}
 use Rattle.iloc_validation.specs.declared.counterparts.lacking.Lacking.{Lacking}
 use Rattle.iloc_validation.specs.Counts.{are_alike, count_like}
-use Rattle.iloc_validation.specs.Labels.{label_key}
-
--- the first operation that waits, of those like this one
-abbrev pub first_like : Unpaired → Op → Option ℕ
-first_like waiting op = get (of_ops.ghosts).cmp waiting.first (label_key op)
-
--- of those like this operation another one waits first
-abbrev pub SetsLike : Unpaired → Unpaired → Op → Option ℕ → Type 0
-SetsLike old new op first = (other : Op) → first_like new other ≡ (if are_alike op other then first else first_like old other)
+use Rattle.iloc_validation.specs.Steps.ByLabel.{number_like}
 
 -- what is noted at a place
 abbrev pub noted_at : List (Option ℕ) → ℕ → Option ℕ
@@ -30,7 +19,7 @@ IsNth ops op n (Some k) = (k < length ops) × (are_alike op (op_at ops k) ≡ tr
 -- the chains of the operations from operation k on: of each label the first of them, and of each of them the next like it
 pub record AreChained (ops : List Op) (k : ℕ) (chains : Chains) : Type 0 where
   pub size : length chains.next.items ≡ length ops
-  pub first : (op : Op) → IsNth ops op (count_like op (take k ops)) (first_like chains.waiting op)
+  pub first : (op : Op) → IsNth ops op (count_like op (take k ops)) (number_like chains.waiting op)
   pub next : (j : ℕ) → k ≤ j → j < length ops
       → IsNth ops (op_at ops j) (count_like (op_at ops j) (take j ops) + 1) (noted_at chains.next.items j)
 

@@ -1,26 +1,21 @@
 -- The first colours of operations: label, and place among stores and outputs.
-use Rattle.std.specs.Prelude.{ℕ, zero, suc, ◌+◌, ◌%◌, ◌^◌, ◌≡◌, Bool, if◌then◌else◌, List, [], ◌∷◌, ◌++◌, count_by, fold, Option, Some, None}
+use Rattle.std.specs.Prelude.{ℕ, zero, suc, ◌+◌, ◌%◌, ◌^◌, ◌≡◌, Bool, if◌then◌else◌, List, [], ◌∷◌, ◌++◌, count_by, Option, Some, None, unwrap_or}
 use Rattle.iloc_ops.specs.declared.op.Op.{Op}
-use Rattle.iloc_ops.specs.declared.forms.Opcode.{Opcode}
-use Rattle.iloc_ops.specs.Forms.{opcode, opcode_text}
 use Rattle.iloc_meaning.specs.Trace.{op_at}
 use Rattle.iloc_timed.specs.declared.kind.Kind.{Kind}
 use Rattle.iloc_timed.specs.declared.kind.Kind.TheVariants as K
 use Rattle.iloc_timed.specs.declared.row.Row.{Row}
 use Rattle.iloc_timed.specs.Kinds.{kind, is_store, is_output}
 use Rattle.iloc_timed.specs.Rows.{issue_cycle}
+use Rattle.iloc_validation.specs.declared.by_label.ByLabel.{ByLabel}
 use Rattle.iloc_validation.specs.declared.decision.first_colours.Places.{Places}
 use Rattle.iloc_validation.specs.ByTheBook.{issued_before}
 use Rattle.iloc_validation.specs.Steps.Colours.{mixed}
-use Rattle.iloc_validation.specs.Labels.{constant}
+use Rattle.iloc_validation.specs.Steps.ByLabel.{number_like}
 
--- that of an opcode
-abbrev pub opcode_colour : Opcode → ℕ
-opcode_colour code = fold mixed 0 (opcode_text code)
-
--- that of the label of an operation
-abbrev pub label_colour : Op → ℕ
-label_colour op = mixed (opcode_colour (opcode op)) (constant op)
+-- that of a label: the number of one of the block's operations that have it; or that of no operation
+abbrev pub label_colour : ByLabel → Op → ℕ
+label_colour labels op = unwrap_or (number_like labels op) 18446744073709551615
 
 -- a colour with so many stores and outputs before it, of a kind that keeps its place among them
 abbrev pub with_place : Kind → ℕ → ℕ → ℕ → ℕ
@@ -30,13 +25,13 @@ with_place K.Output colour stores outputs = mixed (mixed colour stores) outputs
 with_place _ colour stores outputs = colour
 
 -- the colour of an operation behind so many stores and outputs
-abbrev pub first_colour : ℕ → ℕ → Op → ℕ
-first_colour stores outputs op = with_place (kind op) (label_colour op) stores outputs
+abbrev pub first_colour : ByLabel → ℕ → ℕ → Op → ℕ
+first_colour labels stores outputs op = with_place (kind op) (label_colour labels op) stores outputs
 
 -- the same of what stands in a slot
-abbrev pub colour_in : List Op → ℕ → ℕ → Option ℕ → ℕ
-colour_in ops stores outputs None = 0
-colour_in ops stores outputs (Some k) = first_colour stores outputs (op_at ops k)
+abbrev pub colour_in : ByLabel → List Op → ℕ → ℕ → Option ℕ → ℕ
+colour_in labels ops stores outputs None = 0
+colour_in labels ops stores outputs (Some k) = first_colour labels stores outputs (op_at ops k)
 
 -- one more, if an operation passes
 abbrev pub counted : (Kind → Bool) → Op → ℕ → ℕ
@@ -61,9 +56,9 @@ pub record ArePlaces (ops : List Op) (ks : List ℕ) (places : Places) : Type 0 
   pub outputs : places.outputs ≡ count_of is_output ops ks % 2 ^ 64
 
 -- the colour of operation k behind these
-abbrev pub colour_behind : List Op → List ℕ → ℕ → ℕ
-colour_behind ops ks k =
-    first_colour (count_of is_store ops ks % 2 ^ 64) (count_of is_output ops ks % 2 ^ 64) (op_at ops k)
+abbrev pub colour_behind : ByLabel → List Op → List ℕ → ℕ → ℕ
+colour_behind labels ops ks k =
+    first_colour labels (count_of is_store ops ks % 2 ^ 64) (count_of is_output ops ks % 2 ^ 64) (op_at ops k)
 
 -- the numbers below n
 abbrev pub numbers_below : ℕ → List ℕ
@@ -71,8 +66,8 @@ numbers_below zero = []
 numbers_below (suc n) = numbers_below n ++ (n ∷ [])
 
 -- the first colours of a block's operations, and of those of rows
-abbrev pub first_here : List Op → ℕ → ℕ
-first_here block i = colour_behind block (numbers_below i) i
+abbrev pub first_here : ByLabel → List Op → ℕ → ℕ
+first_here labels block i = colour_behind labels block (numbers_below i) i
 
-abbrev pub first_there : List Op → List Row → ℕ → ℕ
-first_there ops rows k = colour_behind ops (issued_before rows (issue_cycle rows k)) k
+abbrev pub first_there : ByLabel → List Op → List Row → ℕ → ℕ
+first_there labels ops rows k = colour_behind labels ops (issued_before rows (issue_cycle rows k)) k

@@ -55,6 +55,8 @@ pub(crate) struct Search<'a> {
     looked: Looked,
     // How many operations of the block, in order of colours, have pairs that are kept.
     kept: usize,
+    // The operation of the block that was the first to be paired since pairs were last kept.
+    root: usize,
 }
 
 impl<'a> Search<'a> {
@@ -75,6 +77,7 @@ impl<'a> Search<'a> {
                 readers: 0,
             },
             kept: 0,
+            root: 0,
         })
     }
 
@@ -137,6 +140,9 @@ impl<'a> Search<'a> {
         };
         match (self.block.reader(source, number), source) {
             (Some(reader), _) if self.pairs.partner(reader.op) == NONE => {
+                if source.is_none() {
+                    self.root = reader.op;
+                }
                 let choice = self.choice(reader, number);
                 self.choices.push(choice)?;
                 return Ok(Step::Try);
@@ -194,6 +200,11 @@ impl<'a> Search<'a> {
             };
         }
         Ok(false)
+    }
+
+    /// Where not all are paired, an operation of the block for which no partner was found.
+    pub(crate) fn root(&self) -> usize {
+        self.root
     }
 
     /// The pairs that were found.

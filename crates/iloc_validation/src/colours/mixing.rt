@@ -1,25 +1,32 @@
 //! Colours mixed of colours.
 ghost use Rattle.std.specs.Prelude.{◌≡◌, ◌%◌, ◌^◌, slice_index, sum_by};
-ghost use Rattle.iloc_validation.specs.Steps.Colours.{mixed, told, with_told};
+ghost use Rattle.iloc_validation.specs.Steps.Colours.{mixed, stirred, told, with_told};
 
 use crate::reading::sources::Sources;
 
-/// Mixed colours are below this prime, so sums of fewer than 2³³ don't wrap.
-const PRIME: u64 = (1 << 31) - 1;
-
 /// The colour of the start of a register, and of no operation but by chance.
-const START: u64 = 1 << 30;
+pub(crate) const START: u64 = 1 << 63;
+
+/// Half of a colour's bits.
+const HALF: u64 = 1 << 32;
+
+/// A number for each: a polynomial that goes one to one modulo 2⁶⁴, with its halves exchanged.
+fn stirred(number: u64) -> u64
+    ensures { result ≡ stirred number }
+{
+    let product = number.wrapping_mul(number.wrapping_mul(2).wrapping_add(1));
+    product.wrapping_mul(HALF).wrapping_add(product / HALF)
+}
 
 /// The colour that is made of two; its parts can't be exchanged, and it isn't linear, so sums of colours tell more than
 /// those of their parts.
 pub(crate) fn mix(one: u64, other: u64) -> u64
     ensures { result ≡ mixed one other }
 {
-    let first = one % (1 << 31);
-    let second = other % (1 << 31);
-    let y = (first * 48_271 + second * 69_621 + 12_345) % PRIME;
-    let square = y * y % PRIME;
-    (square * square % PRIME * y + first) % PRIME
+    let sum = one
+        .wrapping_mul(0x9E37_79B9_7F4A_7C15)
+        .wrapping_add(other.wrapping_mul(0xD6E8_FEB8_6659_FD93));
+    stirred(stirred(sum))
 }
 
 /// The colour of what is read; the start of a register has one of its own.

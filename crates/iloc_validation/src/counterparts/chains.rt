@@ -1,15 +1,16 @@
 //! The counterparts of operations on the other side: the first of a label with the first of that label, and so on.
 ghost use Rattle.std.specs.Prelude.{◌≡◌, ◌+◌, ◌<◌, length, IfOk, OnOk, IfSome, IfNone};
-ghost use Rattle.iloc_validation.specs.Steps.Counterparts.{first_like, SetsLike, noted_at, AreChained, AreCounterparts};
+ghost use Rattle.iloc_validation.specs.Steps.ByLabel.{number_like, SetsLike};
+ghost use Rattle.iloc_validation.specs.Steps.Counterparts.{noted_at, AreChained, AreCounterparts};
 
-use super::unpaired::Unpaired;
+use crate::by_label::ByLabel;
 use iloc_ops::{NoMemory, Op};
 use std::alloc::Global;
 
 /// The operations of one side in chains, one for each label.
 #[derive(Drop)]
 pub(crate) struct Chains {
-    waiting: Unpaired,
+    waiting: ByLabel,
     // By operation the next one like it.
     next: Vec<Option<usize>>,
 }
@@ -31,7 +32,7 @@ impl Chains {
         requires later { AreChained ops.now (k + 1) self.old }
         ensures { OnOk result (AreChained ops.now k self.new) }
     {
-        self.next[k] = self.waiting.first(&ops[k]);
+        self.next[k] = self.waiting.number(&ops[k]);
         self.waiting.set(&ops[k], Some(k))?;
         Ok(())
     }
@@ -39,12 +40,12 @@ impl Chains {
     /// Takes out the first of those like an operation.
     fn take(&mut self, op: &Op) -> Result<Option<usize>, NoMemory>
         ensures next { OnOk result (self.new.next ≡ self.old.next) }
-        ensures first { IfOk result (λ k. k ≡ first_like self.old.waiting op.now) }
+        ensures first { IfOk result (λ k. k ≡ number_like self.old.waiting op.now) }
         ensures none { IfOk result (λ k. IfNone k (self.new.waiting ≡ self.old.waiting)) }
         ensures some { IfOk result (λ k. IfSome k (λ j. SetsLike self.old.waiting self.new.waiting op.now
             (noted_at self.old.next.items j))) }
     {
-        match self.waiting.first(op) {
+        match self.waiting.number(op) {
             Some(k) => {
                 let next = noted(&self.next, k);
                 self.waiting.set(op, next)?;
@@ -59,7 +60,7 @@ impl Chains {
 fn chained(alloc: Global, ops: &[Op]) -> Result<Chains, NoMemory>
     ensures { IfOk result (AreChained ops.now 0) }
 {
-    let waiting = Unpaired::none(alloc);
+    let waiting = ByLabel::none(alloc);
     let next = vec![in alloc; None; ops.len()]?;
     let mut chains = Chains { waiting, next };
     for place in 0..ops.len() {

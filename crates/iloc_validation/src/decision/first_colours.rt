@@ -1,34 +1,24 @@
 //! The first colours of operations: label, and place among stores and outputs. Every pairing keeps them.
-ghost use Rattle.std.specs.Prelude.{◌≡◌, ◌<◌, ℕ, length, slice_index, IfNone, IfOk, IfSome};
+ghost use Rattle.std.specs.Prelude.{◌≡◌, ◌<◌, ℕ, length, slice_index, IfOk, IfSome};
 ghost use Rattle.iloc_timed.specs.declared.latencies.Latencies.{Latencies};
-ghost use Rattle.iloc_validation.specs.Steps.Decisions.{IsExcluded};
-ghost use Rattle.iloc_validation.specs.Steps.FirstColours.{label_colour, opcode_colour, first_here, first_there};
+ghost use Rattle.iloc_validation.specs.Steps.Decisions.{AreKeptColours};
+ghost use Rattle.iloc_validation.specs.Steps.FirstColours.{label_colour, first_here, first_there};
 ghost use Rattle.iloc_validation.specs.Steps.Sides.{AreSides};
 
+use crate::by_label::ByLabel;
 use crate::colours::mixing::mix;
 use crate::colours::{Coloured, kept_colours};
-use crate::label::opcode_and_constant;
+use crate::reading::sources::NONE;
 use crate::verification::Sides;
-use iloc_ops::{NoMemory, Op, Opcode};
+use iloc_ops::{NoMemory, Op};
 use iloc_timed::{Kind, Schedule};
 use std::alloc::Global;
 
-/// The colour of an opcode.
-fn opcode_colour(opcode: Opcode) -> u64
-    ensures { result ≡ opcode_colour opcode }
+/// The colour of the label of an operation: the number of one of the block's that have it, or that of no operation.
+fn label_colour(labels: &ByLabel, op: &Op) -> u64
+    ensures { result ≡ label_colour labels.now op.now }
 {
-    opcode
-        .text()
-        .iter()
-        .fold(0, |colour, byte| mix(colour, u64::from(*byte)))
-}
-
-/// The colour of the label of an operation.
-fn label_colour(op: &Op) -> u64
-    ensures { result ≡ label_colour op.now }
-{
-    let (opcode, constant) = opcode_and_constant(op);
-    mix(opcode_colour(opcode), u64::from(constant))
+    labels.number(op).unwrap_or(NONE) as u64
 }
 
 /// How many stores and outputs there are so far, modulo 2⁶⁴.
@@ -56,10 +46,10 @@ impl Places {
 
     /// The colour of the next operation: its label; of a load, a store or an output also how many stores are before it, and
     /// of an output how many outputs.
-    fn colour(&self, op: &Op) -> u64
-        ensures { result ≡ first_colour self.now.stores self.now.outputs op.now }
+    fn colour(&self, labels: &ByLabel, op: &Op) -> u64
+        ensures { result ≡ first_colour labels.now self.now.stores self.now.outputs op.now }
     {
-        let label = label_colour(op);
+        let label = label_colour(labels, op);
         match Kind::of(op) {
             Kind::Load | Kind::Store => mix(label, self.stores),
             Kind::Output => mix(mix(label, self.stores), self.outputs),
@@ -79,14 +69,14 @@ impl Places {
     }
 
     /// Sets the colour of what stands in a slot.
-    fn colour_slot(&self, colours: &mut Vec<u64>, ops: &[Op], slot: Option<usize>)
+    fn colour_slot(&self, labels: &ByLabel, colours: &mut Vec<u64>, ops: &[Op], slot: Option<usize>)
         requires known { IfSome slot (λ k. k < length ops.now) }
         requires size { length colours.old.items ≡ length ops.now }
         ensures { colours.new.items
-            ≡ with_number colours.old.items slot (colour_in ops.now self.now.stores self.now.outputs slot) }
+            ≡ with_number colours.old.items slot (colour_in labels.now ops.now self.now.stores self.now.outputs slot) }
     {
         if let Some(k) = slot {
-            colours[k] = self.colour(&ops[k]);
+            colours[k] = self.colour(labels, &ops[k]);
         }
     }
 
@@ -102,32 +92,32 @@ impl Places {
 }
 
 /// By operation of a block its first colour.
-fn first_here(alloc: Global, block: &[Op]) -> Result<Vec<u64>, NoMemory>
+fn first_here(alloc: Global, labels: &ByLabel, block: &[Op]) -> Result<Vec<u64>, NoMemory>
     ensures size { IfOk result (λ colours. length colours.items ≡ length block.now) }
     ensures each { IfOk result (λ colours. (i : ℕ) → i < length block.now
-        → slice_index colours.items i ≡ first_here block.now i) }
+        → slice_index colours.items i ≡ first_here labels.now block.now i) }
 {
     let mut places = Places::none();
     let mut colours = Vec::with_capacity(alloc, block.len())?;
     for i in 0..block.len() {
-        colours.push(places.colour(&block[i]))?;
+        colours.push(places.colour(labels, &block[i]))?;
         places.note(&block[i]);
     }
     Ok(colours)
 }
 
 /// By operation of rows its first colour.
-fn first_there(alloc: Global, schedule: &Schedule) -> Result<Vec<u64>, NoMemory>
+fn first_there(alloc: Global, labels: &ByLabel, schedule: &Schedule) -> Result<Vec<u64>, NoMemory>
     ensures size { IfOk result (λ colours. length colours.items ≡ length schedule.now.ops) }
     ensures each { IfOk result (λ colours. (k : ℕ) → k < length schedule.now.ops
-        → slice_index colours.items k ≡ first_there schedule.now.ops schedule.now.rows k) }
+        → slice_index colours.items k ≡ first_there labels.now schedule.now.ops schedule.now.rows k) }
 {
     let ops = schedule.ops();
     let mut places = Places::none();
     let mut colours = vec![in alloc; 0; ops.len()]?;
     for row in schedule.rows() {
-        places.colour_slot(&mut colours, ops, row.zero);
-        places.colour_slot(&mut colours, ops, row.one);
+        places.colour_slot(labels, &mut colours, ops, row.zero);
+        places.colour_slot(labels, &mut colours, ops, row.one);
         places.note_slot(ops, row.zero);
         places.note_slot(ops, row.one);
     }
@@ -140,10 +130,11 @@ pub(crate) fn coloured(alloc: Global, sides: &Sides) -> Result<Option<Coloured>,
     requires givens { length sides.now.givens.now ≡ length sides.now.block.now }
     requires readings { length sides.now.readings.now ≡ length sides.now.schedule.now.ops }
     ensures { IfOk result (λ found. (lat : Latencies) → AreSides lat sides.now.block.now sides.now.givens.now
-        sides.now.schedule.now sides.now.readings.now → IfNone found (IsExcluded lat sides.now.block.now
-        sides.now.schedule.now.ops sides.now.schedule.now.rows)) }
+        sides.now.schedule.now sides.now.readings.now → AreKeptColours lat sides.now.block.now
+        sides.now.schedule.now.ops sides.now.schedule.now.rows found) }
 {
-    let here = first_here(alloc, sides.block)?;
-    let there = first_there(alloc, sides.schedule)?;
+    let labels = ByLabel::of(alloc, sides.block)?;
+    let here = first_here(alloc, &labels, sides.block)?;
+    let there = first_there(alloc, &labels, sides.schedule)?;
     kept_colours(alloc, sides, here, there)
 }

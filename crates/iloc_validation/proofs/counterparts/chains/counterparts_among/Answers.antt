@@ -4,7 +4,8 @@ use Rattle.std.proofs.lemmas.List.{get_or_default, length_push}
 use Rattle.iloc_ops.specs.declared.op.Op.{Op}
 use Rattle.iloc_ops.specs.declared.op.Op.TheVariants.{Nop}
 use Rattle.iloc_meaning.specs.Trace.{op_at}
-use Rattle.iloc_validation.specs.Steps.Counterparts.{first_like, noted_at, SetsLike, IsCounterpart}
+use Rattle.iloc_validation.specs.Steps.ByLabel.{number_like, SetsLike}
+use Rattle.iloc_validation.specs.Steps.Counterparts.{noted_at, IsCounterpart}
 use Rattle.iloc_validation.proofs.GivenSources.{push_more}
 use Rattle.iloc_validation.proofs.NthLike.{taken}
 use Rattle.iloc_validation.proofs.counterparts.chains.counterparts_among.Goals as goal
@@ -25,8 +26,8 @@ loop-op-preserved c =
     let within = c.loop-op-test.true in
     let counterpart = c.in_ok-counterpart.counterpart in
     let same : (d : Op) → get_or ops i d ≡ op_at ops i = λ d. get_or_default ops i d Nop within in
-    let first : counterpart ≡ first_like c.loop-op.chains.waiting (op_at ops i) =
-    c.in_ok-counterpart.ensures.first ∙ ap (first_like c.loop-op.chains.waiting) (same _) in
+    let first : counterpart ≡ number_like c.loop-op.chains.waiting (op_at ops i) =
+    c.in_ok-counterpart.ensures.first ∙ ap (number_like c.loop-op.chains.waiting) (same _) in
     record {
       size = ap length c.in_ok-push.ensures.items ∙ length_push c.loop-op.counterparts.items counterpart
           ∙ ap (λ n. n + 1) c.loop-op.invariant.size;

@@ -31,7 +31,7 @@ loop-row-preserved c =
     record {
       noted = row_coloured schedule.ops schedule.rows c.ops-ops.ensures.table c.loop-row.row-index c.ops-ops.result.now
           c.rows-row-items.result.now c.loop-row.places c.ops-ops.ensures.ops c.rows-row-items.ensures.rows
-          c.loop-row.invariant.places c.loop-row.colours.items c.colour_slot.new.colours.items
+          c.loop-row.invariant.places c.args.labels.now c.loop-row.colours.items c.colour_slot.new.colours.items
           c.colour_slot-in-loop-row.new.colours.items c.loop-row.invariant.noted c.colour_slot.ensures
           c.colour_slot-in-loop-row.ensures;
       places = row_placed schedule.ops schedule.rows c.ops-ops.ensures.table c.loop-row.row-index c.ops-ops.result.now
@@ -44,5 +44,5 @@ pub returns-clause-each : goal.returns-clause-each
 returns-clause-each c =
     let past : length c.args.schedule.now.rows ≤ c.loop-row.row-index = rw c.rows-row-items.ensures.rows at c.loop-row-test.false in
     all_noted c.args.schedule.now.ops c.args.schedule.now.rows c.ops-ops.ensures.table
-    (first_there c.args.schedule.now.ops c.args.schedule.now.rows) c.loop-row.row-index c.loop-row.colours.items past
+    (first_there c.args.labels.now c.args.schedule.now.ops c.args.schedule.now.rows) c.loop-row.row-index c.loop-row.colours.items past
     c.loop-row.invariant.noted

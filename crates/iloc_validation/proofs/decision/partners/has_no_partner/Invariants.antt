@@ -1,0 +1,7 @@
+use Rattle.std.proofs.Common.{◌<◌, ℕ}
+use Rattle.iloc_validation.specs.Steps.Colours.{IsNoPair}
+use Rattle.iloc_validation.proofs.decision.partners.has_no_partner.Given as goal
+
+abbrev pub invariant-loop-k : goal.invariant-loop-k
+invariant-loop-k l = (j : ℕ) → j < l.k → IsNoPair l.sides.block.now l.sides.givens.now l.sides.schedule.now
+    l.sides.readings.now l.colours.here.items l.colours.there.items l.fn.i j
