@@ -15,7 +15,7 @@ use Rattle.iloc_args.specs.Priority.{priority_word}
 use Rattle.iloc_args.specs.declared.request.Request.{Request}
 use Rattle.iloc_block_commands.specs.declared.compare.ComparedCycles.{ComparedCycles}
 use Rattle.iloc_driver.specs.Entries.{IsListingAfter}
-use Rattle.iloc_driver.specs.Listing.{field, head_as, opening_as}
+use Rattle.iloc_driver.specs.Listing.{entries, field, head_as, opening_as}
 use Rattle.iloc_driver.specs.Schedules.{IsCount}
 use Rattle.iloc_driver.specs.Command.{Command, Shared, of_files}
 use Rattle.iloc_block_commands.specs.Optimize.{IsSoughtIf}

@@ -1,10 +1,10 @@
 -- `counts` lists how many cycles each block's schedule takes.
-use Rattle.std.specs.Prelude.{◌≡◌, ℕ, Bool, true, false, List, [], codes}
+use Rattle.std.specs.Prelude.{◌≡◌, ◌++◌, ℕ, Bool, true, false, List, [], codes}
 use Rattle.iloc_ops.specs.declared.file.Block.{Block}
 use Rattle.iloc_timed.specs.Schedule.{Table}
 use Rattle.iloc_args.specs.declared.request.Request.{Request}
 use Rattle.iloc_driver.specs.Entries.{IsListingAfter}
-use Rattle.iloc_driver.specs.Listing.{count_line, cycles_of, opening_as, total_of_all}
+use Rattle.iloc_driver.specs.Listing.{count_line, cycles_of, entries, opening_as, total_of_all}
 use Rattle.iloc_driver.specs.Schedules.{IsCount, IsTheGreedy}
 use Rattle.iloc_driver.specs.Command.{Command, Shared, of_files}
 
