@@ -35,10 +35,11 @@ def reason_of(it):
         "unread": "line {line}, row {row}: {problem}", "units": "row {row}: {text}: {rule}", "undecided": "undecided",
         "under_way": "{op} while {other} is under way to row {due}", "brings": "{op} reads r{register}, which {other} brings in row {due}",
         "replaced": "{op} reads r{register} of {other}, no longer of {lost}", "never_read": "{op}, whose result is never read",
-        "order": "{op} {order} {other}", "for": "{op} for {wanted}", "like_none": "{op} like none of the block", "see": "see {op}"}
+        "order": "{op} {order} {other}", "for": "{op} for operation {number}: {wanted}", "like_none": "{op} like none of the block", "see": "see {op}"}
     named = {name: f"row {it[row]}: {it[op]}" for name, row, op in (
         ("op", "row", "operation"), ("other", "other_row", "other_operation"), ("lost", "lost_row", "lost_operation")) if it.get(op)}
-    order = "before" if it.get("row", 0) < it.get("other_row", 0) else "after"
+    rows = it.get("row", 0), it.get("other_row", 0)
+    order = "before" if rows[0] < rows[1] else "after" if rows[0] > rows[1] else "not after"
     return forms[it["kind"]].format(**{"lost": "the start", "order": order, **it, **named})
 
 

@@ -1,6 +1,7 @@
 """Whether rows are a schedule of a block by the book: each operation reads what it reads in the block, and no delay by memory
 or outputs is broken. Operations are paired by a plain search among those that are used alike. And whether what is said of other
 rows is so."""
+import operator
 import re
 from collections import Counter
 
@@ -114,7 +115,8 @@ class Reasons:
         self.added = lacking([op for _, op in self.issued], self.ops)
 
     def are(self, lines):
-        """Whether these lines say so: what is left out and added first, then facts by row, eight of them before `and N more`."""
+        """Whether these lines say so: what is left out and added first, then facts by row, eight of them before `and N more`; those
+        that name an operation of the block come last."""
         counts = [found for line in lines if (found := COUNTS.fullmatch(line))]
         facts = lines[len(counts):]
         wanted = ["left out"] * bool(self.left_out) + ["added"] * bool(self.added)
@@ -124,7 +126,7 @@ class Reasons:
             facts.pop()
             if len(facts) != MOST_FACTS:
                 return False
-        rows = [int(re.search(r"row (\d+)", line)[1]) for line in facts]
+        rows = [(" for operation " in line, int(re.search(r"row (\d+)", line)[1])) for line in facts]
         return len(facts) <= MOST_FACTS and rows == sorted(rows) and all(map(self.is_fact, facts))
 
     def are_counted(self, found):
@@ -161,13 +163,20 @@ class Reasons:
     def is_never_read(self, k):
         return bool(self.issued[k][1].defined) and not any(k in read for read in self.read)
 
-    def are_in_order(self, k, side, row, op):
+    def aren_t_in_order(self, k, side, row, op):
+        """Whether the rows have these on those sides, and the block has two that differ from them in registers alone on others."""
         return any({it.kind for it in (self.issued[k][1], self.issued[n][1])} in KEPT_IN_ORDER
-                   and (self.issued[k][0] < int(row) if side == "before" else self.issued[k][0] > int(row))
+                   and SIDES[side](self.issued[k][0], int(row)) and self.has_others(self.issued[k][1], self.issued[n][1], side)
                    for n in self.numbers(row, op))
 
-    def stands_for(self, k, op):
-        return any(str(it) == op and label(it) == label(self.issued[k][1]) for it in self.ops)
+    def has_others(self, one, other, side):
+        """Whether the block has two of these labels of which the first comes later, or sooner if in the rows it comes `after`."""
+        here, there = ([i for i, it in enumerate(self.ops) if label(it) == label(op)] for op in (one, other))
+        return any(i < o if side == "after" else o < i for i in here for o in there)
+
+    def stands_for(self, k, number, op):
+        it = self.ops[int(number)]
+        return str(it) == op and label(it) == label(self.issued[k][1])
 
     def is_like_none(self, k):
         """Whether no operation of the block has its label and reads what it reads, and so on."""
@@ -189,13 +198,14 @@ def terms(ops, sources):
 NUMBERS = {}
 MOST_FACTS = 8
 KEPT_IN_ORDER = ({"load", "store"}, {"store"}, {"output", "store"}, {"output"})
+SIDES = {"before": operator.lt, "after": operator.gt, "not after": operator.eq}
 FACTS = {re.compile(form.replace("ISSUE", r"row (\d+): ([^:]*?)")): holds for form, holds in {
     r"ISSUE while ISSUE is under way to row (\d+)": Reasons.is_under_way,
     r"ISSUE reads r(\d+), which ISSUE brings in row (\d+)": Reasons.brings,
     r"ISSUE reads r(\d+) of ISSUE, no longer of (?:the start|ISSUE)": Reasons.replaces,
     r"ISSUE, whose result is never read": Reasons.is_never_read,
-    r"ISSUE (before|after) ISSUE": Reasons.are_in_order,
-    r"ISSUE for ([^:]*)": Reasons.stands_for,
+    r"ISSUE (before|after|not after) ISSUE": Reasons.aren_t_in_order,
+    r"ISSUE for operation (\d+): ([^:]*)": Reasons.stands_for,
     r"ISSUE like none of the block": Reasons.is_like_none,
     r"see ISSUE": Reasons.is_there,
 }.items()}

@@ -201,6 +201,7 @@ const FOR: Case = (
             cycle: 1,
             op: EXCHANGED,
         },
+        number: 2,
         op: Op::Sub {
             left: Reg(1),
             right: Reg(2),

@@ -1,6 +1,6 @@
 -- Facts of rows: each says of operations where they are issued and what they read, so that it is seen that the rows aren't
 -- issued as their block asks for.
-use Rattle.std.specs.Prelude.{ℕ, zero, suc, ◌≡◌, ◌≢◌, ◌<◌, ◌≤◌, ◌||◌, List, [], ◌∷◌, length, map, Option, Some, None, Contains, IsTrue}
+use Rattle.std.specs.Prelude.{ℕ, zero, suc, ◌≡◌, ◌≢◌, ◌<◌, ◌≤◌, ◌||◌, ◌⊎◌, List, [], ◌∷◌, length, map, Option, Some, None, Contains, IsTrue}
 use Rattle.iloc_ops.specs.declared.op.Reg.{Reg}
 use Rattle.iloc_ops.specs.declared.op.Op.{Op}
 use Rattle.iloc_ops.specs.Registers.{used, defined}
@@ -71,21 +71,34 @@ pub record IsNeverRead (lat : Latencies) (ops : List Op) (rows : List Row) (issu
   pub by_none : (k : ℕ) → k < length ops → (r : Reg) → Contains (used (op_at ops k)) r
       → read lat ops rows (issue_cycle rows k) r ≢ Some j
 
--- two operations of which memory or outputs fix the order are issued in different rows
-pub record IsOrdered (ops : List Op) (rows : List Row) (issue other : Issue) : Type 0 where
-  pub k : ℕ
-  pub o : ℕ
-  pub here : IsIssued ops rows k issue
-  pub there : IsIssued ops rows o other
-  pub fixed : IsTrue (keeps_order (kind issue.op) (kind other.op) || keeps_order (kind other.op) (kind issue.op))
-  pub apart : issue.cycle ≢ other.cycle
+-- operation i of the block differs from one in registers alone
+abbrev pub HasLabel : List Op → ℕ → Op → Type 0
+HasLabel block i op = (i < length block) × (label (op_at block i) ≡ label op)
 
--- an operation has the label of one of the block
-pub record IsFor (block ops : List Op) (rows : List Row) (issue : Issue) (op : Op) : Type 0 where
+-- operations i and o of the block aren't in the order of those that are issued in cycles c and d: the one in c is to come
+-- later, or else before
+abbrev pub AreAgainst : ℕ → ℕ → ℕ → ℕ → Type 0
+AreAgainst i o c d = ((o < i) × (c ≤ d)) ⊎ ((i < o) × (d < c))
+
+-- two operations of which memory or outputs fix the order aren't in the order that two of their labels have in the block
+pub record IsOrdered (block ops : List Op) (rows : List Row) (issue other : Issue) : Type 0 where
+  pub k : ℕ
+  pub j : ℕ
+  pub here : IsIssued ops rows k issue
+  pub there : IsIssued ops rows j other
+  pub fixed : IsTrue (keeps_order (kind issue.op) (kind other.op) || keeps_order (kind other.op) (kind issue.op))
+  pub i : ℕ
+  pub o : ℕ
+  pub own : HasLabel block i issue.op
+  pub others : HasLabel block o other.op
+  pub against : AreAgainst i o issue.cycle other.cycle
+
+-- an operation has the label of this one of the block
+pub record IsFor (block ops : List Op) (rows : List Row) (issue : Issue) (number : ℕ) (op : Op) : Type 0 where
   pub k : ℕ
   pub here : IsIssued ops rows k issue
-  pub there : Contains block op
-  pub alike : label issue.op ≡ label op
+  pub there : HasLabel block number issue.op
+  pub is : op ≡ op_at block number
 
 -- Alike operations
 
@@ -123,7 +136,7 @@ IsFact lat block ops rows (UnderWay issue store due) = IsWhileUnderWay lat ops r
 IsFact lat block ops rows (Brings issue register late due) = IsBroughtLater lat ops rows issue register late due
 IsFact lat block ops rows (Replaced issue register from lost) = IsReplaced lat ops rows issue register from lost
 IsFact lat block ops rows (NeverRead issue) = IsNeverRead lat ops rows issue
-IsFact lat block ops rows (Order issue other) = IsOrdered ops rows issue other
-IsFact lat block ops rows (For issue op) = IsFor block ops rows issue op
+IsFact lat block ops rows (Order issue other) = IsOrdered block ops rows issue other
+IsFact lat block ops rows (For issue number op) = IsFor block ops rows issue number op
 IsFact lat block ops rows (LikeNone issue) = IsLikeNone lat block ops rows issue
 IsFact lat block ops rows (See issue) = (k : ℕ) × IsIssued ops rows k issue

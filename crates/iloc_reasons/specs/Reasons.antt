@@ -1,5 +1,5 @@
 -- What is said of rows that aren't issued as their block asks for.
-use Rattle.std.specs.Prelude.{◌≤◌, List, length, All}
+use Rattle.std.specs.Prelude.{◌≡◌, ◌<◌, ◌≤◌, List, length, All, None}
 use Rattle.iloc_ops.specs.declared.op.Op.{Op}
 use Rattle.iloc_timed.specs.declared.latencies.Latencies.{Latencies}
 use Rattle.iloc_timed.specs.declared.row.Row.{Row}
@@ -7,9 +7,12 @@ use Rattle.iloc_validation.specs.Lawfulness.{AreLeftOut, AreAdded}
 use Rattle.iloc_reasons.specs.declared.reasons.Reasons.{Reasons}
 use Rattle.iloc_reasons.specs.Facts.{IsFact}
 
--- what is left out and added is, and each line is a fact; there are at most eight
+-- what is left out and added is, and each line is a fact; there are at most eight, and more only then; of rows that issue
+-- something there is one, unless operations are left out or added
 pub record AreReasons (lat : Latencies) (block ops : List Op) (rows : List Row) (reasons : Reasons) : Type 0 where
   pub left_out : AreLeftOut block ops reasons.left_out
   pub added : AreAdded block ops rows reasons.added
   pub facts : All (IsFact lat block ops rows) reasons.facts.items
   pub few : length reasons.facts.items ≤ 8
+  pub more : length reasons.facts.items < 8 → reasons.more ≡ 0
+  pub said : reasons.left_out ≡ None → reasons.added ≡ None → 0 < length ops → 0 < length reasons.facts.items

@@ -8,10 +8,12 @@ mod counts;
 mod doubts;
 pub(crate) mod graph;
 mod guesses;
+mod known;
 mod lines;
 mod missing;
+mod orders;
 mod side;
-mod standing_out;
+pub(crate) mod standing_out;
 mod strays;
 mod walk;
 
@@ -19,14 +21,12 @@ use self::counts::Counts;
 use self::graph::Graph;
 use self::lines::Lines;
 use self::missing::Missing;
-use self::side::{Side, effects, matched};
-use self::standing_out::odd;
+use self::side::{Side, effects, paired};
 use self::strays::Strays;
 use self::walk::Walk;
-use crate::claim::{Claim, What};
+use crate::claim::Claim;
 use crate::sides::Sides;
 use iloc_ops::NoMemory;
-use iloc_timed::Kind;
 use std::alloc::Global;
 use std::collections::BTreeMap;
 
@@ -35,6 +35,8 @@ use std::collections::BTreeMap;
 pub(crate) struct Choice {
     /// In the order in which it is listed.
     pub claims: Vec<Claim>,
+    /// Of operations that stand for ones of the block which are spelled alike.
+    pub own: Vec<Claim>,
     /// The operation of the block that is named as left out.
     pub left_out: Option<usize>,
     /// The operation of the rows that is named as added.
@@ -52,17 +54,6 @@ fn short(alloc: Global, graph: &Graph, others: &Graph) -> Result<Vec<bool>, NoMe
     Ok(are)
 }
 
-/// The operations of a kind, as they are issued.
-fn of_kind(alloc: Global, graph: &Graph, kind: Kind) -> Result<Vec<usize>, NoMemory> {
-    let mut found = Vec::new(alloc);
-    for k in &graph.issued {
-        if graph.kind(*k) == kind {
-            found.push(*k)?;
-        }
-    }
-    Ok(found)
-}
-
 /// A walk through the rows that has yet to begin.
 fn begun<'a>(
     alloc: Global,
@@ -71,21 +62,22 @@ fn begun<'a>(
     rows: &'a Side<'a>,
     read: &'a BTreeMap<usize, usize>,
 ) -> Result<Walk<'a>, NoMemory> {
-    let short = short(alloc, &block.graph, &rows.graph)?;
-    let counterparts = matched(alloc, rows, block)?;
+    let short = short(alloc, block.graph, rows.graph)?;
+    let counterparts = paired(alloc, rows, block)?;
+    let count = rows.terms.len();
     Ok(Walk {
         alloc,
         sides,
         block,
         rows,
-        missing: Missing::of(alloc, block, short, &matched(alloc, block, rows)?)?,
-        definers: Lines::new(alloc, rows.terms.len())?,
+        missing: Missing::of(alloc, block, short, &counterparts)?,
+        definers: Lines::new(alloc, count)?,
         meant: Vec::from_slice(alloc, &rows.terms)?,
-        strays: Strays::none(alloc, &rows.graph, &counterparts, read)?,
+        strays: Strays::none(alloc, rows.graph, &counterparts, read)?,
         counterparts,
+        partners: vec![in alloc; None; count]?,
         store: None,
-        stores: of_kind(alloc, &rows.graph, Kind::Store)?,
-        outputs: of_kind(alloc, &rows.graph, Kind::Output)?,
+        moved: Vec::new(alloc),
         claims: Vec::new(alloc),
         doubts: Vec::new(alloc),
         unlike: None,
@@ -96,22 +88,16 @@ fn begun<'a>(
 pub(crate) fn chosen(
     alloc: Global,
     sides: &Sides,
-    here: Graph,
-    there: Graph,
+    here: &Graph,
+    there: &Graph,
     read: &BTreeMap<usize, usize>,
 ) -> Result<Choice, NoMemory> {
-    let places_count = effects(&here) == effects(&there);
+    let places_count = effects(here) == effects(there);
     let block = Side::of(alloc, here, places_count)?;
     let rows = Side::of(alloc, there, places_count)?;
     let mut walk = begun(alloc, sides, &block, &rows, read)?;
     for row in sides.schedule.rows() {
         walk.pass(row)?;
     }
-    let mut choice = walk.into_choice()?;
-    if choice.claims.is_empty() {
-        for k in odd(alloc, &block.graph, &rows.graph)? {
-            choice.claims.push(Claim { k, what: What::See })?;
-        }
-    }
-    Ok(choice)
+    walk.into_choice()
 }

@@ -3,7 +3,7 @@ ghost use Rattle.std.specs.Prelude.{◌≡◌, ◌<◌, ◌⊎◌, true, Some, I
 ghost use Rattle.iloc_ops.specs.Registers.{used};
 ghost use Rattle.iloc_timed.specs.declared.kind.Kind.TheVariants as kinds;
 ghost use Rattle.iloc_rules.specs.Delays.{keeps_order};
-ghost use Rattle.iloc_reasons.specs.Facts.{IsFact, HasBeenThere};
+ghost use Rattle.iloc_reasons.specs.Facts.{AreAgainst, HasBeenThere, HasLabel, IsFact};
 ghost use Rattle.iloc_reasons.specs.Steps.Likeness.{TellApart};
 ghost use Rattle.iloc_reasons.specs.Steps.Sides.{AreNoted, AreRead, source_at};
 
@@ -34,8 +34,8 @@ pub(crate) enum What {
     ReadsOver { place: usize, lost: Option<usize> },
     /// Its result is never read.
     NeverRead,
-    /// It is on the wrong side of this one.
-    Beside { other: usize },
+    /// It is on the wrong side of this one: the block has them, by these numbers, in the other order.
+    Beside { other: usize, i: usize, o: usize },
     /// It stands for this one of the block.
     For { op: usize },
     /// None of the block is like it.
@@ -187,8 +187,29 @@ fn never_read(sides: &Sides, read: &BTreeMap<usize, usize>, j: usize) -> Option<
     Some(Fact::NeverRead { issue })
 }
 
-/// Memory or outputs fix in which order operation k and another one come.
-fn ordered(sides: &Sides, k: usize, other: usize) -> Option<Fact>
+/// Whether the block's operation of a number differs from one in registers alone.
+fn has_label(block: &[Op], i: usize, op: &Op) -> bool
+    ensures { result ≡ true → HasLabel block.now i op.now }
+{
+    match block.get(i) {
+        Some(other) => have_one_label(other, op),
+        None => false,
+    }
+}
+
+/// Whether operations of the block, by their numbers, aren't in the order of those that are issued in these cycles.
+fn are_against(i: usize, o: usize, cycle: usize, other: usize) -> bool
+    ensures { result ≡ true → AreAgainst i o cycle other }
+{
+    if o < i {
+        return cycle <= other;
+    }
+    i < o && other < cycle
+}
+
+/// Memory or outputs fix in which order operation k and another one come, and the block has operations that differ from them
+/// in registers alone, by these numbers, in the other order.
+fn ordered(sides: &Sides, k: usize, other: usize, i: usize, o: usize) -> Option<Fact>
     requires { AreRead sides.now.latencies.now sides.now.schedule.now.ops sides.now.schedule.now.rows sides.now.readings.now }
     ensures { IfSome result (IsFact sides.now.latencies.now sides.now.block.now sides.now.schedule.now.ops
         sides.now.schedule.now.rows) }
@@ -197,7 +218,11 @@ fn ordered(sides: &Sides, k: usize, other: usize) -> Option<Fact>
     let it = sides.issue(other)?;
     let one = Kind::of(&issue.op);
     let two = Kind::of(&it.op);
-    if (keep_order(one, two) || keep_order(two, one)) && issue.cycle != it.cycle {
+    if (keep_order(one, two) || keep_order(two, one))
+        && has_label(sides.block, i, &issue.op)
+        && has_label(sides.block, o, &it.op)
+        && are_against(i, o, issue.cycle, it.cycle)
+    {
         return Some(Fact::Order { issue, other: it });
     }
     None
@@ -212,7 +237,11 @@ fn stands_for(sides: &Sides, k: usize, i: usize) -> Option<Fact>
     let issue = sides.issue(k)?;
     let op = sides.block.get(i)?;
     if have_one_label(&issue.op, op) {
-        return Some(Fact::For { issue, op: *op });
+        return Some(Fact::For {
+            issue,
+            number: i,
+            op: *op,
+        });
     }
     None
 }
@@ -253,7 +282,7 @@ impl Claim {
             What::ReadsBefore { place, late } => brings(sides, k, place, late),
             What::ReadsOver { place, lost } => replaced(sides, k, place, lost),
             What::NeverRead => never_read(sides, read, k),
-            What::Beside { other } => ordered(sides, k, other),
+            What::Beside { other, i, o } => ordered(sides, k, other, i, o),
             What::For { op } => stands_for(sides, k, op),
             What::LikeNone => like_none(sides, terms, k),
             What::See => match sides.issue(k) {

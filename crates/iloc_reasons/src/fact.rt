@@ -31,14 +31,16 @@ pub enum Fact {
     NeverRead {
         issue: Issue,
     },
-    /// An operation is issued before or after another one that memory or outputs keep in order with it.
+    /// An operation is issued before another one, or after it, that memory or outputs keep in order with it, and the block
+    /// has such operations in the other order; or in its row, though it has to come behind it.
     Order {
         issue: Issue,
         other: Issue,
     },
-    /// An operation stands for one of the block that differs from it in registers alone.
+    /// An operation stands for the one of the block of this number, which differs from it in registers alone.
     For {
         issue: Issue,
+        number: usize,
         op: Op,
     },
     /// No operation of the block computes what this one does.

@@ -175,8 +175,8 @@ block 3 C same cycles 15 ours 15 least 15
   row 0: loadI 1028 => r1 like none of the block
   row 1: load r1 => r1 like none of the block
   row 6: loadI 1032 => r2 like none of the block
-  row 6: mult r1, r1 => r1 for mult r2, r2 => r3
   row 9: store r1 => r2 like none of the block
+  row 6: mult r1, r1 => r1 for operation 2: mult r2, r2 => r3
 block 4 D differs cycles 1 ours 15 least 15
   output 1: 0 for 81
   left out 4: loadI 1024 => r1

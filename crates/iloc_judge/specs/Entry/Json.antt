@@ -186,8 +186,9 @@ replaced_members issue register from lost = reads_members (codes "replaced") iss
 abbrev pub order_members : Issue → Issue → List ℕ
 order_members issue other = reason_head (codes "order") issue ++ other_members other
 
-abbrev pub for_members : Issue → Op → List ℕ
-for_members issue op = reason_head (codes "for") issue ++ op_member (codes "wanted") op
+abbrev pub for_members : Issue → ℕ → Op → List ℕ
+for_members issue number op =
+    reason_head (codes "for") issue ++ number_member (codes "number") number ++ op_member (codes "wanted") op
 
 abbrev pub fact_members : Fact → List ℕ
 fact_members (UnderWay issue store due) = under_way_members issue store due
@@ -195,7 +196,7 @@ fact_members (Brings issue register late due) = brings_members issue register la
 fact_members (Replaced issue register from lost) = replaced_members issue register from lost
 fact_members (NeverRead issue) = reason_head (codes "never_read") issue
 fact_members (Order issue other) = order_members issue other
-fact_members (For issue op) = for_members issue op
+fact_members (For issue number op) = for_members issue number op
 fact_members (LikeNone issue) = reason_head (codes "like_none") issue
 fact_members (See issue) = reason_head (codes "see") issue
 

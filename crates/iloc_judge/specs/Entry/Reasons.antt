@@ -51,7 +51,8 @@ replaced_told issue register from lost =
     reads_told issue register ++ codes " of " ++ issue_told from ++ codes ", no longer " ++ lost_told lost
 
 abbrev pub before_or_after : Issue → Issue → List ℕ
-before_or_after issue other = if nat_lt issue.cycle other.cycle then codes " before " else codes " after "
+before_or_after issue other = if nat_lt issue.cycle other.cycle then codes " before "
+    else if nat_lt other.cycle issue.cycle then codes " after " else codes " not after "
 
 -- a fact, in the words of its line
 abbrev pub fact_words : Fact → List ℕ
@@ -60,7 +61,7 @@ fact_words (Brings issue register late due) = brings_told issue register late du
 fact_words (Replaced issue register from lost) = replaced_told issue register from lost
 fact_words (NeverRead issue) = issue_told issue ++ codes ", whose result is never read"
 fact_words (Order issue other) = issue_told issue ++ before_or_after issue other ++ issue_told other
-fact_words (For issue op) = issue_told issue ++ codes " for " ++ spelling op
+fact_words (For issue number op) = issue_told issue ++ numbered (codes " for operation ") number ++ spelling op
 fact_words (LikeNone issue) = issue_told issue ++ codes " like none of the block"
 fact_words (See issue) = codes "see " ++ issue_told issue
 

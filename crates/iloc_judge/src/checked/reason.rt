@@ -120,14 +120,16 @@ fn push_replaced(
     push_lost(text, lost)
 }
 
-/// Whether an operation is issued before another one, in a word.
+/// Whether an operation is issued before another one, or not after it, in words.
 fn before_or_after(issue: Issue, other: Issue) -> &'static [u8]
     ensures { result.now ≡ told.before_or_after issue other }
 {
     if issue.cycle < other.cycle {
         b" before "
-    } else {
+    } else if other.cycle < issue.cycle {
         b" after "
+    } else {
+        b" not after "
     }
 }
 
@@ -158,9 +160,9 @@ fn push_fact_words(text: &mut Vec<u8>, fact: &Fact) -> Result<(), NoMemory>
             text.extend_from_slice(before_or_after(issue, other))?;
             push_issue(text, other)
         }
-        Fact::For { issue, op } => {
+        Fact::For { issue, number, op } => {
             push_issue(text, issue)?;
-            text.extend_from_slice(b" for ")?;
+            push_numbered(text, " for operation ", number as u64)?;
             push_op(text, &op)
         }
         Fact::LikeNone { issue } => {

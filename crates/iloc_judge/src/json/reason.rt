@@ -106,10 +106,11 @@ fn push_order(text: &mut Vec<u8>, issue: Issue, other: Issue) -> Result<(), NoMe
 }
 
 /// Appends that an operation stands for one of the block.
-fn push_for(text: &mut Vec<u8>, issue: Issue, op: Op) -> Result<(), NoMemory>
-    ensures { OnOk result (text.new.items ≡ text.old.items ++ json.for_members issue op) }
+fn push_for(text: &mut Vec<u8>, issue: Issue, number: usize, op: Op) -> Result<(), NoMemory>
+    ensures { OnOk result (text.new.items ≡ text.old.items ++ json.for_members issue number op) }
 {
     push_reason_head(text, "for", issue)?;
+    push_number_member(text, "number", number as u64)?;
     push_op_member(text, "wanted", &op)
 }
 
@@ -133,7 +134,7 @@ fn push_fact_members(text: &mut Vec<u8>, fact: &Fact) -> Result<(), NoMemory>
         } => push_replaced(text, issue, register, from, lost),
         Fact::NeverRead { issue } => push_reason_head(text, "never_read", issue),
         Fact::Order { issue, other } => push_order(text, issue, other),
-        Fact::For { issue, op } => push_for(text, issue, op),
+        Fact::For { issue, number, op } => push_for(text, issue, number, op),
         Fact::LikeNone { issue } => push_reason_head(text, "like_none", issue),
         Fact::See { issue } => push_reason_head(text, "see", issue),
     }

@@ -38,14 +38,4 @@ impl Counts {
         self.counts.insert(number, count)?;
         Ok(())
     }
-
-    /// One less of a number; whether there was one.
-    pub(crate) fn take(&mut self, number: u64) -> Result<bool, NoMemory> {
-        let count = self.get(number);
-        if count == 0 {
-            return Ok(false);
-        }
-        self.counts.insert(number, count.saturating_sub(1))?;
-        Ok(true)
-    }
 }

@@ -1,9 +1,10 @@
-//! Operations that read a register which nothing brings, while others read what was wanted there: of these it is said, if they
-//! are found to read it wrongly.
+//! Operations that read a register in which nothing brings what they are meant to read, while another register gets it: whether
+//! they are at fault, or what brings it.
 
-use super::graph::Graph;
+use super::graph::put;
+use super::known::Known;
 use crate::claim::{Claim, What, source_at};
-use iloc_ops::NoMemory;
+use iloc_ops::{NoMemory, Reg, defines, uses};
 use std::alloc::Global;
 use std::collections::BTreeMap;
 
@@ -14,28 +15,31 @@ pub(crate) enum Cause {
     Said(Claim),
     /// That this operation brings it elsewhere, where others read it.
     Elsewhere(usize),
+    /// That this one does, in a register of others, and nobody reads it.
+    Astray(usize),
 }
 
 /// Why an operation reads otherwise than it is meant to, left to right.
 pub(crate) type Causes = (Option<Cause>, Option<Cause>);
 
-/// What is claimed unless others are found to read wrongly what this operation brings.
+/// What is claimed of an operation unless what it is meant to read at a place is brought elsewhere.
 #[derive(Clone, Copy)]
 pub(crate) struct Doubt {
     pub claim: Claim,
-    pub brought: usize,
+    pub place: usize,
+    pub cause: Cause,
 }
 
 /// The operations whose results are claimed to be read in place of others.
 fn misread(
     alloc: Global,
-    rows: &Graph,
+    known: &Known,
     claims: &[Claim],
 ) -> Result<BTreeMap<usize, usize>, NoMemory> {
     let mut found = BTreeMap::new(alloc);
     for claim in claims {
         if let What::ReadsOver { place, .. } = claim.what
-            && let Some(j) = source_at(rows.sources(claim.k), place)
+            && let Some(j) = source_at(known.rows.graph.sources(claim.k), place)
         {
             found.insert(j, claim.k)?;
         }
@@ -43,18 +47,142 @@ fn misread(
     Ok(found)
 }
 
-/// What is claimed of which there is no doubt, beside other claims.
+/// Until when what registers hold is read rightly, and stays.
+#[derive(Drop)]
+struct Lives {
+    // By operation the cycle behind the last in which its result is read rightly, and that in which another replaces it.
+    read: Vec<usize>,
+    replaced: Vec<usize>,
+    // By register the same of what it holds at the start.
+    at_start: BTreeMap<u32, usize>,
+}
+
+/// The register that operation k of the rows reads at a place.
+fn register_at(known: &Known, k: usize, place: usize) -> Option<Reg> {
+    let op = known.rows.graph.ops.get(k)?;
+    uses(op).get(place).copied()
+}
+
+/// By operation of the rows the cycle in which another result replaces its own.
+fn replaced(alloc: Global, known: &Known) -> Result<Vec<usize>, NoMemory> {
+    let ops = known.rows.graph.ops;
+    let mut arrivals = Vec::with_capacity(alloc, ops.len())?;
+    for (k, op) in ops.iter().enumerate() {
+        if let Some(register) = defines(op)
+            && let Some((_, due)) = known.sides.cycles(k)
+        {
+            arrivals.push((register.0, due, k))?;
+        }
+    }
+    arrivals.sort_unstable();
+    let mut found = vec![in alloc; usize::MAX; ops.len()]?;
+    let mut last: Option<(u32, usize)> = None;
+    for (register, due, k) in &arrivals {
+        if let Some((other, before)) = last
+            && other == *register
+        {
+            put(&mut found, before, *due);
+        }
+        last = Some((*register, *k));
+    }
+    Ok(found)
+}
+
+impl Lives {
+    fn none(alloc: Global, known: &Known) -> Result<Lives, NoMemory> {
+        Ok(Lives {
+            read: vec![in alloc; 0; known.partners.len()]?,
+            replaced: replaced(alloc, known)?,
+            at_start: BTreeMap::new(alloc),
+        })
+    }
+
+    /// Those of rows.
+    fn of(alloc: Global, known: &Known) -> Result<Lives, NoMemory> {
+        let mut lives = Lives::none(alloc, known)?;
+        for k in &known.rows.graph.issued {
+            for place in 0..2 {
+                if known.reads_rightly(*k, place) {
+                    lives.note(known, *k, place)?;
+                }
+            }
+        }
+        Ok(lives)
+    }
+
+    /// Operation k reads at a place what it is meant to; those that were noted are issued no later.
+    fn note(&mut self, known: &Known, k: usize, place: usize) -> Result<(), NoMemory> {
+        if let Some(register) = register_at(known, k, place)
+            && let Some(cycle) = known.issued(k)
+        {
+            let behind = cycle.saturating_add(1);
+            match source_at(known.rows.graph.sources(k), place) {
+                Some(j) => put(&mut self.read, j, behind),
+                None => {
+                    self.at_start.insert(register.0, behind)?;
+                }
+            }
+        }
+        Ok(())
+    }
+
+    /// Whether what operation k reads at a place is read rightly from a cycle on.
+    fn is_read(&self, known: &Known, k: usize, place: usize, cycle: usize) -> bool {
+        let behind = match source_at(known.rows.graph.sources(k), place) {
+            Some(j) => self.read.get(j).copied(),
+            None => match register_at(known, k, place) {
+                Some(register) => self.at_start.get(&register.0).copied(),
+                None => None,
+            },
+        };
+        behind.unwrap_or(0) > cycle
+    }
+
+    /// Whether the result of operation u is replaced when operation k is issued.
+    fn is_over(&self, known: &Known, u: usize, k: usize) -> bool {
+        let until = self.replaced.get(u).copied().unwrap_or(usize::MAX);
+        known.issued(k).is_some_and(|cycle| until <= cycle)
+    }
+}
+
+/// What is claimed of an operation that reads at a place something else than this one brings, in a register of others where
+/// nobody reads it. If its result would be in the way of others where it is wanted, the reader is at fault; if it is replaced
+/// before the reader, it is itself.
+fn astray(
+    known: &Known,
+    lives: &Lives,
+    doubt: &Doubt,
+    u: usize,
+    found: &mut Vec<Claim>,
+) -> Result<(), NoMemory> {
+    let k = doubt.claim.k;
+    let due = known.sides.cycles(u).map_or(0, |cycles| cycles.1);
+    let is_in_the_way = lives.is_read(known, k, doubt.place, due);
+    if !is_in_the_way {
+        let what = What::NeverRead;
+        found.push(Claim { k: u, what })?;
+    }
+    if is_in_the_way || !lives.is_over(known, u, k) {
+        found.push(doubt.claim)?;
+    }
+    Ok(())
+}
+
+/// What is claimed once it is known what all operations read.
 pub(crate) fn undoubted(
     alloc: Global,
-    rows: &Graph,
+    known: &Known,
     doubts: &[Doubt],
     claims: &[Claim],
 ) -> Result<Vec<Claim>, NoMemory> {
-    let misread = misread(alloc, rows, claims)?;
+    let misread = misread(alloc, known, claims)?;
+    let lives = Lives::of(alloc, known)?;
     let mut found = Vec::new(alloc);
     for doubt in doubts {
-        if misread.get(&doubt.brought).is_none() {
-            found.push(doubt.claim)?;
+        match doubt.cause {
+            Cause::Elsewhere(u) if misread.get(&u).is_none() => found.push(doubt.claim)?,
+            Cause::Astray(u) => astray(known, &lives, doubt, u, &mut found)?,
+            _ => {}
         }
     }
     Ok(found)

@@ -34,14 +34,20 @@ pub(crate) struct Missing {
 }
 
 impl Missing {
-    /// Those of the block that have no counterpart.
+    /// Those of the block that are none of the counterparts of operations of rows.
     pub(crate) fn of(
         alloc: Global,
         block: &Side,
         short: Vec<bool>,
-        counterparts: &[bool],
+        counterparts: &[Option<usize>],
     ) -> Result<Missing, NoMemory> {
         let count = block.terms.len();
+        let mut taken = vec![in alloc; false; count]?;
+        for counterpart in counterparts {
+            if let Some(i) = *counterpart {
+                put(&mut taken, i, true);
+            }
+        }
         let mut missing = Missing {
             free: vec![in alloc; false; count]?,
             short,
@@ -51,7 +57,7 @@ impl Missing {
             by_label: Lines::new(alloc, count)?,
         };
         for i in (0..count).rev() {
-            if !has(counterparts, i) {
+            if !has(&taken, i) {
                 missing.put_first(block, i)?;
             }
         }

@@ -1,7 +1,7 @@
 //! Which operations of a block have no counterpart in rows, by what they compute.
 
-use super::counts::Counts;
-use super::graph::Graph;
+use super::graph::{Graph, put};
+use super::lines::Lines;
 use crate::terms::{Values, at, mix};
 use iloc_ops::NoMemory;
 use iloc_timed::Kind;
@@ -10,7 +10,7 @@ use std::alloc::Global;
 /// The operations of one side, with numbers for what they compute and who reads them.
 #[derive(Drop)]
 pub(crate) struct Side<'a> {
-    pub graph: Graph<'a>,
+    pub graph: &'a Graph<'a>,
     /// By operation its place as a number, or 0 where places don't count.
     pub places: Vec<u64>,
     /// By operation a number for its label, its place, and the terms of what it reads.
@@ -23,7 +23,7 @@ impl<'a> Side<'a> {
     /// The numbers of one side, in which places count or don't.
     pub(crate) fn of(
         alloc: Global,
-        graph: Graph<'a>,
+        graph: &'a Graph<'a>,
         places_count: bool,
     ) -> Result<Side<'a>, NoMemory> {
         let mut places = Vec::with_capacity(alloc, graph.ops.len())?;
@@ -65,17 +65,27 @@ pub(crate) fn effects(graph: &Graph) -> u64 {
     sum
 }
 
-/// Which operations of a side have a counterpart of the same term and readers on the other.
-pub(crate) fn matched(alloc: Global, side: &Side, other: &Side) -> Result<Vec<bool>, NoMemory> {
-    let mut there = Counts::none(alloc);
-    for k in 0..other.terms.len() {
-        there.add(other.both(k))?;
+/// By operation of a side its counterpart of the same term and readers on the other.
+pub(crate) fn paired(
+    alloc: Global,
+    side: &Side,
+    other: &Side,
+) -> Result<Vec<Option<usize>>, NoMemory> {
+    let count = other.terms.len();
+    let mut there = Lines::new(alloc, count)?;
+    for i in (0..count).rev() {
+        there.put_first(other.both(i), i)?;
     }
-    let mut are = Vec::with_capacity(alloc, side.terms.len())?;
+    let mut free = vec![in alloc; true; count]?;
+    let mut pairs = Vec::with_capacity(alloc, side.terms.len())?;
     for k in 0..side.terms.len() {
-        are.push(there.take(side.both(k))?)?;
+        let found = there.first_free(side.both(k), &free)?;
+        if let Some(i) = found {
+            put(&mut free, i, false);
+        }
+        pairs.push(found)?;
     }
-    Ok(are)
+    Ok(pairs)
 }
 
 /// Whether there is such a place, and it holds.

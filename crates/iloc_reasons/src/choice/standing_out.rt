@@ -3,7 +3,7 @@
 use super::counts::Counts;
 use super::graph::{Graph, put};
 use super::side::has;
-use crate::claim::source_at;
+use crate::claim::{Claim, What, source_at};
 use crate::terms::mix;
 use iloc_ops::NoMemory;
 use std::alloc::Global;
@@ -71,25 +71,36 @@ fn told_apart(alloc: Global, block: &Graph, rows: &Graph) -> Result<Option<Vec<b
     Ok(Some(more_often(alloc, &here, &there)?))
 }
 
-/// Operations of the rows that stand out, and that none reads that does, in the order of issue.
-pub(crate) fn odd(alloc: Global, block: &Graph, rows: &Graph) -> Result<Vec<usize>, NoMemory> {
-    let mut found = Vec::new(alloc);
-    let Some(are) = told_apart(alloc, block, rows)? else {
-        return Ok(found);
-    };
+/// The operations that those of which it holds read.
+fn read_by(alloc: Global, rows: &Graph, are: &[bool]) -> Result<Vec<bool>, NoMemory> {
     let mut are_read = vec![in alloc; false; are.len()]?;
     for (k, sources) in rows.sources.iter().enumerate() {
         for place in 0..2 {
-            if has(&are, k)
+            if has(are, k)
                 && let Some(s) = source_at(*sources, place)
             {
                 put(&mut are_read, s, true);
             }
         }
     }
+    Ok(are_read)
+}
+
+/// That operations of the rows are to be looked at which stand out, and which none reads that does, in the order of issue.
+pub(crate) fn standing_out(
+    alloc: Global,
+    block: &Graph,
+    rows: &Graph,
+) -> Result<Vec<Claim>, NoMemory> {
+    let mut found = Vec::new(alloc);
+    let Some(are) = told_apart(alloc, block, rows)? else {
+        return Ok(found);
+    };
+    let are_read = read_by(alloc, rows, &are)?;
     for k in &rows.issued {
         if has(&are, *k) && !has(&are_read, *k) {
-            found.push(*k)?;
+            let (k, what) = (*k, What::See);
+            found.push(Claim { k, what })?;
         }
     }
     Ok(found)

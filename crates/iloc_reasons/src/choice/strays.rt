@@ -1,7 +1,6 @@
 //! Results that are in another register than they are wanted in.
 
 use super::graph::Graph;
-use super::side::has;
 use crate::claim::source_at;
 use iloc_ops::{NoMemory, Op, Reg, defines, uses};
 use std::alloc::Global;
@@ -24,7 +23,11 @@ pub(crate) struct Strays<'a> {
 /// An operation that brings what is wanted, in another register.
 #[derive(Clone, Copy)]
 pub(crate) enum Stray {
+    /// Nobody reads it.
     NeverRead(usize),
+    /// Nobody reads it, but the register where it is wanted is known.
+    Astray(usize),
+    /// Others read it.
     Read(usize),
 }
 
@@ -48,7 +51,7 @@ impl<'a> Strays<'a> {
     pub(crate) fn none(
         alloc: Global,
         rows: &Graph<'a>,
-        counterparts: &[bool],
+        counterparts: &[Option<usize>],
         read: &'a BTreeMap<usize, usize>,
     ) -> Result<Strays<'a>, NoMemory> {
         let mut known: BTreeMap<u32, usize> = BTreeMap::new(alloc);
@@ -57,7 +60,7 @@ impl<'a> Strays<'a> {
                 let count = known.get(&register.0).copied().unwrap_or(0);
                 known.insert(register.0, count.saturating_add(1))?;
             }
-            if has(counterparts, k) {
+            if counterparts.get(k).copied().flatten().is_some() {
                 note_starts(&mut known, rows, op, k)?;
             }
         }
@@ -102,14 +105,32 @@ impl<'a> Strays<'a> {
         Ok(())
     }
 
-    /// An operation that brings this elsewhere, where it is wanted in a register that isn't known.
-    pub(crate) fn instead(&self, register: Reg, wanted: u64) -> Option<Stray> {
-        if self.known.get(&register.0).is_some() {
+    /// Whether operation k defines a register.
+    fn brings_in(&self, k: usize, register: Reg) -> bool {
+        match self.ops.get(k) {
+            Some(op) => defines(op) == Some(register),
+            None => false,
+        }
+    }
+
+    /// An operation that brings this in another register than the one where it is wanted; of a reader that is near only one that
+    /// shares its register, if nobody reads it and the register where it is wanted is known.
+    pub(crate) fn instead(&self, register: Reg, wanted: u64, is_near: bool) -> Option<Stray> {
+        let is_known = self.known.get(&register.0).is_some();
+        let unread = self.unread.get(&wanted).copied();
+        let k = unread.or(self.brought.get(&wanted).copied())?;
+        if self.brings_in(k, register) {
             return None;
         }
-        match self.unread.get(&wanted).copied() {
-            Some(k) => Some(Stray::NeverRead(k)),
-            None => Some(Stray::Read(self.brought.get(&wanted).copied()?)),
+        if unread.is_none() {
+            return Some(Stray::Read(k));
         }
+        if !is_known {
+            return Some(Stray::NeverRead(k));
+        }
+        if is_near && !self.shares(k) {
+            return None;
+        }
+        Some(Stray::Astray(k))
     }
 }

@@ -2,11 +2,13 @@
 
 use super::Choice;
 use super::doubts::{Cause, Causes, Doubt, undoubted};
-use super::graph::{Place, put};
+use super::graph::put;
 use super::guesses::{Guesses, Looking, Pick};
+use super::known::Known;
 use super::lines::Lines;
 use super::missing::{Missing, Wanted};
-use super::side::{Side, has};
+use super::orders::with_orders;
+use super::side::Side;
 use super::strays::{Stray, Strays};
 use crate::claim::{Claim, What, source_at};
 use crate::sides::Sides;
@@ -46,8 +48,10 @@ pub(crate) struct Walk<'a> {
     pub sides: &'a Sides<'a>,
     pub block: &'a Side<'a>,
     pub rows: &'a Side<'a>,
-    /// By operation of the rows whether it has a counterpart of its term.
-    pub counterparts: Vec<bool>,
+    /// By operation of the rows its counterpart of its term.
+    pub counterparts: Vec<Option<usize>>,
+    /// By operation of the rows which one of the block it is found to be.
+    pub partners: Vec<Option<usize>>,
     pub missing: Missing,
     /// By register the operations that defined it so far, the last first.
     pub definers: Lines,
@@ -56,9 +60,8 @@ pub(crate) struct Walk<'a> {
     pub strays: Strays<'a>,
     /// The store that was issued last.
     pub store: Option<usize>,
-    /// The stores and the outputs of the rows, as they are issued.
-    pub stores: Vec<usize>,
-    pub outputs: Vec<usize>,
+    /// The operations that are found to be in another place than in the block.
+    pub moved: Vec<usize>,
     pub claims: Vec<Claim>,
     pub doubts: Vec<Doubt>,
     /// The first operation that is like none of the block.
@@ -79,6 +82,7 @@ impl Walk<'_> {
     /// Operation k is meant to be operation i of the block.
     fn take(&mut self, k: usize, i: usize) {
         self.missing.take(i);
+        put(&mut self.partners, k, Some(i));
         put(&mut self.meant, k, at(&self.block.terms, i));
     }
 
@@ -132,7 +136,9 @@ impl Walk<'_> {
     fn step(&mut self, k: usize) -> Result<(), NoMemory> {
         let values = Values::of(&self.meant, self.rows.graph.sources(k));
         let own = self.rows.term(k, self.place(k), values);
-        if own == at(&self.rows.terms, k) && has(&self.counterparts, k) {
+        let counterpart = self.counterparts.get(k).copied().flatten();
+        if own == at(&self.rows.terms, k) && counterpart.is_some() {
+            put(&mut self.partners, k, counterpart);
             put(&mut self.meant, k, own);
             return Ok(());
         }
@@ -165,13 +171,13 @@ impl Walk<'_> {
         values: Values,
     ) -> Result<Option<(usize, Causes)>, NoMemory> {
         let (alloc, rows) = (self.alloc, self.rows);
-        let guesses = self.looking().both(alloc, &rows.graph, k)?;
+        let guesses = self.looking().both(alloc, rows.graph, k)?;
         if let Values::Two(left, right) = values
             && left != right
         {
             let exchanged = rows.term(k, self.place(k), Values::Two(right, left));
             if let Some(i) = self.missing.of_term(exchanged, at(&rows.readers, k))? {
-                let causes = self.causes(k, values, i, &guesses);
+                let causes = self.causes(k, values, i, &guesses, true);
                 return Ok(Some((i, causes)));
             }
         }
@@ -183,11 +189,11 @@ impl Walk<'_> {
         let label = at(&rows.graph.labels, k);
         let found = self.missing.of_label(alloc, label)?;
         if let Some(i) = self.missing.nearest(self.block, &found, &wanted) {
-            let causes = self.causes(k, values, i, &guesses);
+            let causes = self.causes(k, values, i, &guesses, true);
             return Ok(Some((i, causes)));
         }
         for i in found.iter().take(FEW) {
-            let causes = self.causes(k, values, *i, &guesses);
+            let causes = self.causes(k, values, *i, &guesses, false);
             if at(&self.block.places, *i) == wanted.place && are_known(causes) {
                 return Ok(Some((*i, causes)));
             }
@@ -195,8 +201,16 @@ impl Walk<'_> {
         Ok(None)
     }
 
-    /// Why operation k reads otherwise than operation i of the block; nothing unless it is known at each place where it does.
-    fn causes(&self, k: usize, values: Values, i: usize, guesses: &Guesses) -> Causes {
+    /// Why operation k reads otherwise than operation i of the block, which is near it or not; nothing unless it is known at
+    /// each place where it does.
+    fn causes(
+        &self,
+        k: usize,
+        values: Values,
+        i: usize,
+        guesses: &Guesses,
+        is_near: bool,
+    ) -> Causes {
         let theirs = Values::of(&self.block.terms, self.block.graph.sources(i));
         let mut causes = (None, None);
         for place in 0..2 {
@@ -204,7 +218,10 @@ impl Walk<'_> {
                 && values.at(place) != Some(wanted)
             {
                 let what = guesses.what(place, wanted);
-                let cause = self.cause(k, place, i, what);
+                let cause = match what {
+                    Some(what) => Some(Cause::Said(Claim { k, what })),
+                    None => self.elsewhere(k, place, i, is_near),
+                };
                 if cause.is_none() {
                     return (None, None);
                 }
@@ -218,25 +235,20 @@ impl Walk<'_> {
         causes
     }
 
-    /// Why operation k doesn't read at a place what it is meant to, if it is operation i of the block: that it is brought
-    /// elsewhere, or this.
-    fn cause(&self, k: usize, place: usize, i: usize, what: Option<What>) -> Option<Cause> {
-        match self.instead(k, place, i) {
-            Some(Stray::NeverRead(u)) => {
-                let what = What::NeverRead;
-                Some(Cause::Said(Claim { k: u, what }))
-            }
-            Some(Stray::Read(u)) => Some(Cause::Elsewhere(u)),
-            None => Some(Cause::Said(Claim { k, what: what? })),
-        }
-    }
-
-    /// What operation k was to read at a place if it is operation i of the block, where that is brought elsewhere.
-    fn instead(&self, k: usize, place: usize, i: usize) -> Option<Stray> {
+    /// That what operation k was to read at a place, if it is operation i of the block, is brought elsewhere.
+    fn elsewhere(&self, k: usize, place: usize, i: usize, is_near: bool) -> Option<Cause> {
         let op = self.sides.schedule.ops().get(k)?;
         let register = uses(op).get(place).copied()?;
         let source = source_at(self.block.graph.sources(i), place)?;
-        self.strays.instead(register, at(&self.block.terms, source))
+        let wanted = at(&self.block.terms, source);
+        Some(match self.strays.instead(register, wanted, is_near)? {
+            Stray::NeverRead(u) => {
+                let what = What::NeverRead;
+                Cause::Said(Claim { k: u, what })
+            }
+            Stray::Astray(u) => Cause::Astray(u),
+            Stray::Read(u) => Cause::Elsewhere(u),
+        })
     }
 
     /// Operation k stands for operation i of the block: says why or, where nothing is known, that it does.
@@ -253,12 +265,20 @@ impl Walk<'_> {
         if !are_known(causes) {
             return self.claim(k, claim.what);
         }
-        for cause in [causes.0, causes.1] {
-            if let Some(Cause::Elsewhere(brought)) = cause {
-                self.doubts.push(Doubt { claim, brought })?;
-            }
+        self.doubt(claim, 0, causes.0)?;
+        self.doubt(claim, 1, causes.1)
+    }
+
+    /// What this claims of an operation is in doubt, by what it reads at a place.
+    fn doubt(&mut self, claim: Claim, place: usize, cause: Option<Cause>) -> Result<(), NoMemory> {
+        match cause {
+            Some(Cause::Said(_)) | None => Ok(()),
+            Some(cause) => Ok(self.doubts.push(Doubt {
+                claim,
+                place,
+                cause,
+            })?),
         }
-        Ok(())
     }
 
     /// What is known while operations' uses are looked at.
@@ -273,7 +293,7 @@ impl Walk<'_> {
     /// The cheapest change that makes operation k one that is missing.
     fn cheapest(&mut self, k: usize) -> Result<Option<Change>, NoMemory> {
         let (alloc, rows) = (self.alloc, self.rows);
-        let picks = self.looking().picks(alloc, &rows.graph, k)?;
+        let picks = self.looking().picks(alloc, rows.graph, k)?;
         let mut best = None;
         for pick in &picks {
             best = self.cheaper(k, pick, best)?;
@@ -327,57 +347,44 @@ impl Walk<'_> {
             }
         }
         if change.moved {
-            let place = self.block.graph.place(change.i);
-            if let Some(other) = self.passed(k, place) {
-                self.beside(k, other)?;
-            }
+            self.moved.push(k)?;
         }
         self.take(k, change.i);
         Ok(())
     }
 
-    /// Operation k is on the wrong side of a store or output; that it is under way meanwhile is left out.
-    fn beside(&mut self, k: usize, other: usize) -> Result<(), NoMemory> {
-        let under_way = Claim {
-            k,
-            what: What::While { store: other },
-        };
-        let here = self.sides.cycles(k).map(|cycles| cycles.0);
-        let there = self.sides.cycles(other).map(|cycles| cycles.0);
-        if self.claims.last() == Some(&under_way) && here != there {
-            self.claims.pop();
+    /// What is known of all operations.
+    fn known(&self) -> Known<'_> {
+        Known {
+            sides: self.sides,
+            block: self.block,
+            rows: self.rows,
+            partners: &self.partners,
+            meant: &self.meant,
         }
-        self.claim(k, What::Beside { other })
     }
 
-    /// The store or output that operation k is on the wrong side of, where this is its place.
-    fn passed(&self, k: usize, wanted: Place) -> Option<usize> {
-        let here = self.rows.graph.place(k);
-        if self.rows.graph.kind(k) == Kind::Store {
-            return self.stores.get(wanted.stores).copied();
-        }
-        if here.stores == wanted.stores {
-            return self.outputs.get(wanted.outputs).copied();
-        }
-        let place = if here.stores < wanted.stores {
-            wanted.stores.saturating_sub(1)
-        } else {
-            wanted.stores
-        };
-        self.stores.get(place).copied()
+    /// What is claimed of all operations.
+    fn all_claims(&self) -> Result<Vec<Claim>, NoMemory> {
+        let known = self.known();
+        let undoubted = undoubted(self.alloc, &known, &self.doubts, &self.claims)?;
+        let mut claims = with_orders(self.alloc, &known, &self.moved, &self.claims)?;
+        claims.extend_from_slice(&undoubted)?;
+        Ok(claims)
     }
 
-    /// What was claimed, by row, each once.
-    fn by_row(&self) -> Result<Vec<Claim>, NoMemory> {
-        let mut order = Vec::with_capacity(self.alloc, self.claims.len())?;
-        for (place, claim) in self.claims.iter().enumerate() {
+    /// What is claimed, by row, each once; last what stands for others.
+    fn by_row(&self, all: &[Claim]) -> Result<Vec<Claim>, NoMemory> {
+        let mut order = Vec::with_capacity(self.alloc, all.len())?;
+        for (place, claim) in all.iter().enumerate() {
             let cycle = self.sides.cycles(claim.k).map_or(0, |cycles| cycles.0);
-            order.push((cycle, claim.k, place))?;
+            let is_for = matches!(claim.what, What::For { .. });
+            order.push((is_for, cycle, claim.k, place))?;
         }
         order.sort_unstable();
         let mut claims: Vec<Claim> = Vec::with_capacity(self.alloc, order.len())?;
-        for (_, _, place) in &order {
-            if let Some(claim) = self.claims.get(*place)
+        for (_, _, _, place) in &order {
+            if let Some(claim) = all.get(*place)
                 && claims.last() != Some(claim)
             {
                 claims.push(*claim)?;
@@ -386,14 +393,32 @@ impl Walk<'_> {
         Ok(claims)
     }
 
-    /// What was claimed; of those that are missing the first that is short is named.
-    pub(crate) fn into_choice(mut self) -> Result<Choice, NoMemory> {
-        let (alloc, rows) = (self.alloc, self.rows);
-        let undoubted = undoubted(alloc, &rows.graph, &self.doubts, &self.claims)?;
-        self.claims.extend_from_slice(&undoubted)?;
-        let claims = self.by_row()?;
+    /// Whether it is claimed that an operation stands for one that is spelled alike.
+    fn is_own(&self, claim: &Claim) -> bool {
+        if let What::For { op: i } = claim.what
+            && let Some(wanted) = self.sides.block.get(i)
+            && let Some(op) = self.sides.schedule.ops().get(claim.k)
+        {
+            return *op == *wanted;
+        }
+        false
+    }
+
+    /// What is claimed; of those that are missing the first that is short is named.
+    pub(crate) fn into_choice(self) -> Result<Choice, NoMemory> {
+        let all = self.by_row(&self.all_claims()?)?;
+        let mut claims = Vec::new(self.alloc);
+        let mut own = Vec::new(self.alloc);
+        for claim in &all {
+            if self.is_own(claim) {
+                own.push(*claim)?;
+            } else {
+                claims.push(*claim)?;
+            }
+        }
         Ok(Choice {
             claims,
+            own,
             left_out: self.missing.first_short(),
             added: self.unlike,
         })

@@ -1,4 +1,4 @@
-use Rattle.std.proofs.Common.{◌≤◌, length}
+use Rattle.std.proofs.Common.{◌≡◌, ◌<◌, ◌≤◌, length}
 use Rattle.std.specs.Prelude.{All}
 use Rattle.iloc_reasons.specs.Facts.{IsFact}
 use Rattle.iloc_reasons.proofs.reasons.first_facts.Given as goal
@@ -7,4 +7,5 @@ abbrev pub invariant-loop-claim : goal.invariant-loop-claim
 invariant-loop-claim l = record {
   facts : All (IsFact l.sides.latencies.now l.sides.block.now l.sides.schedule.now.ops l.sides.schedule.now.rows) l.facts.items;
   few : length l.facts.items ≤ 8;
+  more : length l.facts.items < 8 → l.more ≡ 0;
 }
