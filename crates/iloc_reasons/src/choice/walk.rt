@@ -273,11 +273,13 @@ impl Walk<'_> {
     fn doubt(&mut self, claim: Claim, place: usize, cause: Option<Cause>) -> Result<(), NoMemory> {
         match cause {
             Some(Cause::Said(_)) | None => Ok(()),
-            Some(cause) => Ok(self.doubts.push(Doubt {
-                claim,
-                place,
-                cause,
-            })?),
+            Some(cause) => Ok(
+                self.doubts.push(Doubt {
+                    claim,
+                    place,
+                    cause,
+                })?,
+            ),
         }
     }
 
@@ -393,13 +395,13 @@ impl Walk<'_> {
         Ok(claims)
     }
 
-    /// Whether it is claimed that an operation stands for one that is spelled alike.
+    /// Whether it is claimed that an operation stands for one that is spelled alike, or that has the same term.
     fn is_own(&self, claim: &Claim) -> bool {
         if let What::For { op: i } = claim.what
             && let Some(wanted) = self.sides.block.get(i)
             && let Some(op) = self.sides.schedule.ops().get(claim.k)
         {
-            return *op == *wanted;
+            return *op == *wanted || at(&self.rows.terms, claim.k) == at(&self.block.terms, i);
         }
         false
     }
