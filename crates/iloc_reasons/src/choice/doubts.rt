@@ -145,9 +145,19 @@ impl Lives {
     }
 }
 
+/// Whether what operation k reads at a place arrives behind a cycle.
+fn is_later(known: &Known, k: usize, place: usize, due: usize) -> bool {
+    if let Some(j) = source_at(known.rows.graph.sources(k), place)
+        && let Some((_, arrival)) = known.sides.cycles(j)
+    {
+        return due < arrival;
+    }
+    false
+}
+
 /// What is claimed of an operation that reads at a place something else than this one brings, in a register of others where
-/// nobody reads it. If its result would be in the way of others where it is wanted, the reader is at fault; if it is replaced
-/// before the reader, it is itself.
+/// nobody reads it. If where it is wanted its result would be in the way of others or be replaced, the reader is at fault; if
+/// it is replaced where it is, it is itself.
 fn astray(
     known: &Known,
     lives: &Lives,
@@ -157,12 +167,13 @@ fn astray(
 ) -> Result<(), NoMemory> {
     let k = doubt.claim.k;
     let due = known.sides.cycles(u).map_or(0, |cycles| cycles.1);
-    let is_in_the_way = lives.is_read(known, k, doubt.place, due);
-    if !is_in_the_way {
+    let is_reader = lives.is_read(known, k, doubt.place, due)
+        || is_later(known, k, doubt.place, due);
+    if !is_reader {
         let what = What::NeverRead;
         found.push(Claim { k: u, what })?;
     }
-    if is_in_the_way || !lives.is_over(known, u, k) {
+    if is_reader || !lives.is_over(known, u, k) {
         found.push(doubt.claim)?;
     }
     Ok(())

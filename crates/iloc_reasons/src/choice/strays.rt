@@ -113,8 +113,8 @@ impl<'a> Strays<'a> {
         }
     }
 
-    /// An operation that brings this in another register than the one where it is wanted; of a reader that is near only one that
-    /// shares its register, if nobody reads it and the register where it is wanted is known.
+    /// An operation that brings this in another register than the one where it is wanted. If that is known, of a reader that is
+    /// near only one that others read or that shares its register, and else only one that nobody reads.
     pub(crate) fn instead(&self, register: Reg, wanted: u64, is_near: bool) -> Option<Stray> {
         let is_known = self.known.get(&register.0).is_some();
         let unread = self.unread.get(&wanted).copied();
@@ -122,15 +122,12 @@ impl<'a> Strays<'a> {
         if self.brings_in(k, register) {
             return None;
         }
-        if unread.is_none() {
-            return Some(Stray::Read(k));
+        match (unread, is_known) {
+            (None, true) if !is_near => None,
+            (None, _) => Some(Stray::Read(k)),
+            (Some(_), false) => Some(Stray::NeverRead(k)),
+            (Some(_), true) if is_near && !self.shares(k) => None,
+            (Some(_), true) => Some(Stray::Astray(k)),
         }
-        if !is_known {
-            return Some(Stray::NeverRead(k));
-        }
-        if is_near && !self.shares(k) {
-            return None;
-        }
-        Some(Stray::Astray(k))
     }
 }
