@@ -1,13 +1,19 @@
 -- Where an operation is no pair with any of the rows, no pairing keeps the colours.
-use Rattle.std.proofs.Common.{◌≡◌, ◌<◌, ℕ, List, length, inl, inr, sym, ap, ◌∙◌, get_or-set_same, get_or-set_other}
+use Rattle.std.proofs.Common.{◌≡◌, ◌<◌, ℕ, ◌+◌, List, length, Option, Some, None, inl, inr, sym, ap, ◌∙◌, subst, arith, get_or-set_same, get_or-set_other}
 use Rattle.std.specs.Prelude.{slice_index}
-use Rattle.std.proofs.lemmas.Bool.{cases_eq}
+use Rattle.std.proofs.lemmas.Bool.{cases_eq, cases_lt}
 use Rattle.iloc_ops.specs.declared.op.Op.{Op}
+use Rattle.iloc_timed.specs.declared.latencies.Latencies.{Latencies}
 use Rattle.iloc_timed.specs.Schedule.{Table}
+use Rattle.iloc_validation.specs.declared.colours.Coloured.{Coloured}
+use Rattle.iloc_validation.specs.declared.decision.Decision.{Decision}
+use Rattle.iloc_validation.specs.declared.decision.Decision.TheVariants.{Lawful, Unlawful, Undecided}
 use Rattle.iloc_validation.specs.declared.reading.Reading.{Reading}
 use Rattle.iloc_validation.specs.declared.reading.sources.Sources.{Sources}
 use Rattle.iloc_validation.specs.ByTheBook.{ArePaired}
-use Rattle.iloc_validation.specs.Steps.Colours.{marked, HaveColours, AreKeptByNone, IsNoPair}
+use Rattle.iloc_validation.specs.Steps.Colours.{marked, HaveColours, AreKept, AreKeptByNone, AreColoured, IsNoPair, IsPairColoured}
+use Rattle.iloc_validation.specs.Steps.Decisions.{IsDecisionAmong, IsDecisionOf}
+use Rattle.iloc_validation.specs.Steps.Sides.{AreSides}
 
 module _ (block ops : List Op) (origin partner : ℕ → ℕ) (paired : ArePaired block ops origin partner) (here there : List ℕ)
     (size : length here ≡ length block) (size_too : length there ≡ length ops) (i : ℕ) (within : i < length block)
@@ -40,3 +46,35 @@ no_partner block givens schedule readings here there size size_too i within each
     (kept (partner i) inside ∙ ap (slice_index here) (under.paired.back_too i within))
     lat sides origin partner under
     (marked_kept block schedule.ops origin partner under.paired here there size size_too i within kept)
+
+module _ (block : List Op) (givens : List Sources) (schedule : Table) (readings : List Reading) (here there : List ℕ) where
+  pub pair_coloured : (i k : ℕ) (found : Option Coloured)
+      → AreColoured block givens schedule readings (marked here i) (marked there k) found
+      → IsPairColoured block givens schedule readings here there i k found
+  pair_coloured i k None are = λ same. are
+  pair_coloured i k (Some new) are = are
+
+  pub one_more_no_pair : (i k : ℕ) → ((j : ℕ) → j < k → IsNoPair block givens schedule readings here there i j)
+      → IsNoPair block givens schedule readings here there i k
+      → (j : ℕ) → j < k + 1 → IsNoPair block givens schedule readings here there i j
+  one_more_no_pair i k so_far this j within = elim (cases_lt j k) [
+    | inl before ↦ so_far j before
+    | inr last ↦
+        let same : k ≡ j = omega arith in
+        subst (IsNoPair block givens schedule readings here there i) same this
+  ]
+
+  -- where no pairing keeps the new colours, two operations are no pair
+  pub no_pair : (i k : ℕ) (new : Coloured) → IsPairColoured block givens schedule readings here there i k (Some new)
+      → AreKeptByNone block givens schedule readings new.here.items new.there.items
+      → IsNoPair block givens schedule readings here there i k
+  no_pair i k new are none = λ same lat sides origin partner under kept.
+      none lat sides origin partner under (are.kept lat sides origin partner under kept)
+
+  -- where all pairings keep the colours, it is one of all
+  pub among_all : (lat : Latencies) → AreSides lat block givens schedule readings → AreKept lat block schedule.ops schedule.rows here there
+      → (decision : Decision) → IsDecisionAmong lat block givens schedule readings here there decision
+      → IsDecisionOf lat block schedule.ops schedule.rows decision
+  among_all lat sides kept (Lawful pairing) is = is
+  among_all lat sides kept Unlawful is = λ origin partner under. is lat sides origin partner under (kept origin partner under)
+  among_all lat sides kept Undecided is = is

@@ -22,9 +22,6 @@ use crate::verification::Sides;
 use iloc_ops::NoMemory;
 use std::alloc::Global;
 
-/// How many steps it takes for each operation before it gives up. Blocks that aren't made to slow it take about 10.
-const STEPS: usize = 1000;
-
 /// What the search ends with.
 #[derive(Drop)]
 pub(crate) enum Found {
@@ -34,11 +31,13 @@ pub(crate) enum Found {
     NoPartner(usize),
 }
 
-/// A pairing of the operations of rows with those of a block that have these colours, if one is found.
+/// A pairing of the operations of rows with those of a block that have these colours, if one is found in so many steps for
+/// each operation.
 pub(crate) fn found_pairing(
     alloc: Global,
     sides: &Sides,
     colours: &Coloured,
+    steps: usize,
 ) -> Result<Found, NoMemory>
     ensures { IfOk result (IsFoundFor (length sides.now.block.now) (length sides.now.readings.now)) }
 {
@@ -49,7 +48,7 @@ pub(crate) fn found_pairing(
     let block = Graph::of(alloc, sides.givens, &colours.here)?;
     let rows = Graph::of(alloc, &reads, &colours.there)?;
     let mut search = Search::new(alloc, &block, &rows)?;
-    let is_found = search.run(STEPS.saturating_mul(sides.block.len()))?;
+    let is_found = search.run(steps.saturating_mul(sides.block.len()))?;
     let root = search.root();
     let found = search.into_pairing();
     if is_found

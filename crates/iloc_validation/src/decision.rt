@@ -3,7 +3,7 @@ ghost use Rattle.std.specs.Prelude.{◌≡◌, true, length, IfNone, IfOk, IfSom
 ghost use Rattle.iloc_rules.specs.Lawful.{IsLawful};
 ghost use Rattle.iloc_validation.specs.ByTheBook.{IsScheduleUnder, IssueTheSame};
 ghost use Rattle.iloc_validation.specs.Decision.{IsDecision, IsFoundLawful, IsScheduleBy};
-ghost use Rattle.iloc_validation.specs.Steps.Decisions.{IsDecisionOf, IsExcluded, KeptColours};
+ghost use Rattle.iloc_validation.specs.Steps.Decisions.{IsDecisionOf, IsExcluded};
 ghost use Rattle.iloc_validation.specs.Steps.Sides.{AreSides};
 
 pub mod first_colours;
@@ -13,10 +13,8 @@ mod under_way;
 
 use self::first_colours::coloured;
 use self::ours::{issue_the_same, paired_by_slot};
-use self::partners::has_no_partner;
+use self::partners::{Budget, searched};
 use self::under_way::is_under_way;
-use crate::backtracking::{Found, found_pairing};
-use crate::colours::Coloured;
 use crate::pairing::Pairing;
 use crate::reading::given::{givens, without_nops};
 use crate::reading::readings;
@@ -24,6 +22,15 @@ use crate::verification::{Sides, is_schedule_under};
 use iloc_ops::{Block, NoMemory};
 use iloc_timed::{Latencies, Schedule};
 use std::alloc::Global;
+
+/// How many steps a search takes for each operation before it gives up. Blocks that aren't made to slow it take about 10.
+const STEPS: usize = 1000;
+
+/// How many operations are paired one after another, where a search gives up or ends.
+const DEPTH: usize = 3;
+
+/// How many partners are tried then, times the operations that are coloured anew for each.
+const WORK: usize = 1_000_000;
 
 /// What is decided of rows that somebody made for a block.
 #[derive(Debug, Drop)]
@@ -75,38 +82,6 @@ fn is_excluded(sides: &Sides, latencies: &Latencies) -> bool
     is_under_way(sides.schedule, latencies)
 }
 
-/// What is decided of rows by a search for a pairing that keeps these colours, as every pairing does.
-fn searched(
-    alloc: Global,
-    sides: &Sides,
-    colours: &Coloured,
-    latencies: &Latencies,
-) -> Result<Decision, NoMemory>
-    requires sides { AreSides latencies.now sides.now.block.now sides.now.givens.now sides.now.schedule.now
-        sides.now.readings.now }
-    requires kept { KeptColours latencies.now sides.now.block.now sides.now.schedule.now.ops sides.now.schedule.now.rows
-        colours.now }
-    ensures { IfOk result (IsDecisionOf latencies.now sides.now.block.now sides.now.schedule.now.ops
-        sides.now.schedule.now.rows) }
-{
-    match found_pairing(alloc, sides, colours)? {
-        Found::Paired(found) => {
-            if is_schedule_under(alloc, sides, &found, latencies)? {
-                Ok(Decision::Lawful(found))
-            } else {
-                Ok(Decision::Undecided)
-            }
-        }
-        Found::NoPartner(i) => {
-            if has_no_partner(alloc, sides, colours, i)? {
-                Ok(Decision::Unlawful)
-            } else {
-                Ok(Decision::Undecided)
-            }
-        }
-    }
-}
-
 /// What is decided of rows under other pairings than that by number.
 fn decided(alloc: Global, sides: &Sides, latencies: &Latencies) -> Result<Decision, NoMemory>
     requires { AreSides latencies.now sides.now.block.now sides.now.givens.now sides.now.schedule.now
@@ -121,7 +96,12 @@ fn decided(alloc: Global, sides: &Sides, latencies: &Latencies) -> Result<Decisi
         Some(colours) => colours,
         None => return Ok(Decision::Unlawful),
     };
-    searched(alloc, sides, &colours, latencies)
+    let budget = Budget {
+        depth: DEPTH,
+        tries: WORK.checked_div(sides.block.len()).unwrap_or(0),
+        steps: STEPS,
+    };
+    searched(alloc, sides, &colours, latencies, budget)
 }
 
 /// Decides whether rows that somebody made are a schedule of a block by the book: whether their operations can be paired
@@ -133,8 +113,8 @@ fn decided(alloc: Global, sides: &Sides, latencies: &Latencies) -> Result<Decisi
 /// those that are found to be unlawful are none, under any pairing. What a schedule of ours issues is found to be lawful,
 /// whatever numbers its operations have.
 ///
-/// Of some rows neither is found: where the search gives up, or ends without a pairing, and counting doesn't show that the
-/// operation where it ended has no partner.
+/// Of some rows neither is found: where operations are alike in so many ways that the search gives up, and counting doesn't
+/// exclude each way to pair three of them.
 pub fn decide(
     alloc: Global,
     block: &Block,

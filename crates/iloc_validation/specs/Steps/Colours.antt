@@ -155,3 +155,9 @@ marked colours k = slice_set colours k 9223372036854775808
 abbrev pub IsNoPair : List Op → List Sources → Table → List Reading → List ℕ → List ℕ → ℕ → ℕ → Type 0
 IsNoPair block givens schedule readings here there i k = slice_index there k ≡ slice_index here i
     → AreKeptByNone block givens schedule readings (marked here i) (marked there k)
+
+-- what is made of that: colours that a pairing of i with k keeps, or none, and then they are no pair
+abbrev pub IsPairColoured : List Op → List Sources → Table → List Reading → List ℕ → List ℕ → ℕ → ℕ → Option Coloured → Type 0
+IsPairColoured block givens schedule readings here there i k None = IsNoPair block givens schedule readings here there i k
+IsPairColoured block givens schedule readings here there i k (Some new) =
+    AreColouredAs block givens schedule readings (marked here i) (marked there k) new

@@ -3,14 +3,17 @@ use Rattle.std.specs.Prelude.{ℕ, ◌≡◌, List, length, Option, Some, None, 
 use Rattle.iloc_ops.specs.declared.op.Op.{Op}
 use Rattle.iloc_timed.specs.declared.latencies.Latencies.{Latencies}
 use Rattle.iloc_timed.specs.declared.row.Row.{Row}
+use Rattle.iloc_timed.specs.Schedule.{Table}
 use Rattle.iloc_validation.specs.declared.backtracking.Found.{Found}
 use Rattle.iloc_validation.specs.declared.backtracking.Found.TheVariants.{Paired, NoPartner}
 use Rattle.iloc_validation.specs.declared.colours.Coloured.{Coloured}
 use Rattle.iloc_validation.specs.declared.decision.Decision.{Decision}
+use Rattle.iloc_validation.specs.declared.reading.Reading.{Reading}
+use Rattle.iloc_validation.specs.declared.reading.sources.Sources.{Sources}
 use Rattle.iloc_validation.specs.declared.decision.Decision.TheVariants.{Lawful, Unlawful, Undecided}
 use Rattle.iloc_validation.specs.ByTheBook.{IsScheduleUnder}
 use Rattle.iloc_validation.specs.Decision.{IsScheduleBy}
-use Rattle.iloc_validation.specs.Steps.Colours.{AreKept}
+use Rattle.iloc_validation.specs.Steps.Colours.{AreKept, AreKeptByNone}
 
 -- no pairing makes the rows a schedule
 abbrev pub IsExcluded : Latencies → List Op → List Op → List Row → Type 0
@@ -37,3 +40,17 @@ AreKeptColours lat block ops rows (Some colours) = KeptColours lat block ops row
 abbrev pub IsFoundFor : ℕ → ℕ → Found → Type 0
 IsFoundFor block rows (Paired it) = (length it.origin.items ≡ rows) × (length it.partner.items ≡ block)
 IsFoundFor block rows (NoPartner i) = ⊤
+
+-- this pairing makes the rows a schedule, or nothing is said
+abbrev pub IsFoundDecision : Latencies → List Op → List Op → List Row → Decision → Type 0
+IsFoundDecision lat block ops rows (Lawful pairing) = IsScheduleBy lat block ops rows pairing
+IsFoundDecision lat block ops rows Unlawful = ⊥
+IsFoundDecision lat block ops rows Undecided = Unit
+
+-- this pairing makes the rows a schedule; none does that keeps these colours; or nothing is said
+abbrev pub IsDecisionAmong : Latencies → List Op → List Sources → Table → List Reading → List ℕ → List ℕ → Decision → Type 0
+IsDecisionAmong lat block givens schedule readings here there (Lawful pairing) =
+    IsScheduleBy lat block schedule.ops schedule.rows pairing
+IsDecisionAmong lat block givens schedule readings here there Unlawful =
+    AreKeptByNone block givens schedule readings here there
+IsDecisionAmong lat block givens schedule readings here there Undecided = Unit

@@ -1,15 +1,21 @@
-//! Whether an operation for which a search found no partner has none.
-ghost use Rattle.std.specs.Prelude.{◌≡◌, ◌<◌, true, length, IfOk};
-ghost use Rattle.iloc_validation.specs.Steps.Colours.{marked, AreKeptByNone, IsNoPair};
+//! The search for a pairing that keeps colours, and where it finds an operation no partner, for one with each that it may have.
+ghost use Rattle.std.specs.Prelude.{◌≡◌, ◌<◌, length, IfOk};
+ghost use Rattle.iloc_validation.specs.Steps.Colours.{marked, IsPairColoured};
+ghost use Rattle.iloc_validation.specs.Steps.Decisions.{IsDecisionAmong, IsFoundDecision};
+ghost use Rattle.iloc_validation.specs.Steps.Sides.{AreSides};
 
+use super::Decision;
+use crate::backtracking::{Found, found_pairing};
 use crate::colours::mixing::START;
 use crate::colours::{Coloured, kept_colours};
-use crate::verification::Sides;
+use crate::pairing::Pairing;
+use crate::verification::{Sides, is_schedule_under};
 use iloc_ops::NoMemory;
+use iloc_timed::Latencies;
 use std::alloc::Global;
 
-/// How many partners are tried for an operation at most.
-const TRIES: usize = 1000;
+/// How many steps a search takes for each operation, where two have a colour of their own.
+const FEW_STEPS: usize = 50;
 
 /// Colours in which an operation has the colour of none but by chance.
 fn marked(alloc: Global, colours: &[u64], place: usize) -> Result<Vec<u64>, NoMemory>
@@ -21,61 +27,113 @@ fn marked(alloc: Global, colours: &[u64], place: usize) -> Result<Vec<u64>, NoMe
     Ok(new)
 }
 
-/// Whether operation i of the block and operation k of the rows are no pair by colours: they differ in theirs, or no pairing
-/// keeps the colours where these two get one of their own.
-fn are_no_pair(
+/// Colours kept by the pairings of operation i of the block with operation k of the rows that keep these colours; or none,
+/// where these two have different ones, or passes show that there is no such pairing.
+fn paired_colours(
     alloc: Global,
     sides: &Sides,
     colours: &Coloured,
     i: usize,
     k: usize,
-) -> Result<bool, NoMemory>
+) -> Result<Option<Coloured>, NoMemory>
     requires here { length colours.now.here.items ≡ length sides.now.block.now }
     requires there { length colours.now.there.items ≡ length sides.now.schedule.now.ops }
     requires givens { length sides.now.givens.now ≡ length sides.now.block.now }
     requires readings { length sides.now.readings.now ≡ length sides.now.schedule.now.ops }
     requires within { i < length colours.now.here.items }
     requires within_too { k < length colours.now.there.items }
-    ensures { IfOk result (λ none. none ≡ true → IsNoPair sides.now.block.now sides.now.givens.now
-        sides.now.schedule.now sides.now.readings.now colours.now.here.items colours.now.there.items i k) }
+    ensures { IfOk result (IsPairColoured sides.now.block.now sides.now.givens.now sides.now.schedule.now
+        sides.now.readings.now colours.now.here.items colours.now.there.items i k) }
 {
     if colours.there[k] != colours.here[i] {
-        return Ok(true);
+        return Ok(None);
     }
     let here = marked(alloc, &colours.here, i)?;
     let there = marked(alloc, &colours.there, k)?;
-    match kept_colours(alloc, sides, here, there)? {
-        Some(_) => Ok(false),
-        None => Ok(true),
+    kept_colours(alloc, sides, here, there)
+}
+
+/// What is decided by a pairing that was found: nothing, if the rows are no schedule of the block under it.
+fn verified(
+    alloc: Global,
+    sides: &Sides,
+    found: Pairing,
+    latencies: &Latencies,
+) -> Result<Decision, NoMemory>
+    requires sides { AreSides latencies.now sides.now.block.now sides.now.givens.now sides.now.schedule.now
+        sides.now.readings.now }
+    requires origins { length found.origin.items ≡ length sides.now.schedule.now.ops }
+    requires partners { length found.partner.items ≡ length sides.now.block.now }
+    ensures { IfOk result (IsFoundDecision latencies.now sides.now.block.now sides.now.schedule.now.ops
+        sides.now.schedule.now.rows) }
+{
+    if is_schedule_under(alloc, sides, &found, latencies)? {
+        Ok(Decision::Lawful(found))
+    } else {
+        Ok(Decision::Undecided)
     }
 }
 
-/// Whether so few operations have a colour that all can be tried.
-fn have_few(colours: &[u64], colour: u64) -> bool {
-    colours.iter().filter(|other| **other == colour).count() <= TRIES
+/// How much a search may cost.
+#[derive(Clone, Copy)]
+pub(crate) struct Budget {
+    /// How many operations are paired one after another, each with all that may be its partner.
+    pub depth: usize,
+    /// How many partners are tried in all.
+    pub tries: usize,
+    /// How many steps each search takes for each operation.
+    pub steps: usize,
 }
 
-/// Whether operation i of the block is no pair with any of the rows, so that no pairing keeps these colours.
-pub(crate) fn has_no_partner(
+/// What is left of a budget for each of the operations that have a colour: no try, if they are too many.
+fn left(budget: Budget, colours: &[u64], colour: u64) -> Budget
+    ensures { result.depth ≡ budget.depth }
+{
+    let count = colours.iter().filter(|other| **other == colour).count();
+    Budget {
+        tries: budget.tries.checked_div(count).unwrap_or(budget.tries),
+        steps: FEW_STEPS,
+        ..budget
+    }
+}
+
+/// What is decided of pairings that keep these colours. Where a search finds none, the operation at which it ended is paired
+/// with each of its colour, and they have one of their own from then on.
+pub(crate) fn searched(
     alloc: Global,
     sides: &Sides,
     colours: &Coloured,
-    i: usize,
-) -> Result<bool, NoMemory>
+    latencies: &Latencies,
+    budget: Budget,
+) -> Result<Decision, NoMemory>
+    requires sides { AreSides latencies.now sides.now.block.now sides.now.givens.now sides.now.schedule.now
+        sides.now.readings.now }
     requires here { length colours.now.here.items ≡ length sides.now.block.now }
     requires there { length colours.now.there.items ≡ length sides.now.schedule.now.ops }
-    requires givens { length sides.now.givens.now ≡ length sides.now.block.now }
-    requires readings { length sides.now.readings.now ≡ length sides.now.schedule.now.ops }
-    ensures { IfOk result (λ none. none ≡ true → AreKeptByNone sides.now.block.now sides.now.givens.now
-        sides.now.schedule.now sides.now.readings.now colours.now.here.items colours.now.there.items) }
+    ensures { IfOk result (IsDecisionAmong latencies.now sides.now.block.now sides.now.givens.now sides.now.schedule.now
+        sides.now.readings.now colours.now.here.items colours.now.there.items) }
 {
-    if i >= colours.here.len() || !have_few(&colours.there, colours.here[i]) {
-        return Ok(false);
+    let i = match found_pairing(alloc, sides, colours, budget.steps)? {
+        Found::Paired(found) => return verified(alloc, sides, found, latencies),
+        Found::NoPartner(i) => i,
+    };
+    if budget.depth == 0 || i >= colours.here.len() {
+        return Ok(Decision::Undecided);
     }
+    let mut rest = left(budget, &colours.there, colours.here[i]);
+    if rest.tries == 0 {
+        return Ok(Decision::Undecided);
+    }
+    rest.depth -= 1;
     for k in 0..colours.there.len() {
-        if !are_no_pair(alloc, sides, colours, i, k)? {
-            return Ok(false);
+        let new = match paired_colours(alloc, sides, colours, i, k)? {
+            Some(new) => new,
+            None => continue,
+        };
+        match searched(alloc, sides, &new, latencies, rest)? {
+            Decision::Unlawful => {}
+            other => return Ok(other),
         }
     }
-    Ok(true)
+    Ok(Decision::Unlawful)
 }

@@ -1,7 +1,10 @@
 use Rattle.std.proofs.Common.{◌<◌, ℕ}
 use Rattle.iloc_validation.specs.Steps.Colours.{IsNoPair}
-use Rattle.iloc_validation.proofs.decision.partners.has_no_partner.Given as goal
+use Rattle.iloc_validation.proofs.decision.partners.+searched.Given as goal
+
+abbrev pub decreases-searched : goal.decreases-searched
+decreases-searched l = l.budget.depth
 
 abbrev pub invariant-loop-k : goal.invariant-loop-k
 invariant-loop-k l = (j : ℕ) → j < l.k → IsNoPair l.sides.block.now l.sides.givens.now l.sides.schedule.now
-    l.sides.readings.now l.colours.here.items l.colours.there.items l.fn.i j
+    l.sides.readings.now l.colours.here.items l.colours.there.items l.i j
