@@ -35,7 +35,7 @@ use std::collections::BTreeMap;
 pub(crate) struct Choice {
     /// In the order in which it is listed.
     pub claims: Vec<Claim>,
-    /// Of operations that stand for ones of the block that are spelled alike or have the same term.
+    /// Of operations that stand for ones of the block that are spelled alike, or compute the same.
     pub own: Vec<Claim>,
     /// The operation of the block that is named as left out.
     pub left_out: Option<usize>,

@@ -395,24 +395,32 @@ impl Walk<'_> {
         Ok(claims)
     }
 
-    /// Whether it is claimed that an operation stands for one that is spelled alike, or that has the same term.
-    fn is_own(&self, claim: &Claim) -> bool {
+    /// Whether it is claimed that an operation stands for one that is spelled alike, or that has the same of these numbers.
+    fn is_own(&self, claim: &Claim, here: &[u64], there: &[u64]) -> bool {
         if let What::For { op: i } = claim.what
             && let Some(wanted) = self.sides.block.get(i)
             && let Some(op) = self.sides.schedule.ops().get(claim.k)
         {
-            return *op == *wanted || at(&self.rows.terms, claim.k) == at(&self.block.terms, i);
+            return *op == *wanted || at(there, claim.k) == at(here, i);
         }
         false
     }
 
     /// What is claimed; of those that are missing the first that is short is named.
     pub(crate) fn into_choice(self) -> Result<Choice, NoMemory> {
+        let here = self
+            .block
+            .graph
+            .forwards(self.alloc, &self.block.graph.labels)?;
+        let there = self
+            .rows
+            .graph
+            .forwards(self.alloc, &self.rows.graph.labels)?;
         let all = self.by_row(&self.all_claims()?)?;
         let mut claims = Vec::new(self.alloc);
         let mut own = Vec::new(self.alloc);
         for claim in &all {
-            if self.is_own(claim) {
+            if self.is_own(claim, &here, &there) {
                 own.push(*claim)?;
             } else {
                 claims.push(*claim)?;
