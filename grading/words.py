@@ -44,9 +44,10 @@ def faults(said, rows):
         yield "There are no rows."
     if said["difference"]:
         yield difference(said)
-    if left_out := said["left_out"]:
+    left_out, added = (None, None) if said["verdict"] == "unread" else (said["left_out"], said["added"])
+    if left_out:
         yield f"{count(left_out['count'], 'operation')} of the block left out, such as `{left_out['operation']}`."
-    if added := said["added"]:
+    if added:
         yield (f"{count(added['count'], 'operation')} that the block hasn't, such as `{added['operation']}` "
                f"in row {added['row']}.")
     yield from filter(None, (reason(found, rows) for found in said["reasons"]))

@@ -13,6 +13,7 @@ from limits import MOST_OPERATIONS
 from oracle.drawn import lab_block
 from oracle.operations import Op, text_of, words_for
 from oracle.optimum import fewest, odd_latencies, small_block
+from oracle.reader import read
 from oracle.scheduler import ORDERS, Schedule
 
 ENTRY = re.compile(rb"^cycles ([0-9]+)\n// bound ([0-9]+)( optimal)?$", re.MULTILINE)
@@ -95,7 +96,7 @@ def checked(count):
         found = [(it.cycles(), *[fewest(it)] * 2, it.least()) for it in schedules]
         words = ["--nodes", "1000", *words_for(latencies)]
         given = text_of(blocks) + listing_of(blocks, latencies)[1]
-        for due, form in ((verdicts(found), []), (verdict_objects(found), ["--json"])):
+        for due, form in ((verdicts(found), []), (verdict_objects(found, read(given)), ["--json"])):
             end = ending(["check", "--lawful", *words, *form], given)
             if end != (0, due, b""):
                 yield f"{[[*map(str, ops)] for ops in blocks]}, {latencies}: {end} in place of {due}"
@@ -111,11 +112,12 @@ def verdicts(found):
     return "".join([*lines, numbers_of(*map(sum, zip(*found))).replace("cycles", "total")]).encode()
 
 
-def verdict_objects(found):
+def verdict_objects(found, blocks):
     nothing = {"claimed": None, "void": None, "difference": None, "memory": None, "left_out": None, "added": None, "reasons": [],
                "more": 0}
-    rows = [{"block": k, "name": f"B{k}", "verdict": "lawful", "cycles": best, "ours": ours, "best": best, "bound": bound,
-             "least": least, **nothing, "claimed": best} for k, (ours, best, bound, least) in enumerate(found, 1)]
+    rows = [{"block": k, "name": f"B{k}", "verdict": "lawful", "passes": True, "rows": len(block.rows), "cycles": best,
+             "ours": ours, "best": best, "bound": bound, "least": least, **nothing, "claimed": best}
+            for k, ((ours, best, bound, least), block) in enumerate(zip(found, blocks), 1)]
     return "".join(json.dumps(row, separators=(",", ":")) + "\n" for row in rows).encode()
 
 

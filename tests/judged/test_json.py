@@ -1,31 +1,36 @@
 """`check --json`: whole lines, as rows.cases has them, and of other rows what `check` lists in lines."""
 import json
+import random
 
 from harness.program import Run, ending, told
 from harness.suite import Check, table
 from judged.students import RIGHT, WRONG
 from judged.test_rows import LISTED, SAME, SHOWN, UNLIKE, UNREAD, VERDICTS, WORDS, spread
 from judged.test_students import handed_in
+from oracle import alike
+from oracle.judge import NOT_SAME, proposed
+from oracle.operations import text_of
 
 
-def lines_of(said, is_lawful):
+def lines_of(said):
     """What is listed in lines of what a line of JSON says."""
     claimed = f" claimed {said['claimed']}" if said["claimed"] not in (None, said["cycles"]) else ""
     yield "block {block} {0} {verdict} cycles {cycles} ours {ours} least {least}".format(said["name"] or "-", **said) + claimed
     shown = f" with --at {said['memory']['at']}" + "".join(f" {it}" for it in said["memory"]["words"]) if said["memory"] else ""
+    if not said["rows"] and said["verdict"] != "lawful":
+        yield "  no rows"
     if said["void"]:
         yield "  the block faults: {operation}".format(**said["void"]) if len(said["void"]) > 1 else "  the block shows nothing"
     if said["difference"]:
         it = {name: "none" if value is None else value for name, value in said["difference"].items()}
         yield "  " + {"output": "output {number}: {got} for {wanted}", "word": "word {address}: {got} for {wanted}",
                       "fault": "fault", "no_fault": "no fault"}[it["kind"]].format(**it) + shown
-    if said["left_out"]:
+    is_told = said["verdict"] not in ("units", "unread")
+    if said["left_out"] and is_told:
         yield "  left out {count}: {operation}".format(**said["left_out"])
-    if said["added"]:
+    if said["added"] and is_told:
         yield "  added {count}: row {row}: {operation}".format(**said["added"])
-    for it in said["reasons"]:
-        if it["kind"] != "undecided" or not is_lawful:
-            yield "  " + reason_of(it)
+    yield from ("  " + reason_of(it) for it in said["reasons"])
     if said["more"]:
         yield "  and {more} more".format(**said)
 
@@ -44,15 +49,15 @@ def reason_of(it):
 
 
 def are_the_same(texts, *words):
-    """With the same status, the same is listed in JSON as in lines, but for the totals, and that there are no rows."""
+    """With the same status, which says whether all pass, the same is listed in JSON as in lines, but for the totals."""
     kinds = set()
     for text in texts:
         status, out, err = ending([*WORDS, *words], text)
         got = ending([*WORDS, "--json", *words], text)
         said = [json.loads(it) for it in got[1].decode("ascii").splitlines()]
-        lines = [it for one in said for it in lines_of(one, "--lawful" in words)]
-        due = [it for it in out.decode("latin-1").splitlines()[:-1] if it != "  no rows"]
-        if (got[0], got[2], lines) != (status, err, due):
+        lines = [it for one in said for it in lines_of(one)]
+        due = out.decode("latin-1").splitlines()[:-1]
+        if (got[0], got[2], lines, all(one["passes"] for one in said)) != (status, err, due, not status):
             yield f"{text!r}: {told(got)} beside {told((status, out, err))}"
         kinds |= {one["verdict"] for one in said}
     if len(kinds) < 3:
@@ -63,10 +68,30 @@ def texts_of(*tables):
     return [(it[0] + spread(it[1])).encode() for one in tables for it in one.values()]
 
 
+def undecided():
+    """Rows that compute another graph than their block, of which each point has as many neighbours."""
+    chance = random.Random(8)
+    own, other = (alike.regular(chance, 12, 3) for _ in range(2))
+    return text_of([alike.graph(12, own)]) + proposed(1, "B1", alike.shuffled(chance, 12, other))
+
+
+def undecided_cases():
+    """A line says so whether or not it is the verdict."""
+    for verdict, words in ("void", []), ("undecided", ["--lawful"]):
+        yield Run(f"judged/json/{verdict}_in_lines", ["check", *words], undecided(), (
+            f"block 1 B1 {verdict} cycles 48 ours 24 least 24\n  the block shows nothing\n  undecided\n"
+            "total 48 ours 24 least 24\n").encode(), b"", NOT_SAME)
+        yield Run(f"judged/json/{verdict}", ["check", "--json", *words], undecided(), (
+            f'{{"block":1,"name":"B1","verdict":"{verdict}","passes":false,"rows":30,"cycles":48,"ours":24,"least":24,'
+            '"claimed":null,"void":{"kind":"shows_nothing"},"difference":null,"memory":null,"left_out":null,"added":null,'
+            '"reasons":[{"kind":"undecided"}],"more":0}\n').encode(), b"", NOT_SAME)
+
+
 def json_cases():
     yield from (it.case(f"json/{name}", it.in_json) for name, it in LISTED.items() if it.in_json)
     yield Run("judged/json/two_forms", ["check", "--json", "--csv"], b"a:", b"", b"ilocfarm: --csv and --json exclude each other\n", 2)
     yield Run("judged/json/other_commands", ["counts", "--json"], b"a:", b"", None, 2)
+    yield from undecided_cases()
     yield Check("judged/json/tables", are_the_same, texts_of(SAME, VERDICTS, UNLIKE))
     yield Check("judged/json/lawful", are_the_same, texts_of(SAME, VERDICTS), "--lawful")
     yield Check("judged/json/outputs", are_the_same, texts_of(SAME, VERDICTS, SHOWN), "--outputs")

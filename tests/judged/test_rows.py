@@ -149,9 +149,13 @@ UNREAD_ROWS = {
 }
 # The last line of each is the third.
 NO_BLOCK = ["a:\nb:\n[ nop ; nop ]", "a:\nb:\ncycles 0", "a:\n[ nop ; nop ]\nblock 1 a", "a:\ncycles 0\nblock 1 a", "a:\nb:\nblock 0 a",
-            "a:\nb:\nblock 3 c", "a:\nb:\nblock 1 b", "a:\nb:\nblock 1 -", "nop\nb:\nblock 1 a",
-            "a:\nblock 1 a\nblock 1 a", "a:\nb:\nblock 2147483647 a", "a:\nb:\nblock 1 A", "a:\nb:\nblock 1 ab",
-            "a:\nb:\nblock 65535 a", "a:\n[ output 2147483648 ]\nblock 1 a", "a:\ncycles 2147483648\nblock 1 a"]
+            "a:\nb:\nblock 0 b", "a:\nb:\nblock 3 c", "a:\nblock 1 a\nblock 1 a", "a:\nblock 1 a\nblock 1 b", "a:\nblock 1 b\nblock 1 a",
+            "a:\nb:\nblock 2147483647 a", "a:\nb:\nblock 65535 a"]
+# The first block of two, its name, and another one in its head.
+MISNAMED = [("a:", "a", "b"), ("a:", "a", "-"), ("nop", "-", "a"), ("a:", "a", "A"), ("a:", "a", "ab"), ("ab:", "ab", "a")]
+# Lines before the head of the only block, of which the last can't be read, with what is wanted and found there.
+BEFORE_THE_HEAD = [("[ output 2147483648 ]", "a number up to 2147483647", "2147483648"), ("total 1\nhello", "[", "hello"),
+                   ("cycles 2147483648", "a number up to 2147483647", "2147483648")]
 # The last line of each can't be read, and is of no block.
 UNREAD_OF_NONE = ["a:\nb:\n[ output 2147483648 ]", "a:\nb:\ncycles 2147483648", "a:\nb:\nblock 2147483648 b", "a:\nb:\n[ nop\nblock 1 a"]
 BAD, LARGE, NONE = "not understood", "number above 2147483647", NO_SUCH_BLOCK
@@ -172,7 +176,8 @@ class Listed(NamedTuple):
 
     def case(self, name, in_json=""):
         words = [*WORDS, *self.options, *["--json"] * bool(in_json)]
-        status = status_of(it[3].decode() for it in ENTRY.finditer(self.out.encode("latin-1")))
+        verdicts = (it[3].decode() for it in ENTRY.finditer(self.out.encode("latin-1")))
+        status = status_of(verdicts, lawful="--lawful" in self.options)
         given, out = (it.encode("latin-1") for it in (self.text, in_json or self.out))
         return Run(f"judged/{name}", words, given, out, b"", status)
 
@@ -348,6 +353,14 @@ def unread_rows():
             yield unread("_".join([name, *words]), text, out, *words)
         yield unread(f"{name}_in_a_table", text, "block,name,verdict,cycles,ours,least,claimed\n"
                      f"1,a,unread,{cycles},1,1,\n2,b,lawful,1,1,1,\n", "--csv")
+    for first, own, name in MISNAMED:
+        yield unread(f"{own}_misnamed_{name}", f"{first}\nb:\nblock 1 {name}\n[ output 4 ]\nblock 2 b\n",
+                     f"block 1 {own} unread cycles 2 ours 0 least 0\n  line 3, row 0: expected the block's name, found {name}\n"
+                     "block 2 b lawful cycles 0 ours 0 least 0\ntotal 2 ours 0 least 0\n")
+    for lines, wanted, found in BEFORE_THE_HEAD:
+        yield unread(f"before_the_head: {lines!r}", f"a: output 4\n{lines}\nblock 1 a\n[ output 4 ]\n",
+                     f"block 1 a unread cycles 2 ours 1 least 1\n  line {lines.count(chr(10)) + 2}, row 0: "
+                     f"expected {wanted}, found {found}\ntotal 2 ours 1 least 1\n")
 
 
 def at_the_limits():

@@ -131,28 +131,31 @@ class Reader:
             self.start(*said)
         elif kind == "cycles":
             self.current().claim = said
+            self.head = self.head or 1
         elif kind == "row":
             self.issue([None if op.opcode == "nop" else op for op in said])
 
     def start(self, number, name):
-        if not self.head < number <= len(self.blocks) or self.blocks[number - 1].name != name:
+        if not self.head < number <= len(self.blocks):
             raise Refused(NO_SUCH_BLOCK)
         self.head = number
+        if self.blocks[number - 1].name != name:
+            self.issue_unread()
 
     def current(self, fault=NO_SUCH_BLOCK):
         if not self.head and len(self.blocks) != 1:
             raise Refused(fault)
-        self.head = self.head or 1
-        return self.blocks[self.head - 1]
+        return self.blocks[max(self.head, 1) - 1]
 
     def issue_unread(self):
-        """A line that can't be read stands as an empty row."""
+        """A line that can't be read stands as an empty row, and one of a single block may come before its head."""
         block = self.current("not understood")
         block.unread = block.unread or (self.number, len(block.rows))
         block.rows.append([None, None])
 
     def issue(self, row):
         block = self.current()
+        self.head = self.head or 1
         block.rows.append(row)
         block.issued += sum(op is not None for op in row)
         few(block.issued)

@@ -68,7 +68,7 @@ module _ (ops others : List Op) (none : lacking ops others ≡ 0) (op : Op) wher
   few : count_like op ops ≤ count_like op others
   few = subst (λ (os : List Op). count_like op os ≤ count_like op others) (take-length ops) (few_of_first (length ops) (omega arith))
 
-kept : (asked : Bool) (block ops : List Op) → keeps_operations asked block ops ≡ true → asked ≡ true
+pub kept : (asked : Bool) (block ops : List Op) → keeps_operations asked block ops ≡ true → asked ≡ true
     → AreItsOperations block ops
 kept true block ops keeps is op =
     let left : ℕ = lacking (without_nops block) ops in

@@ -34,7 +34,7 @@ compared_kind (of.DiffersOn probe difference) = kind.Differs
 
 -- A verdict in a word. Where nothing but rows by the book passes, that this isn't decided comes before how they compare.
 abbrev pub kind_of : Bool → Verdict → VerdictKind
-kind_of lawful (Units c) = kind.Units
+kind_of lawful (Units c changes) = kind.Units
 kind_of lawful Lawful = kind.Lawful
 kind_of lawful (Unlawful reasons found) = compared_kind found
 kind_of true (Undecided found) = kind.Undecided
@@ -52,6 +52,16 @@ found word keeps sought lat block ours proposal = record {
   least = least lat block;
 }
 
+-- whether rows of this verdict pass, where nothing but rows by the book does or where others may
+abbrev pub is_passing : Bool → VerdictKind → Bool
+is_passing lawful kind.Lawful = true
+is_passing lawful kind.Same = not lawful
+is_passing lawful kind.Prints = not lawful
+is_passing lawful word = false
+
+abbrev pub passes : Bool → Checked → Bool
+passes lawful checked = checked.keeps_operations && is_passing lawful checked.kind
+
 -- Of what is proposed for a block this is found, whatever was sought, and this entry listed, as is asked for, by a verdict that
 -- is right. What our schedule issues is lawful.
 pub record IsCheck (options : CheckOptions) (lat : Latencies) (memory : List ℤ) (block : List Op) (ours : Table)
@@ -62,7 +72,8 @@ pub record IsCheck (options : CheckOptions) (lat : Latencies) (memory : List ℤ
   pub is_found : checked
       ≡ found (kind_of options.lawful verdict) (keeps_operations options.operations block proposal.ops) checked.sought lat block
       ours proposal
-  pub listed : entry ≡ entry_as options.lawful options.form proposal.claimed proposal.ops proposal.rows verdict checked
+  pub listed : entry
+      ≡ entry_as (passes options.lawful checked) options.form proposal.claimed proposal.ops proposal.rows verdict checked
 
 -- the operations in these rows keep the rules of the units, and on every memory of 16,384 words of 32 bits they have the
 -- block's outcome or, where outputs alone are compared, show what the block shows
@@ -70,17 +81,7 @@ pub record DoTheSame (outputs : Bool) (lat : Latencies) (block ops : List Op) (r
   pub table : IsTable ops rows
   pub agree : AgreesOnAll outputs lat block ops rows
 
--- What passes
-
--- whether rows of this verdict pass, where nothing but rows by the book does or where others may
-abbrev pub is_passing : Bool → VerdictKind → Bool
-is_passing lawful kind.Lawful = true
-is_passing lawful kind.Same = not lawful
-is_passing lawful kind.Prints = not lawful
-is_passing lawful word = false
-
-abbrev pub passes : Bool → Checked → Bool
-passes lawful checked = checked.keeps_operations && is_passing lawful checked.kind
+-- What holds of what passes
 
 -- What rows that pass do: they are by the book; or, where they needn't be, they do the same as the block on every
 -- memory, and on the one handed in that says something.

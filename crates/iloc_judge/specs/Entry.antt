@@ -12,8 +12,8 @@ pub mod Json
 pub mod Listing
 pub mod Reasons
 
--- of operations and rows, for which these cycles are claimed: lines, a row of a table, or a line of JSON
-abbrev pub entry_as : (lawful : Bool) → Form → Option ℕ → List Op → List Row → Verdict → Checked → List ℕ
-entry_as lawful forms.Lines claimed ops rows verdict checked = lines_of lawful claimed ops rows verdict checked
-entry_as lawful forms.Table claimed ops rows verdict checked = row_of checked claimed
-entry_as lawful forms.Json claimed ops rows verdict checked = json_of claimed ops rows verdict checked
+-- of operations and rows that pass or don't, for which these cycles are claimed: lines, a row of a table, or a line of JSON
+abbrev pub entry_as : (passing : Bool) → Form → Option ℕ → List Op → List Row → Verdict → Checked → List ℕ
+entry_as passing forms.Lines claimed ops rows verdict checked = lines_of claimed ops rows verdict checked
+entry_as passing forms.Table claimed ops rows verdict checked = row_of checked claimed
+entry_as passing forms.Json claimed ops rows verdict checked = json_of passing claimed ops rows verdict checked

@@ -10,6 +10,8 @@ use Rattle.iloc_validation.specs.ByTheBook.{IsByTheBook}
 use Rattle.iloc_reasons.specs.Reasons.{AreReasons}
 use Rattle.iloc_judge.specs.declared.verdict.Verdict.{Verdict}
 use Rattle.iloc_judge.specs.declared.verdict.Verdict.TheVariants.{Units, Lawful, Unlawful, Undecided}
+use Rattle.iloc_judge.specs.Changes.{AreChanges}
+use Rattle.iloc_judge.specs.Kept.{AreItsOperations}
 use Rattle.iloc_judge.specs.Verdict.Comparison.{IsComparison}
 pub mod Comparison
 pub mod Difference
@@ -17,13 +19,15 @@ pub mod Memory
 pub mod Void
 
 -- The verdict is right, of operations and rows for a block, with this memory handed in: the row is the first that breaks the
--- rules of the units; the rows are by the book; or they aren't, these facts hold of them, and so they compare, by outcomes or
--- by outputs alone; or neither is decided, and so they compare.
+-- rules of the units, and these operations are left out or added; the rows are by the book; or they aren't, these facts hold of
+-- them, and so they compare, by outcomes or by outputs alone; or neither is decided, nothing is left out or added, and so they
+-- compare.
 abbrev pub IsVerdict : Bool → Latencies → List Op → List Op → List Row → List ℤ → Verdict → Type 0
-IsVerdict outputs lat block ops rows memory (Units c) = IsFirstBadRow ops rows c
+IsVerdict outputs lat block ops rows memory (Units c changes) =
+    IsFirstBadRow ops rows c × AreChanges (without_nops block) ops rows changes
 IsVerdict outputs lat block ops rows memory Lawful = IsByTheBook lat block ops rows
 IsVerdict outputs lat block ops rows memory (Unlawful reasons found) =
     IsTable ops rows × (IsByTheBook lat block ops rows → ⊥) × AreReasons lat (without_nops block) ops rows reasons
     × IsComparison outputs lat block ops rows memory found
 IsVerdict outputs lat block ops rows memory (Undecided found) =
-    IsTable ops rows × IsComparison outputs lat block ops rows memory found
+    IsTable ops rows × AreItsOperations block ops × IsComparison outputs lat block ops rows memory found

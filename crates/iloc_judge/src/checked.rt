@@ -7,8 +7,9 @@ ghost use Rattle.iloc_judge.specs.Kept.{keeps_operations as kept};
 ghost use Rattle.iloc_judge.specs.Entry.Listing.{lines_of};
 ghost use Rattle.iloc_judge.specs.Steps.Counted.{CanBeListed};
 
+pub mod changes;
 pub mod detail;
-mod kept;
+pub(crate) mod kept;
 pub mod reason;
 pub(crate) mod unit_rule;
 pub(crate) mod verdict_line;
@@ -18,6 +19,7 @@ use crate::task::{Form, Judging, Task};
 use crate::verdict::comparison::Comparison;
 use crate::verdict::kind::VerdictKind;
 use crate::verdict::{Verdict, judge};
+use changes::changes_of;
 use detail::push_detail;
 use iloc_ops::{NoMemory, Op};
 use iloc_rows::Proposal;
@@ -76,7 +78,7 @@ fn kind_of(lawful: bool, verdict: &Verdict) -> VerdictKind
     ensures { result ≡ kind_of lawful verdict.now }
 {
     match verdict {
-        Verdict::Units(_) => VerdictKind::Units,
+        Verdict::Units(..) => VerdictKind::Units,
         Verdict::Lawful => VerdictKind::Lawful,
         Verdict::Undecided(_) if lawful => VerdictKind::Undecided,
         Verdict::Unlawful(_, comparison) | Verdict::Undecided(comparison) => {
@@ -108,7 +110,6 @@ pub(crate) fn found(
 /// Appends a line with this verdict on operations and rows, and what is said below it.
 fn push_lines(
     text: &mut Vec<u8>,
-    judging: &Judging<'_>,
     claimed: Option<u32>,
     ops: &[Op],
     rows: &[Row],
@@ -117,10 +118,10 @@ fn push_lines(
 ) -> Result<(), NoMemory>
     requires { CanBeListed rows.now verdict.now }
     ensures { OnOk result (text.new.items ≡ text.old.items
-        ++ lines_of judging.now.options.lawful claimed ops.now rows.now verdict.now checked) }
+        ++ lines_of claimed ops.now rows.now verdict.now checked) }
 {
     push_line(text, checked, claimed)?;
-    push_detail(text, judging.options.lawful, ops, rows, verdict)
+    push_detail(text, ops, rows, verdict)
 }
 
 /// Appends what is listed of operations and rows with this verdict, in the form that is asked for.
@@ -135,17 +136,20 @@ fn push_entry(
 ) -> Result<(), NoMemory>
     requires { CanBeListed rows.now verdict.now }
     ensures { OnOk result (text.new.items ≡ text.old.items
-        ++ entry_as judging.now.options.lawful judging.now.options.form claimed ops.now rows.now verdict.now checked) }
+        ++ entry_as (passes judging.now.options.lawful checked) judging.now.options.form claimed ops.now rows.now verdict.now
+        checked) }
 {
+    let passing = checked.passes(judging.options.lawful);
     match judging.options.form {
-        Form::Lines => push_lines(text, judging, claimed, ops, rows, verdict, checked),
+        Form::Lines => push_lines(text, claimed, ops, rows, verdict, checked),
         Form::Table => push_table_row(text, checked, claimed),
-        Form::Json => push_json(text, claimed, ops, rows, verdict, checked),
+        Form::Json => push_json(text, passing, claimed, ops, rows, verdict, checked),
     }
 }
 
 /// Appends what is listed of a proposal of which this row is the first that breaks the rules of the units.
 fn push_units(
+    alloc: Global,
     text: &mut Vec<u8>,
     judging: &Judging<'_>,
     task: &Task<'_>,
@@ -163,7 +167,8 @@ fn push_units(
 {
     let (ops, rows) = (proposal.ops(), proposal.rows());
     let checked = found(task, proposal, VerdictKind::Units, keeps_operations);
-    let verdict = Verdict::Units(row);
+    let changes = changes_of(alloc, task.block, ops, rows)?;
+    let verdict = Verdict::Units(row, changes);
     push_entry(
         text,
         judging,
@@ -201,7 +206,7 @@ pub fn push_check(
     let options = judging.options;
     let keeps_operations = keeps_operations(alloc, options.operations, task.block, proposal.ops())?;
     if let Some(row) = proposal.bad_row() {
-        return push_units(text, judging, task, &proposal, keeps_operations, row);
+        return push_units(alloc, text, judging, task, &proposal, keeps_operations, row);
     }
     let claimed = proposal.claimed();
     let found = found(task, &proposal, VerdictKind::Lawful, keeps_operations);

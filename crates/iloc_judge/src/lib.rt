@@ -10,6 +10,7 @@ mod task;
 mod unread;
 mod verdict;
 
+pub use checked::changes::Changes;
 pub use checked::detail::push_bad_row;
 pub use checked::reason::push_reasons;
 pub use checked::{Checked, push_check};

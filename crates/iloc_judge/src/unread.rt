@@ -1,7 +1,8 @@
 //! What is listed of rows among which a line can't be read.
-ghost use Rattle.std.specs.Prelude.{ℕ, ◌≡◌, ◌++◌, List, Some, IfOk, OnOk};
+ghost use Rattle.std.specs.Prelude.{ℕ, ◌≡◌, ◌++◌, List, Some, length, IfOk, OnOk};
 ghost use Rattle.iloc_judge.specs.Unread.{in_one_line, unread_as, unread_lines, unread_told, IsUnread, IsUnreadLine};
 
+use crate::checked::changes::{Changes, changes_of};
 use crate::checked::verdict_line::{push_line, push_table_row};
 use crate::checked::{Checked, found};
 use crate::json::push_unread_json;
@@ -61,34 +62,39 @@ fn push_unread_lines(
     push_told(text, unread, words)
 }
 
-/// Appends what is listed of rows among which this line can't be read, in this form.
+/// Appends what is listed of a proposal in which this line can't be read, in this form.
 fn push_unread_as(
     text: &mut Vec<u8>,
     form: Form,
+    proposal: &Proposal,
+    changes: Changes,
     checked: Checked,
-    claimed: Option<u32>,
     unread: &Unread,
     words: &[u8],
 ) -> Result<(), NoMemory>
     ensures { OnOk result (text.new.items
-        ≡ text.old.items ++ unread_as form checked claimed unread.now words.now) }
+        ≡ text.old.items ++ unread_as form (length proposal.now.rows) changes checked proposal.now.claimed unread.now words.now) }
 {
+    let claimed = proposal.claimed();
     match form {
         Form::Lines => push_unread_lines(text, checked, claimed, unread, words),
         Form::Table => push_table_row(text, checked, claimed),
-        Form::Json => push_unread_json(text, claimed, unread, words, checked),
+        Form::Json => {
+            let rows = proposal.rows().len();
+            push_unread_json(text, rows, changes, claimed, unread, words, checked)
+        }
     }
 }
 
 /// Appends what is listed of a proposal of which this is the first line that can't be read, beside our schedule of the block,
 /// after the block's head: the verdict `unread` with the cycles of the rows, ours, what is sought and the least, and a line that
 /// says where it is and, in words, what is wrong with it. In a table it is a row, with no lines below; in JSON it is one line that
-/// has all of it, and the text of what can't be read.
+/// has all of it, what is left out and added, and the text of what can't be read.
 ///
 /// After a refusal a part of it may have been appended.
 ///
-/// Promise: it doesn't pass, and what is listed are its cycles, where the line is an empty row, and its place and text, with
-/// `row_wording`'s words for it.
+/// Promise: it doesn't pass, and what is listed are its cycles and changes, where the line is an empty row, and its place and
+/// text, with `row_wording`'s words for it.
 pub fn push_unread(
     alloc: Global,
     text: &mut Vec<u8>,
@@ -104,7 +110,8 @@ pub fn push_unread(
         × (text.new.items ≡ text.old.items ++ entry)) }
 {
     let checked = found(task, proposal, VerdictKind::Unread, false);
+    let changes = changes_of(alloc, task.block, proposal.ops(), proposal.rows())?;
     let words = row_wording(alloc, unread.text.as_bytes())?;
-    push_unread_as(text, form, checked, proposal.claimed(), unread, &words)?;
+    push_unread_as(text, form, proposal, changes, checked, unread, &words)?;
     Ok(checked)
 }

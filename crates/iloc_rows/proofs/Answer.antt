@@ -1,5 +1,5 @@
 -- A text has one answer.
-use Rattle.std.proofs.Common.{◌≡◌, ◌∙◌, ℕ, ◌+◌, ◌<◌, ◌≤◌, Bool, true, false, List, [], ◌∷◌, ◌++◌, length, refl, sym, ap, ap₂, subst, subst₂, ◌⊎◌, inl, inr, append_assoc, append-nil, arith}
+use Rattle.std.proofs.Common.{◌≡◌, ◌∙◌, ℕ, ◌+◌, ◌<◌, ◌≤◌, Bool, true, false, List, [], ◌∷◌, ◌++◌, length, refl, sym, ap, ap₂, subst, subst₂, Some, None, ◌⊎◌, inl, inr, append_assoc, append-nil, arith}
 use Rattle.std.specs.List.{join_with_byte}
 use Rattle.iloc_ops.specs.Limits.{MAX_INPUT}
 use Rattle.iloc_ops.specs.declared.file.Block.{Block}
@@ -7,11 +7,13 @@ use Rattle.iloc_text.specs.declared.fault.ReadFault.{ReadFault}
 use Rattle.iloc_text.specs.declared.fault.ReadFault.TheVariants.{InputTooLong, BadLine, TooManyOperations}
 use Rattle.iloc_text.specs.Files as files
 use Rattle.iloc_text.specs.Files.{AreLines}
+use Rattle.iloc_text.specs.ScheduleLines.{Said, Says}
 use Rattle.iloc_text.proofs.Answer.{lines_are_of, one_answer}
 use Rattle.iloc_text.proofs.ScheduleLines.Says.{one_said}
 use Rattle.iloc_rows.specs.declared.fault.RowsFault.{RowsFault}
 use Rattle.iloc_rows.specs.declared.fault.RowsFault.TheVariants.{Read, NoBlocks, NoSuchBlock}
 use Rattle.iloc_rows.specs.declared.proposal.Proposed.{Proposed}
+use Rattle.iloc_rows.specs.Names.{misnamed}
 use Rattle.iloc_rows.specs.Told.{Told, Tells}
 use Rattle.iloc_rows.specs.Told.Told.{read, unread}
 use Rattle.iloc_rows.specs.Proposing.{is_of_block, proposals_of, Fits, AllFit}
@@ -39,26 +41,46 @@ same_split input b a c d l m h k =
 -- What lines tell
 
 -- a line tells one thing at most
-one_told : (n : ℕ) (line : List ℕ) (t t' : Told) → Tells n line t → Tells n line t' → t ≡ t'
-one_told n line (read s) (read s') h k = ap read (one_said line s s' h k)
-one_told n line (read s) (unread m text) h k = absurd (k.2 (s, h))
-one_told n line (unread m text) (read s) h k = absurd (h.2 (s, k))
-one_told n line (unread m text) (unread m' text') h k = ap₂ unread (h.0 ∙ sym k.0) (h.1 ∙ sym k.1)
+-- what is said by a line is the head of one block by another name, or of none
+one_turn : (blocks : List Block) (line : List ℕ) (s s' : Said) → Says line s → Says line s' → misnamed blocks s ≡ misnamed blocks s'
+one_turn blocks line s s' h k = ap (misnamed blocks) (one_said line s s' h k)
 
-same_told : (n : ℕ) (lines : List (List ℕ)) (ss ts : List Told) → TellAll n lines ss → TellAll n lines ts → ss ≡ ts
-same_told n [] [] [] h k = refl
-same_told n [] (s ∷ ss) ts h k = absurd h
-same_told n (l ∷ ls) [] ts h k = absurd h
-same_told n (l ∷ ls) (s ∷ ss) (t ∷ ts) h k =
-    ap₂ (λ x xs. x ∷ xs) (one_told (n + 1) l s t h.0 k.0) (same_told (n + 1) ls ss ts h.1 k.1)
-same_told n lines ss ts h k = absurd k
+one_told : (blocks : List Block) (n : ℕ) (line : List ℕ) (t t' : Told) → Tells blocks n line t → Tells blocks n line t' → t ≡ t'
+one_told blocks n line (read s) (read s') h k = ap read (one_said line s s' h.0 k.0)
+one_told blocks n line (read s) (unread None m text) h k = absurd (k.2 (s, h.0))
+one_told blocks n line (read s) (unread (Some j) m text) h k =
+    absurd (let same : None ≡ Some j = sym h.1 ∙ one_turn blocks line s k.2.0 h.0 k.2.1 ∙ k.2.2 in cc)
+one_told blocks n line (unread None m text) (read s) h k = absurd (h.2 (s, k.0))
+one_told blocks n line (unread (Some j) m text) (read s) h k =
+    absurd (let same : None ≡ Some j = sym k.1 ∙ one_turn blocks line s h.2.0 k.0 h.2.1 ∙ h.2.2 in cc)
+one_told blocks n line (unread None m text) (unread None m' text') h k = ap₂ (unread None) (h.0 ∙ sym k.0) (h.1 ∙ sym k.1)
+one_told blocks n line (unread None m text) (unread (Some j) m' text') h k = absurd (h.2 (k.2.0, k.2.1))
+one_told blocks n line (unread (Some j) m text) (unread None m' text') h k = absurd (k.2 (h.2.0, h.2.1))
+one_told blocks n line (unread (Some j) m text) (unread (Some j') m' text') h k =
+    let same : Some j ≡ Some j' = sym h.2.2 ∙ one_turn blocks line h.2.0 k.2.0 h.2.1 k.2.1 ∙ k.2.2 in
+    ap (λ turn. unread turn m text) same ∙ ap₂ (unread (Some j')) (h.0 ∙ sym k.0) (h.1 ∙ sym k.1)
+
+same_told : (blocks : List Block) (n : ℕ) (lines : List (List ℕ)) (ss ts : List Told) → TellAll blocks n lines ss
+    → TellAll blocks n lines ts → ss ≡ ts
+same_told blocks n [] [] [] h k = refl
+same_told blocks n [] (s ∷ ss) ts h k = absurd h
+same_told blocks n (l ∷ ls) [] ts h k = absurd h
+same_told blocks n (l ∷ ls) (s ∷ ss) (t ∷ ts) h k =
+    ap₂ (λ x xs. x ∷ xs) (one_told blocks (n + 1) l s t h.0 k.0) (same_told blocks (n + 1) ls ss ts h.1 k.1)
+same_told blocks n lines ss ts h k = absurd k
+
+-- below the same blocks the same lines tell the same
+tell_same : {blocks blocks' : List Block} {n n' : ℕ} {lines lines' : List (List ℕ)} (ss : List Told)
+    → blocks ≡ blocks' → n ≡ n' → lines ≡ lines' → TellAll blocks n lines ss → TellAll blocks' n' lines' ss
+tell_same {blocks} {blocks'} {n} {n'} {lines} {lines'} ss same number others tell =
+    subst (λ bs. TellAll bs n' lines' ss) same (subst₂ (λ m ls. TellAll blocks m ls ss) number others tell)
 
 -- Faults
 
 -- a line that is of no block is of none, whatever it tells
-of_none : {blocks : List Block} {ss : List Told} {line : List ℕ} {n : ℕ} {b : Bool} (s : Told) → Tells n line s
+of_none : {blocks : List Block} {ss : List Told} {line : List ℕ} {n : ℕ} {b : Bool} (s : Told) → Tells blocks n line s
     → IsOfNoBlock blocks ss line n b → is_of_block blocks ss s ≡ false
-of_none {blocks} {ss} {line} {n} {b} s h k = ap (is_of_block blocks ss) (one_told n line s k.told h k.tells) ∙ k.of_none
+of_none {blocks} {ss} {line} {n} {b} s h k = ap (is_of_block blocks ss) (one_told blocks n line s k.told h k.tells) ∙ k.of_none
 
 -- so it makes no operations of a block
 not_many : {blocks : List Block} {ss : List Told} {line : List ℕ} {n : ℕ} {b : Bool}
@@ -73,7 +95,8 @@ not_both : {blocks : List Block} {ss : List Told} {line : List ℕ} {n : ℕ}
 not_both h k = grind (arith, one_told)
 
 -- a line that fits has no fault
-no_fault : (blocks : List Block) (ss : List Told) (line : List ℕ) (n : ℕ) (fault : RowsFault) (s : Told) → Tells n line s
+no_fault : (blocks : List Block) (ss : List Told) (line : List ℕ) (n : ℕ) (fault : RowsFault) (s : Told)
+    → Tells blocks n line s
     → Fits blocks ss s → IsFaulty blocks ss line n fault → ⊥
 no_fault blocks ss line n fault s h f k = grind (arith, of_none, one_told)
 
@@ -96,7 +119,7 @@ same_fault blocks ss line n _ _ h k = grind arith
 record Faulty (blocks : List Block) (front : List Told) (n : ℕ) (before : List (List ℕ)) (line : List ℕ)
     (fault : RowsFault) : Type 0 where
   told : List Told
-  tell : TellAll n before told
+  tell : TellAll blocks n before told
   fit : AllFit blocks front told
   faulty : IsFaulty blocks (front ++ told) line (n + length before + 1) fault
 
@@ -107,7 +130,7 @@ at_none blocks front n line fault f = grind (arith, append-nil, subst₂)
 
 at_some : (blocks : List Block) (front : List Told) (n : ℕ) (x : List ℕ) (xs : List (List ℕ)) (line : List ℕ)
     (fault : RowsFault) → Faulty blocks front n (x ∷ xs) line fault
-    → (s : Told) × Tells (n + 1) x s × Fits blocks front s × Faulty blocks (front ++ s ∷ []) (n + 1) xs line fault
+    → (s : Told) × Tells blocks (n + 1) x s × Fits blocks front s × Faulty blocks (front ++ s ∷ []) (n + 1) xs line fault
 at_some blocks front n x xs line fault f = grind (arith, append_assoc, subst₂)
 
 same_first : (blocks : List Block) (front : List Told) (n : ℕ) (b : List (List ℕ)) (l : List ℕ) (a : List (List ℕ))
@@ -129,13 +152,14 @@ same_first blocks front n (x ∷ xs) l a (y ∷ ys) m d fault fault' e f g =
     let rest : xs ++ l ∷ a ≡ ys ++ m ∷ d = cc in
     let here = at_some blocks front n x xs l fault f in
     let there = at_some blocks front n y ys m fault' g in
-    let one : there.0 ≡ here.0 = one_told (n + 1) x there.0 here.0 (subst (λ t. Tells (n + 1) t there.0) same there.1) here.1 in
+    let one : there.0 ≡ here.0 = one_told blocks (n + 1) x there.0 here.0
+    (subst (λ t. Tells blocks (n + 1) t there.0) same there.1) here.1 in
     same_first blocks (front ++ here.0 ∷ []) (n + 1) xs l a ys m d fault fault' rest here.3
     (subst (λ s. Faulty blocks (front ++ s ∷ []) (n + 1) ys m fault') one there.3)
 
 -- lines that all fit have no fault
 none_first : (blocks : List Block) (front : List Told) (n : ℕ) (lines : List (List ℕ)) (ss : List Told)
-    (b : List (List ℕ)) (l : List ℕ) (a : List (List ℕ)) (fault : RowsFault) → TellAll n lines ss
+    (b : List (List ℕ)) (l : List ℕ) (a : List (List ℕ)) (fault : RowsFault) → TellAll blocks n lines ss
     → AllFit blocks front ss → lines ≡ b ++ l ∷ a → Faulty blocks front n b l fault → ⊥
 none_first blocks front n [] ss [] l a fault h f e g = cc
 none_first blocks front n [] ss (x ∷ xs) l a fault h f e g = cc
@@ -148,7 +172,8 @@ none_first blocks front n (y ∷ ys) (s ∷ ss) (x ∷ xs) l a fault h f e g =
     let same : x ≡ y = cc in
     let rest : ys ≡ xs ++ l ∷ a = cc in
     let there = at_some blocks front n x xs l fault g in
-    let one : there.0 ≡ s = one_told (n + 1) y there.0 s (subst (λ t. Tells (n + 1) t there.0) same there.1) h.0 in
+    let one : there.0 ≡ s = one_told blocks (n + 1) y there.0 s
+    (subst (λ t. Tells blocks (n + 1) t there.0) same there.1) h.0 in
     none_first blocks (front ++ s ∷ []) (n + 1) ys ss xs l a fault h.1 f.1 rest
     (subst (λ t. Faulty blocks (front ++ t ∷ []) (n + 1) xs l fault) one there.3)
 
@@ -241,8 +266,8 @@ one_submission input blocks blocks' proposals proposals' h k =
     let same : blocks ≡ blocks' = one_answer.file (front_text k.before) blocks blocks'
     (subst (λ b. files.Denotes (front_text b) blocks) parts.0 h.file) k.file in
     let number : length h.before ≡ length k.before = ap length parts.0 in
-    let told : h.propose.told ≡ k.propose.told = same_told (length k.before) k.after h.propose.told k.propose.told
-    (subst₂ (λ n ls. TellAll n ls h.propose.told) number parts.1 h.propose.tell) k.propose.tell in
+    let told : h.propose.told ≡ k.propose.told = same_told blocks' (length k.before) k.after h.propose.told
+    k.propose.told (tell_same h.propose.told same number parts.1 h.propose.tell) k.propose.tell in
     (same, h.propose.are ∙ ap₂ (λ bs ss. proposals_of (length bs) ss) same told ∙ sym k.propose.are)
 
 denoted_or_refused : (input : List ℕ) (blocks : List Block) (proposals : List Proposed) (fault : RowsFault)
@@ -271,7 +296,7 @@ denoted_or_refused input blocks proposals fault h k = by (refusal_is input fault
         let moved : Faulty blocks [] (length r.before) f.before f.line fault =
         subst (λ bs. Faulty bs [] (length r.before) f.before f.line fault) same (faulty_of f) in
         none_first blocks [] (length r.before) h.after h.propose.told f.before f.line f.after fault
-        (subst (λ n. TellAll n h.after h.propose.told) (ap length parts.0) h.propose.tell)
+        (subst (λ n. TellAll blocks n h.after h.propose.told) (ap length parts.0) h.propose.tell)
         h.propose.fit (parts.1 ∙ f.whole) moved
 
 pub one_answer_each : laws.TextsHaveOneAnswer
@@ -288,6 +313,6 @@ one_apart task input blocks blocks' proposals proposals' h k =
     let lines : h.rows.lines ≡ k.rows.lines =
     sym (lines_are_of input h.rows.lines h.rows.are_lines) ∙ lines_are_of input k.rows.lines k.rows.are_lines in
     let told : h.rows.propose.told ≡ k.rows.propose.told =
-    same_told 0 k.rows.lines h.rows.propose.told k.rows.propose.told
-    (subst (λ ls. TellAll 0 ls h.rows.propose.told) lines h.rows.propose.tell) k.rows.propose.tell in
+    same_told blocks' 0 k.rows.lines h.rows.propose.told
+    k.rows.propose.told (tell_same h.rows.propose.told same refl lines h.rows.propose.tell) k.rows.propose.tell in
     (same, h.rows.propose.are ∙ ap₂ (λ bs ss. proposals_of (length bs) ss) same told ∙ sym k.rows.propose.are)

@@ -17,6 +17,7 @@ use Rattle.iloc_text.proofs.Splitting.{lines_are}
 use Rattle.iloc_rows.specs.declared.fault.RowsFault.{RowsFault}
 use Rattle.iloc_rows.specs.declared.fault.RowsFault.TheVariants.{Read, NoBlocks, NoSuchBlock}
 use Rattle.iloc_rows.specs.declared.proposal.Proposed.{Proposed}
+use Rattle.iloc_rows.specs.Names.{misnamed}
 use Rattle.iloc_rows.specs.Told.{Told, Tells}
 use Rattle.iloc_rows.specs.Told.Told.{read, unread}
 use Rattle.iloc_rows.specs.Proposing.{proposals_of, is_of_block, op_count, Fits, AllFit}
@@ -72,21 +73,23 @@ cut (line ∷ lines) = elim (one_or_none line) as (λ _. AreCut (line ∷ lines)
 -- the line tells something that fits after what these lines tell
 record IsRead (blocks : List Block) (told : List Told) (line : List ℕ) (n : ℕ) : Type 0 where
   telling : Told
-  tells : Tells n line telling
+  tells : Tells blocks n line telling
   fits : Fits blocks told telling
 
 abbrev Judged : List Block → List Told → List ℕ → ℕ → Type 0
 Judged blocks told line n = ((fault : RowsFault) × IsFaulty blocks told line n fault) ⊎ IsRead blocks told line n
 
 -- where the line is of no block
-homeless : (blocks : List Block) (told : List Told) (line : List ℕ) (n : ℕ) (t : Told) → Tells n line t
+homeless : (blocks : List Block) (told : List Told) (line : List ℕ) (n : ℕ) (t : Told) → Tells blocks n line t
     → is_of_block blocks told t ≡ false → Judged blocks told line n
 homeless blocks told line n (read s) tells h =
     inl (NoSuchBlock n, (refl, record { told = read s; tells = tells; is = refl; of_none = h }))
-homeless blocks told line n (unread k text) tells h =
-    inl (Read (BadLine n), (refl, record { told = unread k text; tells = tells; is = refl; of_none = h }))
+homeless blocks told line n (unread None k text) tells h =
+    inl (Read (BadLine n), (refl, record { told = unread None k text; tells = tells; is = refl; of_none = h }))
+homeless blocks told line n (unread (Some j) k text) tells h =
+    inl (NoSuchBlock n, (refl, record { told = unread (Some j) k text; tells = tells; is = refl; of_none = h }))
 
-by_fit : (blocks : List Block) (told : List Told) (line : List ℕ) (n : ℕ) (t : Told) → Tells n line t
+by_fit : (blocks : List Block) (told : List Told) (line : List ℕ) (n : ℕ) (t : Told) → Tells blocks n line t
     → (there many : Bool) → is_of_block blocks told t ≡ there → nat_lt MAX_OPS (op_count told t) ≡ many
     → Judged blocks told line n
 by_fit blocks told line n t tells false many h m = homeless blocks told line n t tells h
@@ -99,10 +102,14 @@ judged : (blocks : List Block) (told : List Told) (line : List ℕ) (n : ℕ) �
 judged blocks told line n = by (schedule_line_at line) refl
   where
     no_row : (SaysSomething line → ⊥) → Judged blocks told line n
-    no_row none = by_fit blocks told line n (unread n line) (refl, refl, none) _ _ refl refl
+    no_row none = by_fit blocks told line n (unread None n line) (refl, refl, none) _ _ refl refl
+
+    named : (s : Said) → Says line s → (turn : Option ℕ) → misnamed blocks s ≡ turn → Judged blocks told line n
+    named s says None m = by_fit blocks told line n (read s) (says, m) _ _ refl refl
+    named s says (Some k) m = by_fit blocks told line n (unread (Some k) n line) (refl, refl, (s, says, m)) _ _ refl refl
 
     within : (s : Said) → schedule_line_at line ≡ Some s → (b : Bool) → is_said_within s ≡ b → Judged blocks told line n
-    within s e true w = by_fit blocks told line n (read s) (said_good line s e w) _ _ refl refl
+    within s e true w = named s (said_good line s e w) (misnamed blocks s) refl
     within s e false w = no_row (said_large line s e w).1
 
     by : (found : Option Said) → schedule_line_at line ≡ found → Judged blocks told line n
@@ -117,12 +124,12 @@ ProposedOrNot blocks n lines = ((proposals : List Proposed) × Propose blocks n 
 
 -- where the lines before tell this, and it fits
 from_here : (blocks : List Block) (n : ℕ) (all before lines : List (List ℕ)) (told : List Told)
-    → all ≡ before ++ lines → TellAll n before told → AllFit blocks [] told → ProposedOrNot blocks n all
+    → all ≡ before ++ lines → TellAll blocks n before told → AllFit blocks [] told → ProposedOrNot blocks n all
 from_here blocks n all before [] told whole tell fit = inl (
   proposals_of (length blocks) told,
   record {
     told = told;
-    tell = subst (λ ls. TellAll n ls told) (sym (whole ∙ append-nil before)) tell;
+    tell = subst (λ ls. TellAll blocks n ls told) (sym (whole ∙ append-nil before)) tell;
     fit = fit;
     are = refl;
   },
@@ -144,7 +151,7 @@ from_here blocks n all before (line ∷ lines) told whole tell fit =
       )
       | inr good ↦ from_here blocks n all (before ++ line ∷ []) lines (told ++ good.telling ∷ [])
           (whole ∙ sym (append_assoc before (line ∷ []) lines))
-          (TellAll-snoc n before told line good.telling tell good.tells)
+          (TellAll-snoc blocks n before told line good.telling tell good.tells)
           (AllFit-snoc blocks [] told good.telling fit good.fits)
     ]
 

@@ -1,5 +1,5 @@
 -- What the steps of the reader do to what is proposed.
-use Rattle.std.proofs.Common.{◌≡◌, ◌≢◌, ◌∙◌, ℕ, ◌+◌, ◌<◌, ◌≤◌, nat_lt, max, true, false, ◌||◌, ◌==◌, List, [], ◌∷◌, ◌++◌, length, refl, sym, ap, ap₂, subst, Option, Some, None, Result, Ok, Err, set, inl, inr, ◌⊎◌, arith}
+use Rattle.std.proofs.Common.{◌≡◌, ◌≢◌, ◌∙◌, ℕ, ◌+◌, ◌<◌, ◌≤◌, nat_lt, nat_le, max, true, false, ◌&&◌, ◌||◌, ◌==◌, List, [], ◌∷◌, ◌++◌, length, refl, sym, ap, ap₂, subst, Option, Some, None, Result, Ok, Err, set, inl, inr, ◌⊎◌, arith}
 use Rattle.std.proofs.lemmas.List.{get_or_past}
 use Rattle.std.proofs.lemmas.List.FromFn.{length-map-range_with_len, get_or-map-range_with_len}
 use Rattle.std.proofs.lemmas.Bool.Decides.{nat_tests}
@@ -16,7 +16,7 @@ use Rattle.iloc_rows.specs.declared.proposing.Proposing.{Proposing}
 use Rattle.iloc_rows.specs.Told.{Told}
 use Rattle.iloc_rows.specs.Told.Told.{read, unread}
 use Rattle.iloc_rows.specs.Proposing.{last_block, block_of, head_number, proposes, row_in, unread_in, cycles_in, proposal_of, proposals_of, is_of_block, op_count}
-use Rattle.iloc_rows.specs.Steps.Growth.{none_proposed, with_row, with_unread, with_cycles, place, at_place, HasProposed, Adds, RowAdds, Becomes, Turns}
+use Rattle.iloc_rows.specs.Steps.Growth.{none_proposed, with_row, with_unread, with_cycles, place, later_place, at_place, HasProposed, Adds, RowAdds, Becomes, Turns}
 use Rattle.iloc_rows.proofs.Picking.{last_block-none, last_block-more, last_block-head}
 use Rattle.iloc_rows.proofs.Numbering.{ops_in-snoc, proposal-same, proposal-else, proposal-row, proposal-unread, proposal-cycles, proposal-short, map-same, map-set}
 
@@ -103,62 +103,119 @@ row_adds one two n new a h r = r
 
 -- Claims, and lines that can't be read
 
--- a line of its block alone, without operations, by which what is proposed becomes another
+-- a line without operations, by which what is proposed becomes another: of its block, or of the block to which it turns
 record IsChange (s : Told) (change : Proposed → Proposed) (homeless : RowsFault) (number : ℕ) : Type 0 where
-  turns : head_number s ≡ None
-  proposes : proposes s ≡ true
   here : (ss : List Told) (k : ℕ) → block_of (ss ++ s ∷ []) ≡ k → proposal_of (ss ++ s ∷ []) k ≡ change (proposal_of ss k)
   count : (ss : List Told) → op_count ss s ≡ 0
-  fits : (blocks : List Block) (ss : List Told)
-      → is_of_block blocks ss s ≡ (nat_lt 0 (last_block ss) || (length blocks == 1))
   refused : (blocks : List Block) (ss : List Told) (new : Proposing) → is_of_block blocks ss s ≡ false
       → Adds blocks ss s number new (Err homeless)
 
+-- what it is after these lines: where there is a place for it, a line of the block there, which then is the last; else of none
+record IsTurn (blocks : List Block) (ss : List Told) (s : Told) (at : Option ℕ) (last : ℕ) : Type 0 where
+  there : (i : ℕ) → at ≡ Some i
+      → (last_block (ss ++ s ∷ []) ≡ last) × (max 1 last ≡ 1 + i) × (i < length blocks) × (is_of_block blocks ss s ≡ true)
+  nowhere : at ≡ None → is_of_block blocks ss s ≡ false
+
 change_grows : {homeless : RowsFault} {number : ℕ} (blocks : List Block) (ss : List Told) (s : Told)
-    (change : Proposed → Proposed) (i : ℕ) → IsChange s change homeless number → IsAt blocks ss i
+    (change : Proposed → Proposed) (i : ℕ) → IsChange s change homeless number → block_of (ss ++ s ∷ []) ≡ 1 + i
+    → i < length blocks
     → proposals_of (length blocks) (ss ++ s ∷ [])
     ≡ set (proposals_of (length blocks) ss) i (change (at_place (proposals_of (length blocks) ss) i))
-change_grows {homeless} {number} blocks ss s change i c a =
-    let here : block_of (ss ++ s ∷ []) ≡ 1 + i = still_of ss s c.turns c.proposes ∙ a.block in
+change_grows {homeless} {number} blocks ss s change i c here within =
     map-set (proposal_of ss) (proposal_of (ss ++ s ∷ [])) 1 (length blocks) i
-    (change (at_place (proposals_of (length blocks) ss) i)) a.within
-    (c.here ss (1 + i) here ∙ ap change (sym (at-proposals (length blocks) ss i a.within)))
+    (change (at_place (proposals_of (length blocks) ss) i)) within
+    (c.here ss (1 + i) here ∙ ap change (sym (at-proposals (length blocks) ss i within)))
     (λ k ne. proposal-else ss s k (λ e. ne (sym e ∙ here)))
 
 memory_or_not : (fault : RowsFault) → (fault ≡ Read NoMemory) ⊎ (fault ≢ Read NoMemory)
 memory_or_not (Read NoMemory) = inl refl
 memory_or_not fault = inr (λ e. cc)
 
-change_adds : {blocks : List Block} {ss : List Told} {old : Proposing} (s : Told) (change : Proposed → Proposed)
-    (homeless : RowsFault) (n : ℕ) (new : Proposing) (result : Result (Unit {0}) RowsFault)
-    → IsChange s change homeless n → HasProposed blocks ss old → Becomes old change homeless new result
-    → Adds blocks ss s n new result
-change_adds {blocks} {ss} {old} s change homeless n new (Ok done) c h r =
-    let a = is_at r.0 h r.1 in
+change_adds : {blocks : List Block} {ss : List Told} {old : Proposing} (s : Told) (at : Option ℕ) (last : ℕ)
+    (change : Proposed → Proposed) (homeless : RowsFault) (n : ℕ) (new : Proposing) (result : Result (Unit {0}) RowsFault)
+    → IsChange s change homeless n → IsTurn blocks ss s at last → HasProposed blocks ss old
+    → Becomes old at last change homeless new result → Adds blocks ss s n new result
+change_adds {blocks} {ss} {old} s at last change homeless n new (Ok done) c t h r =
+    let a = t.there r.0 r.1 in
+    let here : block_of (ss ++ s ∷ []) ≡ 1 + r.0 = ap (max 1) a.0 ∙ a.1 in
     let grown : new.proposals.items ≡ proposals_of (length blocks) (ss ++ s ∷ []) =
     r.2 ∙ ap (λ ps. set ps r.0 (change (at_place ps r.0))) h.proposals
-    ∙ sym (change_grows blocks ss s change r.0 c a) in (
-      record { of_block = c.fits blocks ss ∙ a.there; few = omega (arith, c.count ss) },
-      record { proposals = grown; last = r.3 ∙ ap (max 1) h.last ∙ sym (last_block-more ss s c.turns c.proposes) },
+    ∙ sym (change_grows blocks ss s change r.0 c here a.2) in (
+      record { of_block = a.3; few = omega (arith, c.count ss) },
+      record { proposals = grown; last = r.3 ∙ sym a.0 },
     )
-change_adds {blocks} {ss} {old} s change homeless n new (Err fault) c h r =
+change_adds {blocks} {ss} {old} s at last change homeless n new (Err fault) c t h r =
     elim (memory_or_not fault) as (λ _. Adds blocks ss s n new (Err fault)) [
       | inl memory ↦ subst (λ f. Adds blocks ss s n new (Err f)) (sym memory) tt
       | inr other ↦ let a = r other in
-          subst (λ f. Adds blocks ss s n new (Err f)) (sym a.0) (c.refused blocks ss new (c.fits blocks ss ∙ nowhere h a.1))
+          subst (λ f. Adds blocks ss s n new (Err f)) (sym a.0) (c.refused blocks ss new (t.nowhere a.1))
     ]
 
+-- a line that turns to no other block
+stays : {blocks : List Block} {ss : List Told} {old : Proposing} (s : Told) (last : ℕ) → HasProposed blocks ss old
+    → last_block (ss ++ s ∷ []) ≡ last → max 1 last ≡ max 1 (last_block ss)
+    → is_of_block blocks ss s ≡ (nat_lt 0 (last_block ss) || (length blocks == 1))
+    → IsTurn blocks ss s (place old.last (length old.proposals.items)) last
+stays {blocks} {ss} {old} s last h after same fits = record {
+  there = λ i e. let a = is_at i h e in (after, same ∙ a.block, a.within, fits ∙ a.there);
+  nowhere = λ e. fits ∙ nowhere h e;
+}
+
 pub cycles_add : {blocks : List Block} {ss : List Told} {old : Proposing} (c n : ℕ) (new : Proposing)
-    (result : Result (Unit {0}) RowsFault)
-    → HasProposed blocks ss old → Becomes old (λ p. with_cycles p c) (NoSuchBlock n) new result
+    (result : Result (Unit {0}) RowsFault) → HasProposed blocks ss old
+    → Becomes old (place old.last (length old.proposals.items)) (max 1 old.last) (λ p. with_cycles p c) (NoSuchBlock n) new result
     → Adds blocks ss (read (cycles c)) n new result
-cycles_add c n new result h r = grind (arith, change_adds, proposal-cycles)
+cycles_add {blocks} {ss} {old} c n new result h r =
+    let after : last_block (ss ++ read (cycles c) ∷ []) ≡ max 1 old.last =
+    last_block-more ss (read (cycles c)) refl refl ∙ ap (max 1) (sym h.last) in
+    let same : max 1 (max 1 old.last) ≡ max 1 (last_block ss) = let is = h.last in omega arith in
+    change_adds (read (cycles c)) (place old.last (length old.proposals.items)) (max 1 old.last) (λ p. with_cycles p c)
+    (NoSuchBlock n) n new result (record {
+      here = λ ss k e. proposal-cycles ss c k e;
+      count = λ ss. refl;
+      refused = λ blocks ss new none. (refl, refl, none);
+    }) (stays (read (cycles c)) (max 1 old.last) h after same refl) h r
 
 pub unread_adds : {blocks : List Block} {ss : List Told} {old : Proposing} (text : List ℕ) (n : ℕ) (new : Proposing)
-    (result : Result (Unit {0}) RowsFault)
-    → HasProposed blocks ss old → Becomes old (λ p. with_unread p n text) (Read (BadLine n)) new result
-    → Adds blocks ss (unread n text) n new result
-unread_adds text n new result h r = grind (arith, change_adds, proposal-unread)
+    (result : Result (Unit {0}) RowsFault) → HasProposed blocks ss old
+    → Becomes old (place old.last (length old.proposals.items)) old.last (λ p. with_unread p n text) (Read (BadLine n)) new result
+    → Adds blocks ss (unread None n text) n new result
+unread_adds {blocks} {ss} {old} text n new result h r =
+    let after : last_block (ss ++ unread None n text ∷ []) ≡ old.last =
+    last_block-none ss (unread None n text) refl refl ∙ sym h.last in
+    change_adds (unread None n text) (place old.last (length old.proposals.items)) old.last (λ p. with_unread p n text)
+    (Read (BadLine n)) n new result (record {
+      here = λ ss k e. proposal-unread ss None n text k e;
+      count = λ ss. refl;
+      refused = λ blocks ss new none. (refl, refl, none);
+    }) (stays (unread None n text) old.last h after (ap (max 1) h.last) refl) h r
+
+later_found : (last k count i : ℕ) → later_place last k count ≡ Some i
+    → (last < k) × (max 1 k ≡ 1 + i) × (i < count) × ((nat_lt last k && nat_le k count) ≡ true)
+later_found last k count i h = grind (arith, nat_tests)
+
+later_none : (last k count : ℕ) → later_place last k count ≡ None → (nat_lt last k && nat_le k count) ≡ false
+later_none last k count h = grind arith
+
+pub misnamed_adds : {blocks : List Block} {ss : List Told} {old : Proposing} (k : ℕ) (text : List ℕ) (n : ℕ) (new : Proposing)
+    (result : Result (Unit {0}) RowsFault) → HasProposed blocks ss old
+    → Becomes old (later_place old.last k (length old.proposals.items)) k (λ p. with_unread p n text) (NoSuchBlock n) new result
+    → Adds blocks ss (unread (Some k) n text) n new result
+misnamed_adds {blocks} {ss} {old} k text n new result h r =
+    let count : length old.proposals.items ≡ length blocks = ap length h.proposals ∙ length-proposals (length blocks) ss in
+    let same : later_place old.last k (length old.proposals.items) ≡ later_place (last_block ss) k (length blocks) =
+    ap₂ (λ l c. later_place l k c) h.last count in
+    change_adds (unread (Some k) n text) (later_place old.last k (length old.proposals.items)) k (λ p. with_unread p n text)
+    (NoSuchBlock n) n new result (record {
+      here = λ ss j e. proposal-unread ss (Some k) n text j e;
+      count = λ ss. refl;
+      refused = λ blocks ss new none. (refl, refl, none);
+    }) (record {
+      there = λ i e.
+          let a = later_found (last_block ss) k (length blocks) i (sym same ∙ e) in
+          (last_block-head ss (unread (Some k) n text) k refl a.0, a.1, a.2, a.3);
+      nowhere = λ e. later_none (last_block ss) k (length blocks) (sym same ∙ e);
+    }) h r
 
 -- Heads, and lines that propose nothing
 
@@ -168,10 +225,14 @@ same_proposals : (count : ℕ) (ss : List Told) (s : Told) → row_in s ≡ None
 same_proposals count ss s r u c =
     sym (map-same (proposal_of ss) (proposal_of (ss ++ s ∷ [])) 1 count (λ k le. proposal-same ss s k r u c))
 
+head_last : (ss : List Told) (k : ℕ) (name : Option (List ℕ)) → last_block ss < k
+    → last_block (ss ++ read (head k name) ∷ []) ≡ k
+head_last ss k name less = last_block-head ss (read (head k name)) k refl less
+
 pub head_turns : {blocks : List Block} {ss : List Told} {old : Proposing} (k : ℕ) (name : Option (List ℕ)) (n : ℕ)
     (new : Proposing) (result : Result (Unit {0}) RowsFault)
     → HasProposed blocks ss old → Turns blocks old k name n new result → Adds blocks ss (read (head k name)) n new result
-head_turns k name n new result h r = grind (arith, last_block-head, lt-ltb, same_proposals)
+head_turns k name n new result h r = grind (arith, head_last, lt-ltb, same_proposals)
 
 pub nothing_adds : {blocks : List Block} {ss : List Told} {old : Proposing} (n : ℕ) → HasProposed blocks ss old
     → Adds blocks ss (read nothing) n old (Ok tt)

@@ -105,12 +105,13 @@ proposal-row ss one two k e =
     (picked-nothing cycles_in k ss (read (row one two)) refl)
     ∙ made-row (rows_of k ss) (unread_of k ss) (claims_of k ss) one two
 
-pub proposal-unread : (ss : List Told) (n : ℕ) (text : List ℕ) (k : ℕ) → block_of (ss ++ unread n text ∷ []) ≡ k
-    → proposal_of (ss ++ unread n text ∷ []) k ≡ with_unread (proposal_of ss k) n text
-proposal-unread ss n text k e =
-    ap₃ made (picked-here row_in k ss (unread n text) (Nop, Nop) refl e)
-    (picked-here unread_in k ss (unread n text) (Some (n, text)) refl e)
-    (picked-nothing cycles_in k ss (unread n text) refl)
+pub proposal-unread : (ss : List Told) (turn : Option ℕ) (n : ℕ) (text : List ℕ) (k : ℕ)
+    → block_of (ss ++ unread turn n text ∷ []) ≡ k
+    → proposal_of (ss ++ unread turn n text ∷ []) k ≡ with_unread (proposal_of ss k) n text
+proposal-unread ss turn n text k e =
+    ap₃ made (picked-here row_in k ss (unread turn n text) (Nop, Nop) refl e)
+    (picked-here unread_in k ss (unread turn n text) (Some (n, text)) refl e)
+    (picked-nothing cycles_in k ss (unread turn n text) refl)
     ∙ made-unread (rows_of k ss) (unread_of k ss) (claims_of k ss) n text (as_many k ss)
 
 pub proposal-cycles : (ss : List Told) (c k : ℕ) → block_of (ss ++ read (cycles c) ∷ []) ≡ k

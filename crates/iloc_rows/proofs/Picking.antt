@@ -5,10 +5,8 @@ use Rattle.std.specs.List.{list_any}
 use Rattle.std.specs.Option.{is_some}
 use Rattle.std.proofs.lemmas.List.Elements.{filter_map-append}
 use Rattle.std.proofs.lemmas.List.Folds.{list_any-append}
-use Rattle.iloc_text.specs.ScheduleLines.Said.{head}
 use Rattle.iloc_text.proofs.BlockOps.{filter_map-one, one_or_none}
 use Rattle.iloc_rows.specs.Told.{Told}
-use Rattle.iloc_rows.specs.Told.Told.{read}
 use Rattle.iloc_rows.specs.Proposing.{last_of, fronts, head_number, last_head, proposes, last_block, block_of, of_last, picked}
 
 fronts-snoc : (ss : List Told) (s : Told) → fronts (ss ++ s ∷ []) ≡ fronts ss ++ (ss ++ s ∷ []) ∷ []
@@ -51,10 +49,10 @@ pub last_head-none : (ss : List Told) (s : Told) → head_number s ≡ None → 
 unfolding last_head
 last_head-none ss s h = grind (arith, append-nil, filter_map, filter_map-append, filter_map-one, option_to_list, unwrap_or)
 
-pub last_head-head : (ss : List Told) (k : ℕ) (name : Option (List ℕ)) → last_head (ss ++ read (head k name) ∷ []) ≡ k
+pub last_head-head : (ss : List Told) (s : Told) (k : ℕ) → head_number s ≡ Some k → last_head (ss ++ s ∷ []) ≡ k
 unfolding last_head
-last_head-head ss k name = ap (λ ns. unwrap_or (last_of ns) 0) (filter_map-append head_number ss (read (head k name) ∷ []))
-    ∙ ap (λ o. unwrap_or o 0) (last_of-snoc (filter_map head_number ss) k)
+last_head-head ss s k h =
+    grind (arith, filter_map, filter_map-append, filter_map-one, last_of-snoc, option_to_list, unwrap_or)
 
 -- The last block
 
@@ -65,7 +63,7 @@ pub last_block-nothing : last_block [] ≡ 0
 unfolding last_head last_block
 last_block-nothing = refl
 
--- after a line that is of no block
+-- after a line that says nothing of a block
 pub last_block-none : (ss : List Told) (s : Told) → head_number s ≡ None → proposes s ≡ false
     → last_block (ss ++ s ∷ []) ≡ last_block ss
 unfolding last_block
@@ -78,10 +76,10 @@ unfolding last_block
 last_block-more ss s h p = grind (arith, any_more, last_head-none)
 
 -- after the head of a later one
-pub last_block-head : (ss : List Told) (k : ℕ) (name : Option (List ℕ)) → last_block ss < k
-    → last_block (ss ++ read (head k name) ∷ []) ≡ k
+pub last_block-head : (ss : List Told) (s : Told) (k : ℕ) → head_number s ≡ Some k → last_block ss < k
+    → last_block (ss ++ s ∷ []) ≡ k
 unfolding last_block
-last_block-head ss k name less = grind (arith, any_more, last_head-head)
+last_block-head ss s k h less = grind (arith, any_more, last_head-head)
 
 -- How much is picked
 

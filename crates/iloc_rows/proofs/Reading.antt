@@ -23,19 +23,21 @@ use Rattle.iloc_rows.specs.Steps.Ends.{IsCutOf}
 use Rattle.iloc_rows.proofs.Picking.{last_block-nothing}
 use Rattle.iloc_rows.proofs.Ends.{join-append}
 
-pub TellAll-snoc : (n : ℕ) (lines : List (List ℕ)) (ss : List Told) (line : List ℕ) (s : Told) → TellAll n lines ss
-    → Tells (n + length lines + 1) line s → TellAll n (lines ++ line ∷ []) (ss ++ s ∷ [])
-TellAll-snoc n [] [] line s h says =
-    let number : n + 0 + 1 ≡ n + 1 = omega arith in (subst (λ m. Tells m line s) number says, tt)
-TellAll-snoc n (l ∷ ls) (x ∷ xs) line s h says =
+pub TellAll-snoc : (blocks : List Block) (n : ℕ) (lines : List (List ℕ)) (ss : List Told) (line : List ℕ) (s : Told)
+    → TellAll blocks n lines ss → Tells blocks (n + length lines + 1) line s
+    → TellAll blocks n (lines ++ line ∷ []) (ss ++ s ∷ [])
+TellAll-snoc blocks n [] [] line s h says =
+    let number : n + 0 + 1 ≡ n + 1 = omega arith in (subst (λ m. Tells blocks m line s) number says, tt)
+TellAll-snoc blocks n (l ∷ ls) (x ∷ xs) line s h says =
     let number : n + length (l ∷ ls) + 1 ≡ n + 1 + length ls + 1 = omega arith in
-    (h.0, TellAll-snoc (n + 1) ls xs line s h.1 (subst (λ m. Tells m line s) number says))
-TellAll-snoc n lines ss line s h says = absurd h
+    (h.0, TellAll-snoc blocks (n + 1) ls xs line s h.1 (subst (λ m. Tells blocks m line s) number says))
+TellAll-snoc blocks n lines ss line s h says = absurd h
 
-pub length-TellAll : (n : ℕ) (lines : List (List ℕ)) (ss : List Told) → TellAll n lines ss → length ss ≡ length lines
-length-TellAll n [] [] h = refl
-length-TellAll n (l ∷ ls) (s ∷ ss) h = ap suc (length-TellAll (n + 1) ls ss h.1)
-length-TellAll n lines ss h = absurd h
+pub length-TellAll : (blocks : List Block) (n : ℕ) (lines : List (List ℕ)) (ss : List Told) → TellAll blocks n lines ss
+    → length ss ≡ length lines
+length-TellAll blocks n [] [] h = refl
+length-TellAll blocks n (l ∷ ls) (s ∷ ss) h = ap suc (length-TellAll blocks (n + 1) ls ss h.1)
+length-TellAll blocks n lines ss h = absurd h
 
 pub AllFit-snoc : (blocks : List Block) (lines ss : List Told) (s : Told) → AllFit blocks lines ss
     → Fits blocks (lines ++ ss) s → AllFit blocks lines (ss ++ s ∷ [])
@@ -51,7 +53,7 @@ pub record Progress (blocks : List Block) (lines : ℕ) (all : List (List ℕ)) 
     (rest : Option (Bor (List ℕ))) : Type 0 where
   pub before : List (List ℕ)
   pub told : List Told
-  pub tell : TellAll lines before told
+  pub tell : TellAll blocks lines before told
   pub fit : AllFit blocks [] told
   pub proposed : HasProposed blocks told state
   pub number_is : number ≡ lines + length before
@@ -73,13 +75,13 @@ progress_begins blocks lines state rest p l = record {
 pub progress_step : {blocks : List Block} {lines : ℕ} {all : List (List ℕ)} {state : Proposing} {number : ℕ}
     {text : Bor (List ℕ)} (p : Progress blocks lines all state number (Some text)) (line : List ℕ)
     (after : Option (Bor (List ℕ))) (s : Told) (new : Proposing)
-    → lines_of text.now ≡ line ∷ lines_left after → Tells (number + 1) line s
+    → lines_of text.now ≡ line ∷ lines_left after → Tells blocks (number + 1) line s
     → Fits blocks p.told s × HasProposed blocks (p.told ++ s ∷ []) new
     → Progress blocks lines all new (number + 1) after
 progress_step {blocks} {lines} {all} {state} {number} {text} p line after s new split says added = record {
   before = p.before ++ line ∷ [];
   told = p.told ++ s ∷ [];
-  tell = TellAll-snoc lines p.before p.told line s p.tell (subst (λ n. Tells (n + 1) line s) p.number_is says);
+  tell = TellAll-snoc blocks lines p.before p.told line s p.tell (subst (λ n. Tells blocks (n + 1) line s) p.number_is says);
   fit = AllFit-snoc blocks [] p.told s p.fit added.0;
   proposed = added.1;
   number_is = omega (arith, length-append p.before (line ∷ []), p.number_is);
@@ -96,7 +98,7 @@ pub progress_room : {blocks : List Block} {lines : ℕ} {all : List (List ℕ)} 
     {rest : Option (Bor (List ℕ))} (p : Progress blocks lines all state number rest)
     → lines + length all ≤ MAX_INPUT + 1 → length p.told < MAX_ROWS
 progress_room {blocks} {lines} {all} {state} {number} {rest} p few =
-    omega (arith, length-TellAll lines p.before p.told p.tell, ap length p.whole, length-append p.before (lines_left rest))
+    omega (arith, length-TellAll blocks lines p.before p.told p.tell, ap length p.whole, length-append p.before (lines_left rest))
 
 pub progress_ends : {blocks : List Block} {lines : ℕ} {all : List (List ℕ)} {state : Proposing} {number : ℕ}
     → Progress blocks lines all state number None → Propose blocks lines all state.proposals.items
@@ -113,7 +115,7 @@ pub fault_here : {blocks : List Block} {lines : ℕ} {all : List (List ℕ)} {st
 fault_here p line after fault split faulty = grind arith
 
 pub added_faulty : (blocks : List Block) (ss : List Told) (line : List ℕ) (s : Told) (n : ℕ) (state : Proposing)
-    (fault : RowsFault) → Tells n line s → Adds blocks ss s n state (Err fault) → fault ≢ Read NoMemory
+    (fault : RowsFault) → Tells blocks n line s → Adds blocks ss s n state (Err fault) → fault ≢ Read NoMemory
     → IsFaulty blocks ss line n fault
 added_faulty blocks ss line s n state fault says a memory = grind arith
 

@@ -39,10 +39,10 @@ few-line blocks ss (read (row one two)) f h k = few-row blocks ss one two f h k
 few-line blocks ss (read (head n name)) f h k = few_rows _ _ (picked-nothing row_in k ss (read (head n name)) refl) (h k)
 few-line blocks ss (read (cycles c)) f h k = few_rows _ _ (picked-nothing row_in k ss (read (cycles c)) refl) (h k)
 few-line blocks ss (read (total t)) f h k = few_rows _ _ (picked-nothing row_in k ss (read (total t)) refl) (h k)
-few-line blocks ss (unread n text) f h k =
-    elim (cases_eq (block_of (ss ++ unread n text ∷ [])) k) [
-      | inl here ↦ few_rows _ _ (picked-here row_in k ss (unread n text) (Nop, Nop) refl here) (few_more (h k))
-      | inr apart ↦ few_rows _ _ (picked-else row_in k ss (unread n text) apart) (h k)
+few-line blocks ss (unread turn n text) f h k =
+    elim (cases_eq (block_of (ss ++ unread turn n text ∷ [])) k) [
+      | inl here ↦ few_rows _ _ (picked-here row_in k ss (unread turn n text) (Nop, Nop) refl here) (few_more (h k))
+      | inr apart ↦ few_rows _ _ (picked-else row_in k ss (unread turn n text) apart) (h k)
     ]
   where
     few_more : length (ops_in (rows_of k ss)) ≤ MAX_OPS → length (ops_in (rows_of k ss ++ (Nop, Nop) ∷ [])) ≤ MAX_OPS

@@ -1,4 +1,5 @@
 pub mod Fault
+pub mod Names
 pub mod Told
 pub mod Proposing
 pub mod EitherSlot

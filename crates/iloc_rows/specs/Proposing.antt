@@ -1,8 +1,6 @@
 -- Which schedules the lines of a listing propose for blocks: by counting over the lines.
-use Rattle.std.specs.Prelude.{◌≡◌, ℕ, ◌+◌, ◌-◌, ◌≤◌, max, nat_lt, Bool, true, false, ◌&&◌, ◌||◌, ◌==◌, if◌then◌else◌, Option, Some, None, unwrap_or, List, [], ◌∷◌, ◌++◌, length, map, slice_get}
+use Rattle.std.specs.Prelude.{◌≡◌, ℕ, ◌+◌, ◌≤◌, max, nat_lt, nat_le, Bool, true, false, ◌&&◌, ◌||◌, ◌==◌, if◌then◌else◌, Option, Some, None, unwrap_or, List, [], ◌∷◌, ◌++◌, length, map}
 use Rattle.std.specs.List.{filter_map, flat_map, list_any, range_with_len}
-use Rattle.std.specs.Option.{option_map_or}
-use Rattle.std.specs.Str.{bytes_eq}
 use Rattle.iloc_ops.specs.Limits.{MAX_OPS}
 use Rattle.iloc_ops.specs.declared.op.Op.{Op}
 use Rattle.iloc_ops.specs.declared.op.Op.TheVariants.{Nop}
@@ -12,6 +10,7 @@ use Rattle.iloc_timed.specs.Schedule.{AreInRange, AreOnce}
 use Rattle.iloc_timed.specs.declared.row.Row.{Row}
 use Rattle.iloc_rows.specs.declared.proposal.Proposed.{Proposed}
 use Rattle.iloc_rows.specs.declared.proposal.unread.Unread.{Unread}
+use Rattle.iloc_rows.specs.Names.{is_named}
 use Rattle.iloc_rows.specs.Told.{Told}
 use Rattle.iloc_rows.specs.Told.Told.{read, unread}
 
@@ -28,30 +27,30 @@ abbrev pub fronts : List Told → List (List Told)
 fronts [] = []
 fronts (s ∷ ss) = (s ∷ []) ∷ map (λ front. s ∷ front) (fronts ss)
 
--- the number in a head
+-- the number in a head, also in one by another name
 abbrev pub head_number : Told → Option ℕ
 head_number (read nothing) = None
 head_number (read (row zero one)) = None
 head_number (read (head k name)) = Some k
 head_number (read (cycles c)) = None
 head_number (read (total t)) = None
-head_number (unread n text) = None
+head_number (unread turn n text) = turn
 
 -- the number in the last head, 0 where there is none
 unfoldable pub last_head : List Told → ℕ
 last_head lines = unwrap_or (last_of (filter_map head_number lines)) 0
 
--- whether a line is of a block: a row, a number of cycles, or one that can't be read
+-- whether a line says something of a block without naming it: a row or a number of cycles
 abbrev pub proposes : Told → Bool
 proposes (read nothing) = false
 proposes (read (row zero one)) = true
 proposes (read (head k name)) = false
 proposes (read (cycles c)) = true
 proposes (read (total t)) = false
-proposes (unread n text) = true
+proposes (unread turn n text) = false
 
--- the number of the block of which the lines have been last: that in the last head, 1 where lines are of a block without a
--- head, and 0 where none has been of a block
+-- the number of the block of which something has been said last: that in the last head, 1 where it is said without a head, and 0
+-- where nothing is. A line that can't be read says nothing.
 unfoldable pub last_block : List Told → ℕ
 last_block lines = max (last_head lines) (if list_any proposes lines then 1 else 0)
 
@@ -78,7 +77,7 @@ row_in (read (row zero one)) = Some (zero, one)
 row_in (read (head k name)) = None
 row_in (read (cycles c)) = None
 row_in (read (total t)) = None
-row_in (unread n text) = Some (Nop, Nop)
+row_in (unread turn n text) = Some (Nop, Nop)
 
 -- of a row: its line's number and text, if it can't be read
 abbrev pub unread_in : Told → Option (Option (ℕ × List ℕ))
@@ -87,7 +86,7 @@ unread_in (read (row zero one)) = Some None
 unread_in (read (head k name)) = None
 unread_in (read (cycles c)) = None
 unread_in (read (total t)) = None
-unread_in (unread n text) = Some (Some (n, text))
+unread_in (unread turn n text) = Some (Some (n, text))
 
 -- a number of cycles
 abbrev pub cycles_in : Told → Option ℕ
@@ -96,7 +95,7 @@ cycles_in (read (row zero one)) = None
 cycles_in (read (head k name)) = None
 cycles_in (read (cycles c)) = Some c
 cycles_in (read (total t)) = None
-cycles_in (unread n text) = None
+cycles_in (unread turn n text) = None
 
 -- the rows of block k, which of them can't be read, and the numbers of cycles that are said of it
 abbrev pub rows_of : ℕ → List Told → List (Op × Op)
@@ -157,26 +156,16 @@ IsNumbered p = AreInRange (length p.ops) p.rows × AreOnce (length p.ops) p.rows
 
 -- Which lines fit the blocks
 
--- the same name, or none both
-abbrev pub is_same_name : Option (List ℕ) → Option (List ℕ) → Bool
-is_same_name None None = true
-is_same_name None (Some name) = false
-is_same_name (Some name) None = false
-is_same_name (Some name) (Some other) = bytes_eq name other
-
--- block k, counted from 1, is there and has this name
-abbrev pub is_named : List Block → ℕ → Option (List ℕ) → Bool
-is_named blocks k name = option_map_or (λ block. is_same_name block.name name) (slice_get blocks (k - 1)) false
-
--- After these lines a line speaks of a block that is there: a head names one after that of which lines have been last, and
--- a row, a number of cycles or a line that can't be read comes below a head, or there is one block only.
+-- After these lines a line speaks of a block that is there: a head, also by another name, names one after that of which something
+-- has been said, and a row, a number of cycles or a line that can't be read comes below a head, or there is one block only.
 abbrev pub is_of_block : List Block → List Told → Told → Bool
 is_of_block blocks lines (read nothing) = true
 is_of_block blocks lines (read (row zero one)) = nat_lt 0 (last_block lines) || (length blocks == 1)
 is_of_block blocks lines (read (head k name)) = nat_lt (last_block lines) k && is_named blocks k name
 is_of_block blocks lines (read (cycles c)) = nat_lt 0 (last_block lines) || (length blocks == 1)
 is_of_block blocks lines (read (total t)) = true
-is_of_block blocks lines (unread n text) = nat_lt 0 (last_block lines) || (length blocks == 1)
+is_of_block blocks lines (unread None n text) = nat_lt 0 (last_block lines) || (length blocks == 1)
+is_of_block blocks lines (unread (Some k) n text) = nat_lt (last_block lines) k && nat_le k (length blocks)
 
 -- how many operations the rows of its block have with this one, where the line is a row that was read
 abbrev pub op_count : List Told → Told → ℕ
@@ -185,7 +174,7 @@ op_count lines (read (row zero one)) = length (ops_in (rows_of (block_of lines) 
 op_count lines (read (head k name)) = 0
 op_count lines (read (cycles c)) = 0
 op_count lines (read (total t)) = 0
-op_count lines (unread n text) = 0
+op_count lines (unread turn n text) = 0
 
 -- the line speaks of a block that is there, and its row makes no more than 10,000 operations
 pub record Fits (blocks : List Block) (lines : List Told) (line : Told) : Type 0 where

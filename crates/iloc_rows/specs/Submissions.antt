@@ -14,12 +14,12 @@ use Rattle.iloc_rows.specs.declared.proposal.Proposed.{Proposed}
 use Rattle.iloc_rows.specs.Told.{Told, Tells, is_unread}
 use Rattle.iloc_rows.specs.Proposing.{proposals_of, is_of_block, op_count, AllFit}
 
--- the lines after line n tell this, one by one
-abbrev pub TellAll : ℕ → List (List ℕ) → List Told → Type 0
-TellAll n [] [] = Unit {0}
-TellAll n [] (t ∷ ts) = ⊥
-TellAll n (line ∷ lines) [] = ⊥
-TellAll n (line ∷ lines) (t ∷ ts) = Tells (n + 1) line t × TellAll (n + 1) lines ts
+-- below these blocks the lines after line n tell this, one by one
+abbrev pub TellAll : List Block → ℕ → List (List ℕ) → List Told → Type 0
+TellAll blocks n [] [] = Unit {0}
+TellAll blocks n [] (t ∷ ts) = ⊥
+TellAll blocks n (line ∷ lines) [] = ⊥
+TellAll blocks n (line ∷ lines) (t ∷ ts) = Tells blocks (n + 1) line t × TellAll blocks (n + 1) lines ts
 
 abbrev pub StartWithSchedule : List (List ℕ) → Type 0
 StartWithSchedule [] = Unit {0}
@@ -35,7 +35,7 @@ pub record BlocksEnd (before after : List (List ℕ)) : Type 0 where
 -- the lines after line n propose these schedules for the blocks
 pub record Propose (blocks : List Block) (n : ℕ) (lines : List (List ℕ)) (proposals : List Proposed) : Type 0 where
   pub told : List Told
-  pub tell : TellAll n lines told
+  pub tell : TellAll blocks n lines told
   pub fit : AllFit blocks [] told
   pub are : proposals ≡ proposals_of (length blocks) told
 
@@ -72,14 +72,14 @@ pub record DenoteApart (text input : List ℕ) (blocks : List Block) (proposals 
 -- after lines that tell this line n is of no block that is there, and can't be read or can
 pub record IsOfNoBlock (blocks : List Block) (lines : List Told) (line : List ℕ) (n : ℕ) (unread : Bool) : Type 0 where
   pub told : Told
-  pub tells : Tells n line told
+  pub tells : Tells blocks n line told
   pub is : is_unread told ≡ unread
   pub of_none : is_of_block blocks lines told ≡ false
 
 -- after lines that tell this line n makes too many operations of its block
 pub record HoldsTooManyOperations (blocks : List Block) (lines : List Told) (line : List ℕ) (n : ℕ) : Type 0 where
   pub told : Told
-  pub tells : Tells n line told
+  pub tells : Tells blocks n line told
   pub of_block : is_of_block blocks lines told ≡ true
   pub many : MAX_OPS < op_count lines told
 
@@ -101,7 +101,7 @@ pub record HaveFirstFault (blocks : List Block) (n : ℕ) (lines : List (List �
   pub after : List (List ℕ)
   pub whole : lines ≡ before ++ line ∷ after
   pub told : List Told
-  pub tell : TellAll n before told
+  pub tell : TellAll blocks n before told
   pub fit : AllFit blocks [] told
   pub faulty : IsFaulty blocks told line (n + length before + 1) fault
 

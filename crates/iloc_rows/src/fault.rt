@@ -15,8 +15,8 @@ pub enum RowsFault {
     Read(ReadFault),
     /// There is no block.
     NoBlocks,
-    /// This line is a head that names no block after that of the lines before it, or has another name; or it is a row or
-    /// a number of cycles without a head, when there isn't exactly one block.
+    /// This line is a head that names no block after that of the rows, numbers of cycles and heads before it; or it is a row or a
+    /// number of cycles without a head, when there isn't exactly one block.
     NoSuchBlock(u32),
 }
 

@@ -1,19 +1,18 @@
 //! How what is proposed grows, line by line.
-ghost use Rattle.std.specs.Prelude.{◌≡◌, ◌<◌, ◌+◌, ℕ, [], ◌++◌, List, length, vec_len, slice_set, option_map, IfOk, IfSome, OnOk};
-ghost use Rattle.std.specs.Option.{option_copied};
+ghost use Rattle.std.specs.Prelude.{◌≡◌, ◌<◌, ◌+◌, ℕ, max, [], ◌++◌, List, length, vec_len, slice_set, option_map, IfOk, IfSome, OnOk};
 ghost use Rattle.iloc_text.specs.ScheduleLines.{said_of};
 ghost use Rattle.iloc_rows.specs.Told.{Told, told_of};
 ghost use Rattle.iloc_rows.specs.Told.Told.{read};
 ghost use Rattle.iloc_text.specs.declared.fault.ReadFault.TheVariants.{BadLine as bad_line};
 ghost use Rattle.iloc_rows.specs.declared.fault.RowsFault.TheVariants.{Read as read_fault, NoSuchBlock as no_such_block};
-ghost use Rattle.iloc_rows.specs.Proposing.{is_empty, filled, slot, is_same_name, is_named, proposals_of};
-ghost use Rattle.iloc_rows.specs.Steps.Growth.{none_proposed, with_row, with_cycles, with_unread, or_this, place, at_place, HasProposed, Adds, Becomes, RowAdds, Turns};
+ghost use Rattle.iloc_rows.specs.Proposing.{is_empty, filled, slot, proposals_of};
+ghost use Rattle.iloc_rows.specs.Steps.Growth.{none_proposed, with_row, with_cycles, with_unread, or_this, place, later_place, at_place, HasProposed, Adds, Becomes, RowAdds, Turns};
 
 use crate::fault::RowsFault;
 use crate::proposal::{LineText, Proposed, RowOps, Rows, Unread};
 use crate::proposing::Proposing;
-use crate::told::ToldLine;
-use iloc_ops::{Block, MAX_OPS, Name, NoMemory, Op};
+use crate::told::{ToldLine, is_named};
+use iloc_ops::{Block, MAX_OPS, NoMemory, Op};
 use iloc_text::{ReadFault, ScheduleLine};
 use iloc_timed::{MAX_ROWS, Row};
 use std::alloc::Global;
@@ -23,28 +22,6 @@ fn is_empty(op: &Op) -> bool
     ensures { result ≡ is_empty op.now }
 {
     matches!(op, Op::Nop)
-}
-
-/// Whether both are the same name, or both none.
-fn is_same_name(own: Option<&Name>, name: Option<&[u8]>) -> bool
-    ensures { result ≡ is_same_name (option_copied own.entry) (option_map (λ text. text.now) name.entry) }
-{
-    match (own, name) {
-        (None, None) => true,
-        (Some(own), Some(name)) => own.as_str().as_bytes() == name,
-        _ => false,
-    }
-}
-
-/// Whether there is a block with this number, counted from 1, and it has this name.
-fn is_named(blocks: &[Block], number: u32, name: Option<&[u8]>) -> bool
-    requires { 0 < number }
-    ensures { result ≡ is_named blocks.now number (option_map (λ text. text.now) name.entry) }
-{
-    match blocks.get(number as usize - 1) {
-        Some(block) => is_same_name(block.name.as_ref(), name),
-        None => false,
-    }
 }
 
 impl Proposed {
@@ -198,7 +175,8 @@ impl Proposing {
 
     /// Adds a claim on the line with this number.
     fn add_cycles(&mut self, cycles: u32, number: u32) -> Result<(), RowsFault>
-        ensures { Becomes self.old (λ p. with_cycles p cycles) (no_such_block number) self.new result }
+        ensures { Becomes self.old (place self.old.last (length self.old.proposals.items)) (max 1 self.old.last)
+            (λ p. with_cycles p cycles) (no_such_block number) self.new result }
     {
         let Some(i) = self.place() else {
             return Err(RowsFault::NoSuchBlock(number));
@@ -211,13 +189,45 @@ impl Proposing {
     /// Adds a line that can't be read, with its number.
     fn add_unread(&mut self, alloc: Global, text: &[u8], number: u32) -> Result<(), RowsFault>
         requires { (i : ℕ) → length (at_place self.old.proposals.items i).rows < MAX_ROWS }
-        ensures { Becomes self.old (λ p. with_unread p number text.now) (read_fault (bad_line number)) self.new result }
+        ensures { Becomes self.old (place self.old.last (length self.old.proposals.items)) self.old.last (λ p. with_unread p number text.now)
+            (read_fault (bad_line number)) self.new result }
     {
         let Some(i) = self.place() else {
             return Err(RowsFault::Read(ReadFault::BadLine(number)));
         };
         self.push_unread(alloc, i, text, number)?;
-        self.last = self.last.max(1);
+        Ok(())
+    }
+
+    /// The place of the block with this number, if it comes after the last one and is there.
+    fn later_place(&self, block: u32) -> Option<usize>
+        ensures place { result ≡ later_place self.now.last block (vec_len self.now.proposals) }
+        ensures within { IfSome result (λ i. i < vec_len self.now.proposals) }
+    {
+        if self.last < block && block as usize <= self.proposals.len() {
+            Some(block as usize - 1)
+        } else {
+            None
+        }
+    }
+
+    /// Turns to the block of which the line with this number is the head by another name, and adds it as one that can't be read.
+    fn add_misnamed(
+        &mut self,
+        alloc: Global,
+        block: u32,
+        text: &[u8],
+        number: u32,
+    ) -> Result<(), RowsFault>
+        requires { (i : ℕ) → length (at_place self.old.proposals.items i).rows < MAX_ROWS }
+        ensures { Becomes self.old (later_place self.old.last block (length self.old.proposals.items)) block
+            (λ p. with_unread p number text.now) (no_such_block number) self.new result }
+    {
+        let Some(place) = self.later_place(block) else {
+            return Err(RowsFault::NoSuchBlock(number));
+        };
+        self.push_unread(alloc, place, text, number)?;
+        self.last = block;
         Ok(())
     }
 
@@ -276,6 +286,7 @@ impl Proposing {
         match line {
             ToldLine::Reads(line) => self.add_read(blocks, line, number),
             ToldLine::Unread(text) => self.add_unread(alloc, text, number),
+            ToldLine::Misnamed(block, text) => self.add_misnamed(alloc, block, text, number),
         }
     }
 }

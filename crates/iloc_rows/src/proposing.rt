@@ -8,7 +8,7 @@ use crate::proposal::Proposed;
 pub struct Proposing {
     /// For each block.
     pub proposals: Vec<Proposed>,
-    /// The number of the block to which the last lines belong, 0 if they belong to none.
+    /// The number of the block of which something was said last, 0 if there is none.
     pub last: u32,
     ghost within: { last ≤ vec_len proposals },
 }

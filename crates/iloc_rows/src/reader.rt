@@ -41,7 +41,7 @@ fn read_proposals(
     while let Some(text) = rest {
         number += 1;
         let (bytes, after) = split_line(text);
-        proposing.add(alloc, blocks, read_told_line(bytes), number)?;
+        proposing.add(alloc, blocks, read_told_line(blocks, bytes), number)?;
         rest = after;
     }
     Ok(Proposals::of(alloc, proposing.proposals)?)
@@ -54,7 +54,8 @@ fn read_proposals(
 /// The blocks end before the first schedule line, and what precedes it is read as `iloc_text::read_file` reads it. If that
 /// has no block, the text is refused whatever follows. A text that is too long is refused before any line is looked at;
 /// otherwise the earliest faulty line is named. A line below the blocks that can't be read is a row without operations of its
-/// block, and bad only where there is no block of which it could be. `NoMemory` may come instead, if a growth is refused.
+/// block, and bad only where there is no block of which it could be. The head of a later block by another name turns to that
+/// block, and is such a row. `NoMemory` may come instead, if a growth is refused.
 pub fn read_submission(alloc: Global, input: &[u8]) -> Result<Submission, RowsFault>
     ensures ok { IfOk result (λ found. Denotes input.now found.blocks found.proposals) }
     ensures err { IfErr result (λ fault. fault ≢ read no_memory → IsRefused input.now fault) }

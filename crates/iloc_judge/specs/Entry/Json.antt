@@ -1,5 +1,5 @@
 -- What is listed of a block's rows as a line of JSON, after the block's number and name.
-use Rattle.std.specs.Prelude.{ℕ, ℤ, ◌+◌, ◌/◌, ◌%◌, ◌==◌, ◌&&◌, nat_lt, not, if◌then◌else◌, Bool, List, [], ◌∷◌, ◌++◌, Option, Some, None, codes}
+use Rattle.std.specs.Prelude.{ℕ, ℤ, ◌+◌, ◌/◌, ◌%◌, ◌==◌, ◌&&◌, nat_lt, not, if◌then◌else◌, Bool, false, length, take, List, [], ◌∷◌, ◌++◌, Option, Some, None, codes}
 use Rattle.std.specs.List.{flat_map}
 use Rattle.std.specs.Fmt.{decimal, signed_decimal}
 use Rattle.iloc_ops.specs.Spelling.{spelling}
@@ -17,6 +17,7 @@ use Rattle.iloc_reasons.specs.declared.fact.Fact.{Fact}
 use Rattle.iloc_reasons.specs.declared.fact.Fact.TheVariants.{UnderWay, Brings, Replaced, NeverRead, Order, For, LikeNone, See}
 use Rattle.iloc_reasons.specs.declared.reasons.Reasons.{Reasons}
 use Rattle.iloc_judge.specs.declared.checked.Checked.{Checked}
+use Rattle.iloc_judge.specs.declared.checked.changes.Changes.{Changes}
 use Rattle.iloc_judge.specs.declared.verdict.comparison.Comparison.{Comparison}
 use Rattle.iloc_judge.specs.declared.verdict.comparison.Comparison.TheVariants as of
 use Rattle.iloc_judge.specs.declared.verdict.difference.Difference.{Difference}
@@ -60,6 +61,9 @@ key name = codes ",\"" ++ name ++ codes "\":"
 abbrev pub number_member : List ℕ → ℕ → List ℕ
 number_member name n = key name ++ decimal n
 
+abbrev pub truth_member : List ℕ → Bool → List ℕ
+truth_member name b = key name ++ (if b then codes "true" else codes "false")
+
 abbrev pub op_member : List ℕ → Op → List ℕ
 op_member name op = key name ++ op_value op
 
@@ -95,9 +99,14 @@ counts_members checked =
     number_member (codes "cycles") checked.cycles ++ number_member (codes "ours") checked.ours
     ++ sought_members checked.sought ++ number_member (codes "least") checked.least
 
-abbrev pub verdict_members : Checked → Option ℕ → List ℕ
-verdict_members checked claimed =
-    text_member (codes "verdict") (kind_word checked.kind) ++ counts_members checked ++ claim_member claimed
+-- whether rows pass, and how many there are
+abbrev pub passing_members : Bool → ℕ → List ℕ
+passing_members passing rows = truth_member (codes "passes") passing ++ number_member (codes "rows") rows
+
+abbrev pub verdict_members : Bool → ℕ → Checked → Option ℕ → List ℕ
+verdict_members passing rows checked claimed =
+    text_member (codes "verdict") (kind_word checked.kind) ++ passing_members passing rows ++ counts_members checked
+    ++ claim_member claimed
 
 -- How rows compare with their block
 
@@ -230,9 +239,17 @@ reasons_members it = left_out_member it.left_out ++ added_member it.added ++ fac
 
 -- All of a verdict
 
--- what comes before and after a reason that is alone
+-- what is left out and added
+abbrev pub changes_members : Changes → List ℕ
+changes_members it = left_out_member it.left_out ++ added_member it.added
+
+-- what comes before a reason that is alone, where nothing is, and after one
 abbrev pub before : List ℕ
 before = codes ",\"left_out\":null,\"added\":null,\"reasons\":["
+
+-- and where these are
+abbrev pub before_of : Changes → List ℕ
+before_of changes = changes_members changes ++ codes ",\"reasons\":["
 
 abbrev pub after : List ℕ
 after = codes "],\"more\":0"
@@ -252,8 +269,8 @@ units_value ops rows c =
     codes "{\"kind\":\"units\"" ++ number_member (codes "row") c ++ codes ",\"text\":\"" ++ row_spelling ops (row_at rows c)
     ++ rule_end (broken_rule ops (row_at rows c))
 
-abbrev pub units_members : List Op → List Row → ℕ → List ℕ
-units_members ops rows c = no_difference ++ before ++ units_value ops rows c ++ after
+abbrev pub units_members : List Op → List Row → ℕ → Changes → List ℕ
+units_members ops rows c changes = no_difference ++ before_of changes ++ units_value ops rows c ++ after
 
 abbrev pub lawful_members : List ℕ
 lawful_members = no_difference ++ before ++ after
@@ -263,20 +280,28 @@ undecided_members = before ++ codes "{\"kind\":\"undecided\"}" ++ after
 
 -- what is said of operations and rows after the verdict
 abbrev pub detail_members : List Op → List Row → Verdict → List ℕ
-detail_members ops rows (Units c) = units_members ops rows c
+detail_members ops rows (Units c changes) = units_members ops rows c changes
 detail_members ops rows Lawful = lawful_members
 detail_members ops rows (Unlawful reasons found) = comparison_members found ++ reasons_members reasons
 detail_members ops rows (Undecided found) = comparison_members found ++ undecided_members
 
-abbrev pub json_of : Option ℕ → List Op → List Row → Verdict → Checked → List ℕ
-json_of claimed ops rows verdict checked =
-    verdict_members checked claimed ++ detail_members ops rows verdict ++ codes "}\n"
+abbrev pub json_of : (passing : Bool) → Option ℕ → List Op → List Row → Verdict → Checked → List ℕ
+json_of passing claimed ops rows verdict checked =
+    verdict_members passing (length rows) checked claimed ++ detail_members ops rows verdict ++ codes "}\n"
 
 -- Rows among which a line can't be read
 
+-- the first 64 bytes of a line, and `..` where more follow
+unfoldable pub start_of : List ℕ → List ℕ
+start_of text =
+    if nat_lt 64 (length text) then flat_map escaped (take 64 text) ++ codes ".." else flat_map escaped text
+
+abbrev pub start_member : List ℕ → List ℕ
+start_member text = codes ",\"text\":\"" ++ start_of text ++ codes "\""
+
 -- the text of the line and some words, and the end of their object
 abbrev pub unread_texts : List ℕ → List ℕ → List ℕ
-unread_texts text words = text_member (codes "text") text ++ text_member (codes "problem") words ++ codes "}"
+unread_texts text words = start_member text ++ text_member (codes "problem") words ++ codes "}"
 
 -- where the line is, from 1, and which row it would be, from 0
 abbrev pub unread_value : Unread → List ℕ → List ℕ
@@ -284,9 +309,10 @@ unread_value unread words =
     codes "{\"kind\":\"unread\"" ++ number_member (codes "line") unread.line ++ number_member (codes "row") unread.row
     ++ unread_texts unread.text words
 
-abbrev pub unread_members : Unread → List ℕ → List ℕ
-unread_members unread words = no_difference ++ before ++ unread_value unread words ++ after
+abbrev pub unread_members : Changes → Unread → List ℕ → List ℕ
+unread_members changes unread words = no_difference ++ before_of changes ++ unread_value unread words ++ after
 
-abbrev pub unread_json_of : Option ℕ → Unread → List ℕ → Checked → List ℕ
-unread_json_of claimed unread words checked =
-    verdict_members checked claimed ++ unread_members unread words ++ codes "}\n"
+-- of so many rows, which don't pass
+abbrev pub unread_json_of : ℕ → Changes → Option ℕ → Unread → List ℕ → Checked → List ℕ
+unread_json_of rows changes claimed unread words checked =
+    verdict_members false rows checked claimed ++ unread_members changes unread words ++ codes "}\n"

@@ -1,5 +1,5 @@
 -- What is listed of a block's rows, behind the block's head.
-use Rattle.std.specs.Prelude.{ℕ, ℤ, ◌+◌, ◌==◌, if◌then◌else◌, Bool, true, false, List, [], ◌∷◌, ◌++◌, Option, Some, None, codes}
+use Rattle.std.specs.Prelude.{ℕ, ℤ, ◌+◌, ◌==◌, if◌then◌else◌, List, [], ◌∷◌, ◌++◌, Option, Some, None, codes}
 use Rattle.std.specs.List.{flat_map}
 use Rattle.std.specs.Fmt.{decimal, signed_decimal}
 use Rattle.iloc_ops.specs.declared.op.Op.{Op}
@@ -130,19 +130,17 @@ abbrev pub no_rows_told : List Row → List ℕ
 no_rows_told [] = codes "  no rows\n"
 no_rows_told (row ∷ rows) = []
 
--- that it isn't decided whether rows are by the book, unless this is the verdict
-abbrev pub undecided_told : Bool → List ℕ
-undecided_told true = []
-undecided_told false = codes "  undecided\n"
+-- that it isn't decided whether rows are by the book
+abbrev pub undecided_told : List ℕ
+undecided_told = codes "  undecided\n"
 
--- What is said of these operations and rows below the line of the verdict, where nothing but rows by the book passes or where
--- others may: where it comes from, and why they aren't lawful.
-abbrev pub detail : Bool → List Op → List Row → Verdict → List ℕ
-detail lawful ops rows (Units c) = bad_row ops rows c
-detail lawful ops rows Lawful = []
-detail lawful ops rows (Unlawful reasons found) = no_rows_told rows ++ comparison_told found ++ reasons_told reasons
-detail lawful ops rows (Undecided found) = no_rows_told rows ++ comparison_told found ++ undecided_told lawful
+-- What is said of these operations and rows below the line of the verdict: where it comes from, and why they aren't lawful.
+abbrev pub detail : List Op → List Row → Verdict → List ℕ
+detail ops rows (Units c changes) = bad_row ops rows c
+detail ops rows Lawful = []
+detail ops rows (Unlawful reasons found) = no_rows_told rows ++ comparison_told found ++ reasons_told reasons
+detail ops rows (Undecided found) = no_rows_told rows ++ comparison_told found ++ undecided_told
 
 -- the line of the verdict, for which these cycles are claimed, with what is said below it
-abbrev pub lines_of : Bool → Option ℕ → List Op → List Row → Verdict → Checked → List ℕ
-lines_of lawful claimed ops rows verdict checked = line_of checked claimed ++ detail lawful ops rows verdict
+abbrev pub lines_of : Option ℕ → List Op → List Row → Verdict → Checked → List ℕ
+lines_of claimed ops rows verdict checked = line_of checked claimed ++ detail ops rows verdict

@@ -20,7 +20,7 @@ CanBeCompared _ = Unit {0}
 
 -- a bad row is one of the rows, and the number of an output fits
 abbrev pub CanBeListed : List Row → Verdict → Type 0
-CanBeListed rows (Units c) = c < length rows
+CanBeListed rows (Units c changes) = c < length rows
 CanBeListed rows Lawful = Unit {0}
 CanBeListed rows (Unlawful reasons found) = CanBeCompared found
 CanBeListed rows (Undecided found) = CanBeCompared found

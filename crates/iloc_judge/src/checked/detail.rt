@@ -140,30 +140,25 @@ fn push_no_rows(text: &mut Vec<u8>, rows: &[Row]) -> Result<(), NoMemory>
     Ok(())
 }
 
-/// Appends that it isn't decided whether rows are by the book, unless this is the verdict.
-fn push_undecided(text: &mut Vec<u8>, lawful: bool) -> Result<(), NoMemory>
-    ensures { OnOk result (text.new.items ≡ text.old.items ++ listed.undecided_told lawful) }
+/// Appends that it isn't decided whether rows are by the book.
+fn push_undecided(text: &mut Vec<u8>) -> Result<(), NoMemory>
+    ensures { OnOk result (text.new.items ≡ text.old.items ++ listed.undecided_told) }
 {
-    if lawful {
-        return Ok(());
-    }
     Ok(text.extend_from_slice(b"  undecided\n")?)
 }
 
 /// Appends what is said of these operations and rows below the line of their verdict.
 pub(crate) fn push_detail(
     text: &mut Vec<u8>,
-    lawful: bool,
     ops: &[Op],
     rows: &[Row],
     verdict: &Verdict,
 ) -> Result<(), NoMemory>
     requires { CanBeListed rows.now verdict.now }
-    ensures { OnOk result (text.new.items
-        ≡ text.old.items ++ listed.detail lawful ops.now rows.now verdict.now) }
+    ensures { OnOk result (text.new.items ≡ text.old.items ++ listed.detail ops.now rows.now verdict.now) }
 {
     match verdict {
-        Verdict::Units(row) => push_bad_row(text, ops, rows, *row),
+        Verdict::Units(row, _) => push_bad_row(text, ops, rows, *row),
         Verdict::Lawful => Ok(()),
         Verdict::Unlawful(reasons, comparison) => {
             push_no_rows(text, rows)?;
@@ -173,7 +168,7 @@ pub(crate) fn push_detail(
         Verdict::Undecided(comparison) => {
             push_no_rows(text, rows)?;
             push_comparison(text, comparison)?;
-            push_undecided(text, lawful)
+            push_undecided(text)
         }
     }
 }

@@ -25,7 +25,7 @@ fn are_alike(alloc: Global, ops: &[Op], others: &[Op]) -> Result<bool, NoMemory>
 }
 
 /// Whether the operations are the block's, `nop`s left out, whatever registers they name.
-fn has_operations(alloc: Global, block: &Block, ops: &[Op]) -> Result<bool, NoMemory>
+pub(crate) fn has_operations(alloc: Global, block: &Block, ops: &[Op]) -> Result<bool, NoMemory>
     ensures { IfOk result (λ yes. yes ≡ has_operations block.now.ops ops.now) }
 {
     let wanted = without_nops(alloc, block)?;

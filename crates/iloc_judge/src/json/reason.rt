@@ -191,7 +191,7 @@ fn push_facts_members(text: &mut Vec<u8>, facts: &[Fact], more: usize) -> Result
 }
 
 /// Appends how many operations of the block are left out, and one of them.
-fn push_left_out(text: &mut Vec<u8>, left_out: Option<LeftOut>) -> Result<(), NoMemory>
+pub(crate) fn push_left_out(text: &mut Vec<u8>, left_out: Option<LeftOut>) -> Result<(), NoMemory>
     ensures { OnOk result (text.new.items ≡ text.old.items ++ json.left_out_member left_out) }
 {
     let Some(it) = left_out else {
@@ -204,7 +204,7 @@ fn push_left_out(text: &mut Vec<u8>, left_out: Option<LeftOut>) -> Result<(), No
 }
 
 /// Appends how many operations are added to the block's, and one of them.
-fn push_added(text: &mut Vec<u8>, added: Option<Added>) -> Result<(), NoMemory>
+pub(crate) fn push_added(text: &mut Vec<u8>, added: Option<Added>) -> Result<(), NoMemory>
     ensures { OnOk result (text.new.items ≡ text.old.items ++ json.added_member added) }
 {
     let Some(it) = added else {

@@ -45,7 +45,7 @@ fn push_escaped(text: &mut Vec<u8>, byte: u8) -> Result<(), NoMemory>
 }
 
 /// Appends the bytes of a string.
-fn push_all_escaped(text: &mut Vec<u8>, bytes: &[u8]) -> Result<(), NoMemory>
+pub(crate) fn push_all_escaped(text: &mut Vec<u8>, bytes: &[u8]) -> Result<(), NoMemory>
     ensures { OnOk result (text.new.items ≡ text.old.items ++ flat_map json.escaped bytes.now) }
 {
     for byte in bytes {
@@ -91,6 +91,14 @@ pub(crate) fn push_number_member(
 {
     push_key(text, name)?;
     push_number(text, number)
+}
+
+/// Appends a member that is true or false.
+pub(crate) fn push_truth_member(text: &mut Vec<u8>, name: &str, truth: bool) -> Result<(), NoMemory>
+    ensures { OnOk result (text.new.items ≡ text.old.items ++ json.truth_member name.now truth) }
+{
+    push_key(text, name)?;
+    push_literal(text, if truth { "true" } else { "false" })
 }
 
 /// Appends a member that is an operation.

@@ -1,5 +1,5 @@
 -- How what is proposed grows by one line.
-use Rattle.std.specs.Prelude.{◌≡◌, ◌≢◌, ℕ, ◌+◌, ◌-◌, ◌≤◌, ◌<◌, nat_lt, max, ◌==◌, ◌&&◌, true, false, if◌then◌else◌, Option, Some, None, Result, Ok, Err, List, [], ◌∷◌, ◌++◌, length, slice_index_or, slice_set}
+use Rattle.std.specs.Prelude.{◌≡◌, ◌≢◌, ℕ, ◌+◌, ◌-◌, ◌≤◌, ◌<◌, nat_lt, nat_le, max, ◌==◌, ◌&&◌, true, false, if◌then◌else◌, Option, Some, None, Result, Ok, Err, List, [], ◌∷◌, ◌++◌, length, slice_index_or, slice_set}
 use Rattle.iloc_ops.specs.Limits.{MAX_OPS}
 use Rattle.iloc_ops.specs.declared.op.Op.{Op}
 use Rattle.iloc_ops.specs.declared.file.Block.{Block}
@@ -9,8 +9,9 @@ use Rattle.iloc_rows.specs.declared.fault.RowsFault.TheVariants.{Read, NoBlocks,
 use Rattle.iloc_rows.specs.declared.proposal.Proposed.{Proposed}
 use Rattle.iloc_rows.specs.declared.proposal.unread.Unread.{Unread}
 use Rattle.iloc_rows.specs.declared.proposing.Proposing.{Proposing}
+use Rattle.iloc_rows.specs.Names.{is_named}
 use Rattle.iloc_rows.specs.Told.{Told, is_unread}
-use Rattle.iloc_rows.specs.Proposing.{last_block, filled, slot, is_named, proposals_of, is_of_block, op_count, Fits}
+use Rattle.iloc_rows.specs.Proposing.{last_block, filled, slot, proposals_of, is_of_block, op_count, Fits}
 
 -- nothing is proposed
 abbrev pub none_proposed : Proposed
@@ -46,6 +47,10 @@ with_cycles p c = record { ops = p.ops; rows = p.rows; claimed = Some c; unread 
 -- the place of the block of which rows are, if there is one, by the number of the last block and the count of blocks
 abbrev pub place : ℕ → ℕ → Option ℕ
 place last count = if nat_lt 0 last then Some (last - 1) else (if count == 1 then Some 0 else None)
+
+-- the place of block k, if it comes after the last block and is there
+abbrev pub later_place : ℕ → ℕ → ℕ → Option ℕ
+later_place last k count = if nat_lt last k && nat_le k count then Some (k - 1) else None
 
 abbrev pub at_place : List Proposed → ℕ → Proposed
 at_place proposals i = slice_index_or proposals i none_proposed
@@ -88,15 +93,15 @@ RowAdds old zero one number new (Err NoBlocks) = ⊥
 RowAdds old zero one number new (Err (NoSuchBlock n)) =
     (n ≡ number) × (place old.last (length old.proposals.items) ≡ None)
 
--- So does a line without operations by which the proposal becomes another: a number of cycles, or a line that can't be read.
--- Where there is no block of which it could be, it has this fault.
-abbrev pub Becomes : Proposing → (Proposed → Proposed) → RowsFault → Proposing → Result (Unit {0}) RowsFault → Type 0
-Becomes old change homeless new (Ok done) =
-    (i : ℕ) × (place old.last (length old.proposals.items) ≡ Some i)
+-- So does a line without operations by which the proposal at a place becomes another: a number of cycles, or a line that can't be
+-- read, which may turn to another block. Where there is no block of which it could be, it has this fault.
+abbrev pub Becomes : Proposing → Option ℕ → ℕ → (Proposed → Proposed) → RowsFault → Proposing → Result (Unit {0}) RowsFault
+    → Type 0
+Becomes old at last change homeless new (Ok done) =
+    (i : ℕ) × (at ≡ Some i)
     × (new.proposals.items ≡ slice_set old.proposals.items i (change (at_place old.proposals.items i)))
-    × (new.last ≡ max 1 old.last)
-Becomes old change homeless new (Err fault) =
-    fault ≢ Read NoMemory → (fault ≡ homeless) × (place old.last (length old.proposals.items) ≡ None)
+    × (new.last ≡ last)
+Becomes old at last change homeless new (Err fault) = fault ≢ Read NoMemory → (fault ≡ homeless) × (at ≡ None)
 
 -- so does a head
 abbrev pub Turns : List Block → Proposing → ℕ → Option (List ℕ) → ℕ → Proposing → Result (Unit {0}) RowsFault → Type 0

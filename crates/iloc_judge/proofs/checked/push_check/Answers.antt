@@ -1,5 +1,6 @@
 use Rattle.std.proofs.Common.{refl}
 use Rattle.iloc_judge.specs.declared.checked.Checked.{Checked}
+use Rattle.iloc_judge.specs.Checked.{passes}
 use Rattle.iloc_judge.specs.Entry.{entry_as}
 use Rattle.iloc_judge.proofs.Counted.{verdict_listed}
 use Rattle.iloc_judge.proofs.checked.push_check.Goals as goal
@@ -19,7 +20,7 @@ returns-clause-entry c =
     let ops = c.into_schedule-theirs.ensures.ops in
     let rows = c.into_schedule-theirs.ensures.rows in
     let checked : Checked = record c.found-found.result { kind = c.kind_of.result } in (
-      entry_as options.lawful options.form p.claimed p.ops p.rows c.in_ok-verdict.verdict checked,
+      entry_as (passes options.lawful checked) options.form p.claimed p.ops p.rows c.in_ok-verdict.verdict checked,
       record {
         verdict = c.in_ok-verdict.verdict;
         right = rw (ops, rows) at c.in_ok-verdict.ensures.right;

@@ -1,5 +1,6 @@
 use Rattle.std.proofs.Common.{refl}
 use Rattle.iloc_judge.specs.declared.verdict.Verdict.TheVariants.{Units}
+use Rattle.iloc_judge.specs.Checked.{passes}
 use Rattle.iloc_judge.specs.Entry.{entry_as}
 use Rattle.iloc_judge.proofs.OwnRows.{own_rows_keep_units}
 use Rattle.iloc_judge.proofs.checked.push_units.Goals as goal
@@ -9,10 +10,11 @@ returns-clause-entry c =
     let p = c.args.proposal.now in
     let task = c.args.task.now in
     let options = c.args.judging.now.options in (
-      entry_as options.lawful options.form p.claimed p.ops p.rows (Units c.args.row) c.found-checked.result,
+      entry_as (passes options.lawful c.found-checked.result) options.form p.claimed p.ops p.rows
+          (Units c.args.row c.in_ok-changes.changes) c.found-checked.result,
       record {
-        verdict = Units c.args.row;
-        right = c.requires.bad;
+        verdict = Units c.args.row c.in_ok-changes.changes;
+        right = (c.requires.bad, rw (c.ops-ops.ensures, c.rows-rows.ensures.rows) at c.in_ok-changes.ensures);
         own = λ same. absurd (own_rows_keep_units task.latencies.now task.block.now.ops task.ours.now.ops p.ops
             task.ours.now.rows p.rows c.args.row task.lawful c.rows-rows.ensures.in_range c.rows-rows.ensures.once same c.requires.bad);
         is_found = rw (c.found-checked.ensures, c.requires.keeps) refl;
