@@ -1,7 +1,6 @@
 """How a student's program is started: in bubblewrap or without walls, for root as another user, within limits."""
 import glob
 import os
-import pwd
 import shlex
 import subprocess
 import tempfile
@@ -18,13 +17,6 @@ START = ('tar xf - --no-same-owner --no-overwrite-dir 2>/dev/null; rm -rf task.i
 OWN_USERS = range(61184, 65520)     # of these systemd takes numbers for services while they run
 NO_FILTER = "Programs ran without a filter of system calls, since python3-seccomp isn't installed."
 NO_WALLS = "Without walls any program may have falsified marks, and read and written what its user may."
-
-
-def is_taken(user):
-    try:
-        return bool(pwd.getpwuid(user))
-    except KeyError:
-        return False
 
 
 def system(paths):
@@ -62,7 +54,8 @@ class Walls:
     def __init__(self, asked):
         self.asked, self.number, self.user = asked, None, []
         if os.geteuid() == 0:
-            self.number = next(user for user in OWN_USERS if not is_taken(user))
+            self.number = next(user for user in OWN_USERS if subprocess.call(
+                ["getent", "passwd", f"{user}"], stdout=subprocess.DEVNULL))
             user = f"{self.number}"
             self.user = ["setpriv", "--reuid", user, "--regid", user, "--clear-groups", "--inh-caps=-all"]
 
