@@ -1,13 +1,21 @@
 """Marks: what is said of each hand-in, and the points that a policy gives for it."""
+import hashlib
 import re
 from dataclasses import dataclass, field
+from pathlib import Path
 
-from handins.folder import NoRows
 from tasks import Task
-from words import sentences, shown
+from words import count, number, sentences, shown
 
 PASSING = ("lawful", "same", "prints")
-POLICIES = ("pass", "ours", "least", "best")
+
+
+class NoRows(Exception):
+    """There is nothing to judge: the verdict, and why in lines."""
+
+    def __init__(self, verdict, *lines):
+        super().__init__(*lines)
+        self.verdict, self.lines, self.is_starved = verdict, list(lines), False
 
 
 @dataclass
@@ -20,10 +28,35 @@ class Mark:
     line: int = None            # of the hand-in, the first with something to say
     pictures: list = field(default_factory=list)    # names of files
     is_starved: bool = False    # a program was ended while it waited for the processor
+    prints: bool = False        # what it should on the memory that is handed in, though it is wrong on another
+    seconds: float = None       # that a program computed
+    alike: list = field(default_factory=list)       # texts that are equal for hand-ins that are alike
     points: float = 0.0
 
     def passes(self):
         return self.verdict in PASSING
+
+
+@dataclass
+class Student:
+    name: str
+    path: Path
+    id: str = ""                # as a course's site has it
+    email: str = ""
+    days: int = 0               # late
+    attempt: int = None
+    files: dict = None          # in a folder for all, by the names that the student gave them
+    notes: list = field(default_factory=list)
+    row: list = field(default_factory=list)         # a mark a task
+    less: float = 0.0           # points, for being late
+
+    def total(self):
+        return round(max(0, sum(mark.points for mark in self.row) - self.less), 2)
+
+    def said(self):
+        """What is said of all that was handed in."""
+        late = f"{count(self.days, 'day')} late" + f": {number(self.less)} points less" * bool(self.less)
+        return [f"{late}."] * bool(self.days) + [f"Note: {note}." for note in self.notes]
 
 
 def verdict_of(said, required):
@@ -35,12 +68,27 @@ def verdict_of(said, required):
     return "changed" if is_changed else "unlawful"
 
 
+def prints_there(said, required):
+    """Whether what is wrong on some memory prints what it should on the one that is handed in, by what is required."""
+    found = said["difference"]
+    is_own = required == "outcome" or not said["left_out"] and not said["added"]
+    return bool(found and is_own and (said["memory"] or found["kind"] == "word"))
+
+
+def alike(rows, is_wrong):
+    """What is equal for hand-ins that are equal to the byte, and for wrong ones that are but for registers and blanks."""
+    names = {}
+    plain = re.sub(rb"\br\d+", lambda found: b"r%d" % names.setdefault(found[0], len(names)), rows) if is_wrong else b""
+    return [hashlib.sha256(text).hexdigest() for text in (rows, re.sub(rb"//.*|\s+", b"", plain)) if text]
+
+
 def judged(task, said, rows, required):
     """The mark of rows of which the program has a record."""
     verdict = verdict_of(said, required)
+    passes = verdict in PASSING
     lines = [reason.get("line") or rows.line_of(reason["row"]) for reason in said["reasons"] if "row" in reason]
-    told = sentences(said, rows, verdict in PASSING)
-    return Mark(task, verdict, told, rows.notes, said["cycles"], next(iter(lines), None))
+    return Mark(task, verdict, sentences(said, rows, passes), rows.notes, said["cycles"], next(iter(lines), None),
+                prints=prints_there(said, required), alike=alike(rows.data, not passes))
 
 
 def refused(task, why, rows):
@@ -48,7 +96,7 @@ def refused(task, why, rows):
     found = re.match(r"line (\d{1,9}):", why)
     line = int(found[1]) if found else None
     text = f": `{shown(rows.text_at(line), 80)}`" if line else ""
-    return Mark(task, "refused", [why + text], rows.notes, line=line)
+    return Mark(task, "refused", [why + text], rows.notes, line=line, alike=alike(rows.data, False))
 
 
 def unmarked(task, why):
@@ -63,21 +111,22 @@ def lost(mark, base, asked):
     late = max(0, mark.cycles - base)
     if asked.per_cycle is not None:
         return asked.per_cycle * late
-    return asked.points * late / mark.cycles if late else 0
+    return mark.task.points * late / mark.cycles if late else 0
 
 
-def give_points(marks, asked):
-    """Gives each hand-in that passes its points; the others have none."""
-    passed = [mark for mark in marks if mark.passes()]
+def give_points(students, asked, again):
+    """Gives these students of a class their points: for what passes, and a share of them for what only prints right."""
     best = {}
-    for mark in passed:
-        best[mark.task] = min(best.get(mark.task, mark.cycles), mark.cycles)
-    for mark in passed:
-        task = mark.task
-        base = {"ours": task.ours, "least": task.least, "best": best[task], "pass": mark.cycles}[asked.policy]
-        points = max(asked.floor * asked.points, asked.points - lost(mark, base, asked))
-        mark.points = round(max(0, points - (asked.penalty if mark.notes else 0)), 2)
-
-
-def total(row):
-    return round(sum(mark.points for mark in row), 2)
+    for mark in (mark for student in students for mark in student.row if mark.passes()):
+        best[mark.task.name] = min(best.get(mark.task.name, mark.cycles), mark.cycles)
+    for student in again:
+        student.less = student.days * asked.per_day
+        for mark in student.row:
+            task, points = mark.task, 0
+            if mark.passes():
+                base = {"ours": task.ours, "least": task.least, "best": best[task.name], "pass": mark.cycles}
+                points = max(asked.floor * task.points, task.points - lost(mark, base[asked.policy], asked))
+            elif mark.prints and asked.partial:
+                points = asked.partial * task.points
+                mark.lines.append("It prints the right words on the task's own memory: some of the points.")
+            mark.points = round(max(0, points - (asked.penalty if mark.notes else 0)), 2)

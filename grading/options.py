@@ -5,6 +5,7 @@ import math
 import os
 import re
 import shlex
+from datetime import datetime
 from pathlib import Path
 
 import judge
@@ -30,14 +31,22 @@ def option(text):
     return text
 
 
-KINDS = {"text": str, "path": Path, "words": shlex.split, "option": option, "whole": between(1, kind=int),
+def time(text):
+    try:
+        return datetime.fromisoformat(text)
+    except ValueError:
+        raise argparse.ArgumentTypeError(f"{text} is no time such as 2026-11-20T23:59") from None
+
+
+KINDS = {"text": str, "time": time, "path": Path, "words": shlex.split, "option": option, "whole": between(1, kind=int),
          "number": between(0), "share": between(0, 1)}
-ACTIONS = {"flag": {"action": "store_true"}, "version": {"action": judge.Version, "nargs": 0}}
+ACTIONS = {"flag": {"action": "store_true"}, "version": {"action": judge.Version, "nargs": 0},
+           "names": {"nargs": "+", "metavar": "NAME", "default": []}}
 
 
 def add_to(group, names, value, kind, default, about):
-    """Adds an option: a flag, one of several words, or a value of a kind, which may be given again where it is a list."""
-    valued = {"type": KINDS[kind], "metavar": value} if value else {"choices": kind.split()}
+    """Adds an option: a flag, one of several words, or a value of a kind, which may be given again."""
+    valued = {"type": KINDS.get(kind), "metavar": value} if value else {"choices": kind.split()}
     again = {"action": "append", "default": []} if default == ".." else {"default": default} if default else {}
     group.add_argument(*names.split(), **ACTIONS.get(kind) or {**valued, **again}, help=about)
 
@@ -60,11 +69,17 @@ def parser(usage):
 def parse(usage):
     made = parser(usage)
     asked = made.parse_args()
-    if asked.gradescope or asked.github:
+    is_one = asked.gradescope or asked.github
+    if is_one:
         asked.pictures = "none"
-        if asked.policy == "best":
-            made.error("--policy best needs a class")
-    if asked.program == []:
-        made.error("no command is given")
+    wrong = {
+        "--policy best needs a class": is_one and asked.policy == "best",
+        "--only needs a class": is_one and asked.only,
+        "no command is given": asked.program == [] or asked.build == [],
+        "--build needs --program": asked.build and not asked.program,
+        "--merge needs --column": asked.merge and not asked.column}
+    for why in (why for why, is_so in wrong.items() if is_so):
+        made.error(why)
     asked.check += REQUIRED[asked.require]
+    asked.inner = getattr(asked, "in") or ""
     return asked

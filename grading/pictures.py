@@ -35,7 +35,7 @@ class Pictures:
             except (judge.NoAnswer, svg.Unread):
                 made = None
             if made:
-                folder = self.folder_of(student)
+                folder = self.folder_of(student.name)
                 folder.mkdir(parents=True, exist_ok=True)
                 (folder / f"{mark.task.name}.{ending}").write_bytes(made)
                 mark.pictures.append(f"{mark.task.name}.{ending}")

@@ -5,11 +5,11 @@ import os
 import string
 import unicodedata
 from html import escape
-from itertools import starmap
 from urllib.parse import quote
 
-from marks import total
-from words import count, shown, told
+import alike
+import speed
+from words import count, number, shown, told
 
 COLOURS = {"lawful": "right", "same": "right", "prints": "right", "agrees": "ask", "changed": "ask", "unlawful": "ask",
            "undecided": "ask", "void": "ask", "unjudged": "ask", "missing": "none"}      # the others are wrong
@@ -28,30 +28,38 @@ def safe_name(student):
     return f"{made[:LONGEST // 4]}~{hashlib.sha256(os.fsencode(student)).hexdigest()[:16]}"
 
 
+def in_cell(text):
+    """A plain text in a cell that no spreadsheet computes."""
+    return "'" * text.startswith(("-", "@", "=", "+")) + text
+
+
 def in_table(name):
-    """A name in a cell that no spreadsheet computes."""
-    made = safe_name(name)
-    return "'" * made.startswith(("-", "@")) + made
+    return in_cell(safe_name(name))
 
 
-def write_gradebook(path, marks, tasks):
-    """Points, then verdict and cycles of each task."""
+def write_gradebook(path, students, tasks, has_programs):
+    """Points, then verdict and cycles of each task, and who was late, which attempt it is and what a program took."""
     names = [in_table(task.name) for task in tasks]
+    about = {"id": "id", "attempt": "attempt", "days": "days late"}
+    about = {name: head for name, head in about.items() if any(getattr(it, name) for it in students.values())}
+    kinds = ["verdict", "cycles", *["seconds"] * has_programs]
     with open(path, "w", newline="", encoding="utf-8") as file:
         table = csv.writer(file)
-        more = [f"{name} {what}" for name in names for what in ("verdict", "cycles")]
-        table.writerow(["student", "total", *names, *more])
-        for student, row in marks.items():
-            more = [cell for mark in row for cell in (mark.verdict, mark.cycles)]
-            table.writerow([in_table(student), f"{total(row):g}", *(f"{mark.points:g}" for mark in row), *more])
+        heads = [f"{name} {kind}" for name in names for kind in kinds]
+        table.writerow(["student", "total", *names, *heads, *about.values()])
+        for name, student in students.items():
+            points = map(number, (student.total(), *(mark.points for mark in student.row)))
+            more = [getattr(mark, kind) for mark in student.row for kind in kinds]
+            more += [in_cell(f"{getattr(student, it) or ''}") for it in about]
+            table.writerow([in_table(name), *points, *more])
 
 
-def write_feedback(folder, row, asked):
+def write_feedback(folder, student, tasks):
     """What a student reads, beside the pictures."""
     folder.mkdir(parents=True, exist_ok=True)
-    lines = [f"{total(row):g} of {asked.points * len(row):g} points"]
-    for mark in row:
-        lines += ["", "\n  ".join(told(mark))]
+    lines = [f"{number(student.total())} of {number(sum(task.points for task in tasks))} points", *student.said()]
+    for mark in student.row:
+        lines += ["", "\n  ".join(told(mark, False))]
         lines += [f"  {'Picture' if name.endswith('.svg') else 'Cycle by cycle'}: {name}" for name in mark.pictures]
     with open(folder / "feedback.txt", "w", encoding="utf-8", errors="replace") as file:
         file.write("\n".join(lines) + "\n")
@@ -62,30 +70,35 @@ def cell(mark, home):
     at = f"feedback/{quote(home)}"
     links = "".join(f'<p><a href="{at}/{quote(name)}">{escape(name)}</a></p>' for name in mark.pictures)
     said = "".join(f"<p>{escape(line)}</p>" for line in told(mark))
-    return (f'<td class="{COLOURS.get(mark.verdict, "wrong")}"><details><summary>{mark.points:g}</summary>'
+    return (f'<td class="{COLOURS.get(mark.verdict, "wrong")}"><details><summary>{number(mark.points)}</summary>'
             f"{said}{links}</details></td>")
 
 
-def line_of(name, row):
-    home = safe_name(name)
-    link = f'<a href="feedback/{quote(home)}/feedback.txt">{escape(shown(name))}</a>'
-    return f"<tr><th>{link}</th><td>{total(row):g}</td>{''.join(cell(mark, home) for mark in row)}</tr>"
+def line_of(student):
+    home = safe_name(student.name)
+    link = f'<a href="feedback/{quote(home)}/feedback.txt">{escape(shown(student.name))}</a>'
+    said = "".join(f"<br><small>{escape(line)}</small>" for line in student.said())
+    cells = "".join(cell(mark, home) for mark in student.row)
+    return f"<tr><th>{link}{said}</th><td>{number(student.total())}</td>{cells}</tr>"
 
 
-def write_report(path, marks, tasks, asked, warning):
-    """A page with all marks, the best first, and a warning where there is one."""
-    best_first = sorted(marks.items(), key=lambda entry: (-total(entry[1]), entry[0]))
-    columns = [(escape(shown(task.name)), task.ours, task.least) for task in tasks]
-    heads = "".join(f"<th>{name}<br><small>{ours} / {least}</small></th>" for name, ours, least in columns)
-    passed = "".join(f"<td>{sum(mark.passes() for mark in column)}</td>" for column in zip(*marks.values()))
-    size = f"{count(len(marks), 'student')}, {count(len(tasks), 'task')}, {asked.points:g} points each."
+def write_report(path, students, tasks, warning):
+    """A page with all marks, the best first, a warning where there is one, and what only staff should see."""
+    best_first = sorted(students.values(), key=lambda student: (-student.total(), student.name))
+    names = [escape(shown(task.name)) for task in tasks]
+    heads = "".join(f"<th>{name}<br><small>{it.ours} / {it.least}</small></th>" for name, it in zip(names, tasks))
+    columns = zip(*(student.row for student in best_first))
+    passed = "".join(f"<td>{sum(mark.passes() for mark in column)}</td>" for column in columns)
+    points = number(sum(task.points for task in tasks))
+    size = f"{count(len(students), 'student')}, {count(len(tasks), 'task')}, {points} points."
     with open(PAGE, encoding="utf-8") as template, open(path, "w", encoding="utf-8", errors="replace") as file:
         file.write(string.Template(template.read()).substitute(
-            size=size, warning=warning, heads=heads, rows="\n".join(starmap(line_of, best_first)), passed=passed))
+            size=size, warning=warning, heads=heads, rows="\n".join(map(line_of, best_first)), passed=passed,
+            speed=speed.section(best_first, tasks), alike=alike.section(best_first, tasks)))
 
 
-def write_all(folder, marks, tasks, asked, warning):
-    write_gradebook(folder / "gradebook.csv", marks, tasks)
-    write_report(folder / "report.html", marks, tasks, asked, warning)
-    for name, row in marks.items():
-        write_feedback(folder / "feedback" / safe_name(name), row, asked)
+def write_all(folder, students, tasks, asked, warning):
+    write_gradebook(folder / "gradebook.csv", students, tasks, bool(asked.program))
+    write_report(folder / "report.html", students, tasks, warning)
+    for name, student in students.items():
+        write_feedback(folder / "feedback" / safe_name(name), student, tasks)

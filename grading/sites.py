@@ -4,22 +4,24 @@ import os
 import secrets
 import tempfile
 
-from marks import total
 from words import told
 
 NOT_ALL = 1_000_000     # cycles on the leaderboard of who hasn't passed all tasks
 
 
-def results(row, asked, seconds, warning):
+def results(student, asked, seconds, warning):
     """What Gradescope reads from results.json."""
-    tests = [{"name": mark.task.name, "number": str(number), "score": mark.points, "max_score": asked.points,
+    row, total = student.row, student.total()
+    tests = [{"name": mark.task.name, "number": str(number), "score": mark.points, "max_score": mark.task.points,
               "status": "passed" if mark.passes() else "failed", "output": "\n".join(told(mark)),
-              "output_format": "text", "visibility": asked.visibility} for number, mark in enumerate(row, 1)]
+              "output_format": "text", "visibility": "hidden" if mark.task.is_hidden else asked.visibility}
+             for number, mark in enumerate(row, 1)]
     passed = sum(mark.passes() for mark in row)
     cycles = sum(mark.cycles for mark in row) if passed == len(row) else NOT_ALL
-    return {"score": total(row), "execution_time": round(seconds, 1), "visibility": asked.visibility,
-            "output": f"{passed} of {len(row)} tasks passed. {warning}".rstrip(), "stdout_visibility": "hidden",
-            "tests": tests, "leaderboard": [{"name": "points", "value": total(row), "order": "desc"},
+    said = [f"{passed} of {len(row)} tasks passed.", *student.said(), warning]
+    return {"score": total, "execution_time": round(seconds, 1), "visibility": asked.visibility,
+            "output": " ".join(said).rstrip(), "stdout_visibility": "hidden",
+            "tests": tests, "leaderboard": [{"name": "points", "value": total, "order": "desc"},
                                             {"name": "cycles", "value": cycles, "order": "asc"}]}
 
 
@@ -41,10 +43,10 @@ def annotations(row, folder):
     token = secrets.token_hex(16)
     yield f"::stop-commands::{token}"
     for mark in row:
-        yield "\n  ".join(told(mark))
+        yield "\n  ".join(told(mark, False))
     yield f"::{token}::"
     for mark in row:
         if not mark.passes():
             place = f"file={escaped(os.path.normpath(folder / f'{mark.task.name}.rows'), ':,')}"
             place += f",line={mark.line}" if mark.line else ""
-            yield f"::error {place}::{escaped(chr(10).join(told(mark)))}"
+            yield f"::error {place}::{escaped(chr(10).join(told(mark, False)))}"

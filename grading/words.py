@@ -1,6 +1,7 @@
 """Feedback in sentences that a student reads: those of sentences.ini, about a hand-in."""
 import configparser
 import os
+import sys
 
 SENTENCES = configparser.ConfigParser(interpolation=None)
 SENTENCES.read(os.path.join(os.path.dirname(os.path.realpath(__file__)), "sentences.ini"), encoding="utf-8")
@@ -12,8 +13,16 @@ def shown(text, most=200):
     return line if len(line) <= most else f"{line[:most]} .."
 
 
+def say(text):
+    print(f"ilocgrade: {text}", file=sys.stderr)
+
+
 def count(number, what):
     return f"{number} {what}" + "s" * (number != 1)
+
+
+def number(value):
+    return f"{value:.12g}"
 
 
 def difference(said):
@@ -61,9 +70,12 @@ def sentences(said, rows, passes):
     return [*([] if passes else faults(said, rows)), *[f"You claim {count(said['claimed'], 'cycle')}."] * claim]
 
 
-def told(mark):
-    """The lines that a student reads of a task."""
-    head = f"{shown(mark.task.name)}: {mark.points:g} points. {SENTENCES['verdicts'][mark.verdict]}"
+def told(mark, is_staff=True):
+    """The lines that are said of a task: to students of one that is hidden its points alone."""
+    head = f"{shown(mark.task.name)}: {number(mark.points)} points."
+    if mark.task.is_hidden and not is_staff:
+        return [f"{head} The task is hidden."]
+    head += f" {SENTENCES['verdicts'][mark.verdict]}"
     if mark.cycles is not None:
         head += (f" {count(mark.cycles, 'cycle')}; the reference takes {mark.task.ours}, "
                  f"the bound by the book is {mark.task.least}.")

@@ -5,7 +5,7 @@ import signal
 import subprocess
 import time
 
-from handins.folder import MOST_BYTES, NoRows
+from marks import NoRows
 from programs.usage import used
 
 STEP = 0.1              # seconds from one look at what is used to the next
@@ -16,8 +16,8 @@ MOST_ERRORS = 1 << 24   # bytes of standard error
 class Run:
     """A run: its status, or the failure for which it was stopped, what it printed, and how long it computed."""
 
-    def __init__(self, words, runner, **how):
-        self.asked, self.sizes, self.patience = runner.asked, runner.walls.sizes, runner.patience
+    def __init__(self, words, runner, most, **how):
+        self.most, self.asked, self.sizes, self.patience = most, runner.asked, runner.walls.sizes, runner.patience
         self.status, self.failure, self.output, self.errors = None, None, bytearray(), bytearray()
         self.seconds, self.ready, self.begun = 0, 0, time.monotonic()      # ready: in which it could run
         self.looked = self.begun
@@ -47,13 +47,14 @@ class Run:
 
     def fault(self):
         """Why it has to be stopped, or None."""
-        if len(self.output) > MOST_BYTES or len(self.errors) > MOST_ERRORS:
-            return NoRows("crashed", f"It printed more than {MOST_BYTES >> 20} MiB.")
+        if len(self.output) > self.most or len(self.errors) > MOST_ERRORS:
+            return NoRows("crashed", f"It printed more than {self.most >> 20} MiB.")
         passed = time.monotonic() - self.looked
         if passed < STEP:
             return None
         self.looked += passed
-        self.seconds, memory, is_ready = used(self.process.pid, self.sizes, self.asked.memory << 20)
+        seconds, memory, is_ready = used(self.process.pid, self.sizes, self.asked.memory << 20)
+        self.seconds = max(self.seconds, seconds)       # what ends may be counted no more
         self.ready += passed * is_ready
         if memory > self.asked.memory << 20:
             return NoRows("crashed", f"It used more than {self.asked.memory} MiB.")

@@ -1,15 +1,18 @@
 """Runs students' programs on tasks: what they print, or why there is nothing to judge."""
+import io
 import itertools
 import os
 import queue
 import signal
 import subprocess
+import tarfile
 import tempfile
-from contextlib import contextmanager
+from contextlib import contextmanager, suppress
 
-from handins.folder import NoRows
+from handins.folder import MOST_BYTES
+from marks import NoRows
 from programs.run import Run
-from programs.walls import MOST_KEPT, Bubblewrap, NoWalls
+from programs.walls import BUILD, MOST_KEPT, RUN, Bubblewrap, NoWalls
 from tasks import CannotGrade
 from words import shown
 
@@ -18,8 +21,30 @@ LINES = 10          # of standard error that are shown, after the first
 NEEDED = "Debian's package bubblewrap, 0.8 or later, has to be installed and allowed, or see --unconfined"
 
 
+def packed(folder):
+    """The same of files that are called otherwise here, or are in archives, of which each file lies in the folder: one
+    that all are in isn't made."""
+    made, files = tempfile.TemporaryFile(), {}
+    for path, data in folder.unpacked().items():
+        files[path.split("/", 1)[1]] = data
+    while files and len({path.partition("/")[0] for path in files}) == 1 and all("/" in path for path in files):
+        files = {path.partition("/")[2]: data for path, data in files.items()}
+    for path in set(folder.paths) - set(folder.archives()):
+        with suppress(NoRows):
+            files[path] = folder.read(path)
+    with tarfile.open(fileobj=made, mode="w") as archive:
+        for path, data in files.items():
+            about = tarfile.TarInfo(path)
+            about.size, about.mode = len(data), 0o755
+            archive.addfile(about, io.BytesIO(data))
+    made.flush()
+    return made
+
+
 def archived(folder):
     """A file with a student's folder, which `tar` reads: it follows no link, also none that appears meanwhile."""
+    if folder.given is not None or folder.archives():
+        return packed(folder)
     made, at = tempfile.TemporaryFile(), f"/proc/self/fd/{folder.number}"
     limits = ["prlimit", f"--fsize={MOST_KEPT}", "timeout", f"{SECONDS}"]
     done = subprocess.run([*limits, "tar", "cf", "-", "--ignore-failed-read", "-C", at, "."], stdin=subprocess.DEVNULL,
@@ -59,13 +84,13 @@ class Runner:
         if why:
             raise CannotGrade(f"programs can't be run apart: {why}: {NEEDED}")
 
-    def run(self, command, archive, task):
+    def run(self, command, archive, task, script=RUN, most=MOST_BYTES):
         """How a command in a student's folder ends, on a core of its own while others run, and the folder's name."""
         core = self.cores.get()
         try:
-            with self.walls.start(command, task) as (words, how, home), \
+            with self.walls.start(command, task, script) as (words, how, home), \
                     open(f"/proc/self/fd/{archive.fileno()}", "rb") as given:
-                return Run([*self.scope, "taskset", "-c", f"{core}", *words], self, stdin=given, **how), home
+                return Run([*self.scope, "taskset", "-c", f"{core}", *words], self, most, stdin=given, **how), home
         finally:
             self.cores.put(core)
 
@@ -77,18 +102,30 @@ class Runner:
 
     @contextmanager
     def reading(self, folder):
-        """A call that gives what a student's program prints of a task."""
+        """A call that gives what a student's program prints of a task, nothing to say of it, and its seconds."""
         with archived(folder) as archive:
-            yield lambda task: self.printed(folder, archive, task)
+            if not self.asked.build:
+                yield lambda task: self.printed(folder, archive, task)
+                return
+            with tempfile.TemporaryFile() as built:
+                built.write(self.ended(self.asked.build, archive, b"", BUILD, MOST_KEPT).output)
+                built.flush()
+                yield lambda task: self.printed(folder, built, task)
 
     def printed(self, folder, archive, task):
         words = [word.replace("{task}", "task.iloc") for word in self.asked.program]
-        if "/" in words[0] and not folder.has(words[0]):
+        is_plain = not self.asked.build and folder.given is None and not folder.archives()
+        if is_plain and "/" in words[0] and not folder.has(words[0]):
             raise NoRows("missing", f"There is no program {shown(words[0])}; there is {folder.names()}.")
-        ended, home = self.run(words, archive, task.path.read_bytes())
+        ended = self.ended(words, archive, task.path.read_bytes())
+        return ended.output, [], round(ended.seconds, 2)
+
+    def ended(self, *asked):
+        """A run that ended with status 0, or the failure of any other."""
+        ended, home = self.run(*asked)
         if ended.status != 0:
             raise ended.failure or self.failure(ended, home)
-        return ended.output
+        return ended
 
     def failure(self, ended, home):
         """What is said of a status."""

@@ -1,6 +1,7 @@
 """How a student's program is started: in bubblewrap or without walls, for root as another user, within limits."""
 import glob
 import os
+import random
 import shlex
 import subprocess
 import tempfile
@@ -11,9 +12,11 @@ HERE = os.path.dirname(os.path.realpath(__file__))
 MOST_KEPT = 1 << 26         # bytes of a student's folder, and of each file in it
 MOST_WRITTEN = 1 << 24      # of a file that a program writes
 SPACE = 1 << 32             # of addresses of a process: to reserve them is free, and what is used is watched
-# Unpacks a student's folder from standard input, and runs the words after a task's path on that task.
-START = ('tar xf - --no-same-owner --no-overwrite-dir 2>/dev/null; rm -rf task.iloc; cp "$0" task.iloc && '
-         f'exec prlimit --fsize={MOST_WRITTEN} "$@" <"$0"')
+# Unpacks a student's folder from standard input, and runs the words after a task's path on it; or on nothing,
+# and then packs the folder.
+UNPACK = "tar xf - --no-same-owner --no-overwrite-dir 2>/dev/null; "
+RUN = f'{UNPACK}rm -rf task.iloc; cp "$0" task.iloc && exec prlimit --fsize={MOST_WRITTEN} "$@" <"$0"'
+BUILD = f'{UNPACK}prlimit --fsize={MOST_WRITTEN} "$@" </dev/null >&2 && exec tar cf - .'
 OWN_USERS = range(61184, 65520)     # of these systemd takes numbers for services while they run
 NO_FILTER = "Programs ran without a filter of system calls, since python3-seccomp isn't installed."
 NO_WALLS = "Without walls any program may have falsified marks, and read and written what its user may."
@@ -48,23 +51,23 @@ def in_memory(data):
 
 
 class Walls:
-    """What all have in common. For root, who owns much of /proc, a user whom nobody else is."""
+    """What all have in common. For root, who owns much of /proc, a user whom nobody else is, nor another grading."""
     sizes, warning = {}, ""     # in bytes, by path of a file system in memory; what is said beside the marks
 
     def __init__(self, asked):
         self.asked, self.number, self.user = asked, None, []
         if os.geteuid() == 0:
-            self.number = next(user for user in OWN_USERS if subprocess.call(
+            self.number = next(user for user in random.sample(OWN_USERS, 99) if subprocess.call(
                 ["getent", "passwd", f"{user}"], stdout=subprocess.DEVNULL))
             user = f"{self.number}"
             self.user = ["setpriv", "--reuid", user, "--regid", user, "--clear-groups", "--inh-caps=-all"]
 
-    def limited(self, others, task, command):
+    def limited(self, others, task, command, script):
         """The words that run a command on a task within limits, where so many processes of its user aren't the run's.
         With a limit on cores that isn't 1 byte, the host may start a program of its own for one."""
         time, processes = self.asked.time, self.asked.processes + others
         return ["prlimit", f"--cpu={time}:{time + 1}", f"--as={SPACE}", f"--nproc={processes}", f"--fsize={MOST_KEPT}",
-                "--nofile=256", "--core=1", "--memlock=0", "--msgqueue=0", "sh", "-c", START, task, *command]
+                "--nofile=256", "--core=1", "--memlock=0", "--msgqueue=0", "sh", "-c", script, task, *command]
 
 
 class Bubblewrap(Walls):
@@ -82,14 +85,14 @@ class Bubblewrap(Walls):
         self.filter, self.warning = (b"", NO_FILTER) if calls.returncode else (calls.stdout, "")
 
     @contextmanager
-    def start(self, command, task):
+    def start(self, command, task, script):
         """The words for a run, what else starts it, and what the student's folder is called there."""
         with ExitStack() as stack:
             data = (b"student:x:1000:1000::/work:/bin/sh\n", task, self.filter)
             passwd, given, calls = files = [stack.enter_context(in_memory(each)).fileno() for each in data]
             words = [*self.words, "--ro-bind-data", f"{passwd}", "/etc/passwd", "--ro-bind-data", f"{given}", "/task",
                      "--remount-ro", "/", "--chdir", "/work", *["--seccomp", f"{calls}"] * bool(self.filter), "--"]
-            yield [*words, *self.limited(0, "/task", command)], {"cwd": "/", "pass_fds": files}, "/work"
+            yield [*words, *self.limited(0, "/task", command, script)], {"cwd": "/", "pass_fds": files}, "/work"
 
 
 class NoWalls(Walls):
@@ -97,7 +100,7 @@ class NoWalls(Walls):
     warning = NO_WALLS
 
     @contextmanager
-    def start(self, command, task):
+    def start(self, command, task, script):
         made = tempfile.mkdtemp(prefix="ilocgrade-")
         home = f"{made}/home"
         try:
@@ -107,7 +110,7 @@ class NoWalls(Walls):
                 os.chown(home, self.number, self.number)
                 os.chmod(made, 0o711)
             variables = ["PATH=/usr/local/bin:/usr/bin:/bin", "LANG=C.UTF-8", f"HOME={home}", f"TMPDIR={home}"]
-            words = self.limited(0 if self.user else 4096, f"{made}/task", command)
+            words = self.limited(0 if self.user else 4096, f"{made}/task", command, script)
             yield [*self.user, "setpriv", "--no-new-privs", "env", "-i", *variables, *words], {"cwd": home}, home
         finally:
             self.end(made)

@@ -154,9 +154,9 @@ class Hostile(Graded):
         self.write("submissions/other/Both.rows", rows())
         book = self.mark()
         self.expect("verdicts", {name: (it["both verdict"], it["total"]) for name, it in book.items()}, {
-            "right": ("lawful", "10"), "none": ("missing", "0"), "other": ("missing", "0"), **{it: ("refused", "0") for it in (
+            "right": ("lawful", "10"), "none": ("missing", "0"), "other": ("lawful", "10"), **{it: ("refused", "0") for it in (
                 "pipe", "folder", "dangling", "link", "endless", "itself", "socket", "linked folder", "dangling folder")}})
-        self.expect("what is there is said", "there is Both.rows." in self.text("grades/feedback/other/feedback.txt"), True)
+        self.expect("what is read is said", "Read from Both.rows." in self.text("grades/feedback/other/feedback.txt"), True)
 
     def test_pandas(self):
         """The gradebook as pandas reads it."""

@@ -1,0 +1,126 @@
+"""Who handed in what, as the folder of a course's site has it: `--layout`."""
+import math
+import os
+import re
+from collections import Counter, defaultdict
+from datetime import datetime, timezone
+
+from handins.archives import is_meta
+from marks import Student
+from tasks import CannotGrade
+from words import say, shown
+
+ABOUT = "submission_metadata.yml"       # of Gradescope: who made each submission, and when
+AGAIN = re.compile(r"(.+)-(\d{1,4})((?:\.[^.]*)?)", re.DOTALL)      # how Canvas names what is handed in again
+ENTRIES = {     # by layout what a student's folder or file is called; of any other its name
+    "canvas": re.compile(r"(?P<name>[^_]+)_(?P<late>LATE_)?(?P<id>\d+)_\d+_(?P<file>.+)", re.DOTALL),
+    "moodle": re.compile(r"(?P<name>.+)_(?P<id>\d+)_assignsubmission_(?:file|(?P<text>onlinetext))_?(?P<file>.*)",
+                         re.DOTALL)}
+DAY = 86400     # seconds
+PLAIN = re.compile("(?P<name>.+)", re.DOTALL)       # of which only folders are students
+
+
+def layout_of(folder, names):
+    """The layout of a folder, as far as it is clear."""
+    if (folder / ABOUT).is_file():
+        return "gradescope"
+    for layout, pattern in ENTRIES.items():
+        if 2 * sum(bool(pattern.fullmatch(name)) for name in names) > len(names):
+            return layout
+    return "github" if any((folder / name / ".git").is_dir() for name in names) else "folders"
+
+
+def days_late(at, due):
+    """Days begun since a time, of which each without a zone is this machine's."""
+    return max(0, math.ceil((at.astimezone() - due.astimezone()).total_seconds() / DAY))
+
+
+def last_attempts(files, tasks):
+    """By the name that a student gave it the last file of that name, of files whose names are given by those that they
+    have here; which attempt is the last; and notes of the others."""
+    tried = defaultdict(list)
+    for here, name in files.items():
+        found = AGAIN.fullmatch(name)
+        if found and f"{found[1]}-{found[2]}" not in tasks:
+            tried[found[1] + found[3]].append((int(found[2]) + 1, here))
+        else:
+            tried[name].append((1, here))
+    last = {name: max(several) for name, several in tried.items()}
+    notes = [f"{shown(name)} of attempt {number} isn't counted, but that of attempt {last[name][0]}"
+             for name, several in tried.items() for number, _ in sorted(several) if number < last[name][0]]
+    return {name: here for name, (_, here) in last.items()}, max(number for number, _ in last.values()), notes
+
+
+def of_entries(folder, names, pattern, tasks):
+    """The students whose folders or files a pattern knows."""
+    files, late = defaultdict(dict), set()
+    for name in names:
+        found, path = pattern.fullmatch(name), folder / name
+        group = found.groupdict("") if found else {}
+        if group.get("text"):
+            continue
+        if found and (path.is_symlink() or path.is_dir()):
+            yield Student(group["name"], path, group.get("id", ""))
+        elif found and group.get("file") and path.is_file():
+            who = group["name"], group["id"]
+            files[who][name] = group["file"]
+            late |= {who} if group.get("late") else set()
+        else:
+            say(f"{shown(name)} is left out: it is no {'folder' if pattern is PLAIN else 'hand-in'}")
+    for who, several in files.items():
+        given, attempt, notes = last_attempts(several, tasks)
+        yield Student(who[0], folder, who[1], days=int(who in late), attempt=attempt, files=given, notes=notes)
+
+
+def of_gradescope(folder, due):
+    """The students of each submission."""
+    try:
+        import yaml
+    except ImportError:
+        raise CannotGrade(f"{folder / ABOUT} needs Debian's package python3-yaml") from None
+    try:
+        with open(folder / ABOUT, encoding="utf-8") as file:
+            for name, about in yaml.safe_load(file).items():
+                late = days_late(about[":created_at"], due) if due and about.get(":created_at") else 0
+                for person in about[":submitters"]:
+                    yield Student(f"{person[':name']}", folder / os.path.basename(name), f"{person.get(':sid') or ''}",
+                                  f"{person.get(':email') or ''}", late, 1 + len(about.get(":history") or ()))
+    except (yaml.YAMLError, AttributeError, KeyError, TypeError) as why:
+        raise CannotGrade(f"{folder / ABOUT}: {shown(f'{why}')}") from why
+
+
+def by_name(students):
+    """Students by names of which no two are the same."""
+    times, made = Counter(student.name for student in students), {}
+    for student in students:
+        if times[student.name] > 1:
+            student.name += f" ({student.id or student.path.name})"
+        while student.name in made:
+            student.name += "'"
+        made[student.name] = student
+    return made
+
+
+def repository(name, prefix, known):
+    """Whose repository has a name `ASSIGNMENT-USER`: the longest user that is known, or else what differs."""
+    ends = [name[at + 1:] for at, letter in enumerate(name) if letter == "-"]
+    return next((end for end in ends if end in known), name.removeprefix(prefix))
+
+
+def read_class(asked, tasks, known):
+    """The students of a folder by name, where these names may be known."""
+    folder, names = asked.submissions, sorted(name for name in os.listdir(asked.submissions) if not is_meta(name))
+    layout = asked.layout or layout_of(folder, names)
+    if layout != (asked.layout or "folders"):
+        say(f"{folder} is read by --layout {layout}")
+    if layout == "gradescope":
+        students = [*of_gradescope(folder, asked.due)]
+    else:
+        students = [*of_entries(folder, names, ENTRIES.get(layout, PLAIN), {task.name for task in tasks})]
+    if layout == "github":
+        prefix = "".join(os.path.commonprefix([student.name for student in students]).rpartition("-")[:2])
+        for student in students:
+            student.name = repository(student.name, prefix, known)
+    if not students:
+        raise CannotGrade(f"{folder}: no student's folder is there")
+    return by_name(students)

@@ -1,0 +1,106 @@
+"""Tables of a course's site: who is on the roster, who is late, and the column that grades are filled into."""
+import csv
+import io
+import math
+import re
+from collections import Counter, defaultdict
+from datetime import datetime
+
+from handins.layouts import DAY, days_late
+from tasks import CannotGrade
+from words import say, shown
+
+MARK = b"\xef\xbb\xbf"
+HEADERS = {"student", "name", "id", "sid", "login", "username", "email"}
+ODD = {"points possible", "student, test", "test student", "manual posting"}     # Canvas's lines that are no students
+LATE = ("late", "days late", "lateness (h:m:s)", "status", "submission time", "submission_timestamp")
+NAMED = ("student", "full name", "name")
+UNITS = {"day": DAY, "hour": 3600, "min": 60, "sec": 1}
+
+
+def key_of(text):
+    """What names somebody, as it is compared."""
+    return " ".join(text.casefold().split())
+
+
+class Table:
+    """A CSV file with a comma, a semicolon or a tab between cells, in which a column names students."""
+
+    def __init__(self, path, by):
+        data = path.read_bytes()
+        self.path, self.mark, self.text = path, data.startswith(MARK), data.decode("utf-8-sig")
+        self.between = max(",;\t", key=self.text.partition("\n")[0].count)
+        self.rows = [*csv.reader(io.StringIO(self.text, newline=""), delimiter=self.between, strict=True)]
+        first = next(iter(self.rows), [])
+        self.header = first if by or key_of("".join(first[:1])) in HEADERS else []
+        heads = [key_of(cell) for cell in self.header]
+        self.at, self.named = self.column(by) if by else 0, next((heads.index(it) for it in NAMED if it in heads), 0)
+
+    def column(self, *names):
+        """The number of the column with one of these names."""
+        heads = [key_of(cell) for cell in self.header]
+        found = next((heads.index(key_of(name)) for name in names if key_of(name) in heads), None)
+        if found is None:
+            raise CannotGrade(f"{self.path}: there is no column {names[0]}; there is {', '.join(self.header)}")
+        return found
+
+    def students(self):
+        """By number of a row its student's cell."""
+        rows = [*enumerate(self.rows)][bool(self.header):]
+        return {number: row[self.at].strip().removeprefix("Participant ") for number, row in rows
+                if len(row) > self.at and row[self.at].strip() and row[0].strip().casefold() not in ODD}
+
+    def matched(self, students):
+        """By number of a row the name of its student, of these by name. Whom two rows or students share isn't in it."""
+        known = defaultdict(set)
+        for name, student in students.items():
+            for key in {key_of(text) for text in (student.name, student.id, student.email) if text}:
+                known[key].add(name)
+        found = {number: known[key_of(cell)] for number, cell in self.students().items() if key_of(cell) in known}
+        times = Counter(name for names in found.values() for name in names)
+        for number in [number for number, names in found.items() if len(names) > 1 or times[min(names)] > 1]:
+            say(f"{self.path}: {shown(self.rows[number][self.at])} is more than one: name another column by --by")
+            del found[number]
+        return {number: min(names) for number, names in found.items()}
+
+    def filled(self, column, cells):
+        """The file with other cells in a column, by number of a row: nothing else is changed."""
+        at, mark = self.column(column), re.escape(self.between)
+        piece = re.compile(rf'("(?:[^"]|"")*"|[^{mark}\r\n]*)({mark}|\r\n|\r|\n|\Z)')
+        made, row, cell = [], 0, 0
+        for found in piece.finditer(self.text):
+            is_wanted = row in cells and cell == at
+            if is_wanted and (next(csv.reader([found[1]], delimiter=self.between), []) or [""]) != [self.rows[row][at]]:
+                raise CannotGrade(f"{self.path}: row {row + 1} can't be filled")
+            quote = '"' * found[1].startswith('"')
+            made += [quote + cells[row] + quote if is_wanted else found[1], found[2]]
+            row, cell = (row, cell + 1) if found[2] == self.between else (row + 1, 0)
+        return MARK * self.mark + "".join(made).encode()
+
+    def days(self, students, due):
+        """By name how many days late students are."""
+        at, made = self.column(*LATE), {}
+        for row, name in self.matched(students).items():
+            made[name] = days_of(self.rows[row][at], due)
+            if made[name] is None:
+                raise CannotGrade(f"{self.path}: {shown(self.rows[row][at])} is neither days nor a time after --due")
+        return made
+
+
+def days_of(text, due):
+    """Days begun: a number of them, hours as `30:00:00`, `1 day 6 hours late`, or a time after one that is due. Words
+    without a number are none; None is what can't be read."""
+    text = text.strip().casefold()
+    if not re.search(r"\d", text):
+        return 0
+    if re.fullmatch(r"\d{1,4}(\.\d*)?", text):
+        return math.ceil(float(text))
+    clock = re.fullmatch(r"(\d{1,5}):(\d\d):(\d\d)", text)
+    parts = re.findall(r"(\d{1,4}) (day|hour|min|sec)", text) if "late" in text else []
+    parts += zip(clock.groups(), ("hour", "min", "sec")) if clock else []
+    if parts or not due:
+        return math.ceil(sum(int(number) * UNITS[unit] for number, unit in parts) / DAY) if parts else None
+    try:
+        return days_late(datetime.fromisoformat(re.sub(" ?(utc|z)$", "+00:00", text)), due)
+    except ValueError:
+        return None
