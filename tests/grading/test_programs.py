@@ -91,6 +91,9 @@ class ByRoot(Programs):
                 self.script(f"submissions/{name}/schedule", '#!/bin/sh\nexec cat "$(sed -n "s,^// ,,p").rows"\n')
         books = [self.grade(*words)[2] for words in (
             (), ("--program", "./schedule"), ("--program", "./schedule", "--unconfined"))]
+        for line in (line for book in books for line in book.values()):
+            for name in [name for name in line if name.endswith(" seconds")]:
+                del line[name]
         self.expect("marks", (len(books[0]) > 9, books[1], books[2]), (True, books[0], books[0]))
 
     def attacks(self, port):
