@@ -56,14 +56,14 @@ class Class(Graded):
         for words, points in POLICIES:
             status, said, book = self.grade(*words, tasks=BOTH, submissions="examples/class/submissions")
             self.expect(f"{words}", (status, tuple(float(book[it]["total"]) for it in ("ada", "dan", "fay"))), (0, points))
-            self.expect(f"{words}: the others", {float(book[it]["total"]) for it in ("ben", "cem", "eve", "gus", "hal")}, {0})
+            self.expect(f"{words}: the others", {float(book[it]["total"]) for it in ("ben", "cem", "eve", "gus", "hal", "jan")}, {0})
 
     def test_roster(self):
         """Everybody of the roster is in the gradebook, with nothing handed in too, and everybody who handed in."""
         for roster in (b"\xef\xbb\xbfStudent,Section\r\nzoe,1\r\nada,2", b"zoe\n\nada\n"):
             self.write("roster.csv", roster)
             status, _, book = self.grade("--roster", "roster.csv", tasks=BOTH, submissions="examples/class/submissions")
-            self.expect("gradebook", (status, len(book), book["zoe"]["both verdict"], book["ada"]["total"]), (0, 9, "missing", "10"))
+            self.expect("gradebook", (status, len(book), book["zoe"]["both verdict"], book["ada"]["total"]), (0, 11, "missing", "10"))
 
     def test_pages(self):
         """Each drawn hand-in that is traced has the page that charts/page makes of its listings, and a link to it."""

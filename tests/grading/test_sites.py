@@ -112,5 +112,5 @@ class Sites(Graded):
             faint = [it for it in set(colours) if contrast(*it.split("; ")) < LEAST_CONTRAST]
             self.expect("texts of too little contrast", faint, [])
         tree = browser.tree()
-        self.expect("rows", (sum(role == "row" for role, _ in tree), ("heading", "Grades") in tree), (10, True))
+        self.expect("rows", (sum(role == "row" for role, _ in tree), ("heading", "Grades") in tree), (17, True))
         self.expect("problems", browser.problems, [])

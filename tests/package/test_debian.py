@@ -26,7 +26,7 @@ TYPED = (
     (f"ilocfarm check --task {TASK} 3 4 < {FAY} | head -n 1",
      "block 1 both lawful cycles 21 ours 16 least 16 claimed 20\n"),
     ("ilocgrade class/tasks class/submissions -o ~/grades",
-     "8 students, 1 task, 3 of 8 passed: /home/student/grades/report.html\n"),
+     "10 students, 1 task, 4 of 10 passed: /home/student/grades/report.html\n"),
     ("cd ~/grades && ls . feedback/ben && rm -r ~/grades",
      ".:\nfeedback\ngradebook.csv\nreport.html\n\nfeedback/ben:\nboth.html\nboth.svg\nfeedback.txt\n"),
     ("ilocview graph book.iloc 2>&1; echo $?",
