@@ -1,5 +1,7 @@
-"""The folder of a class's grades: made anew, for its owner's eyes alone, and out of students' reach."""
+"""The folder of a class's grades: made anew, for its owner's eyes alone, and out of students' reach; and its marks kept."""
+import dataclasses
 import itertools
+import json
 import os
 import shutil
 import stat
@@ -7,7 +9,10 @@ import tempfile
 from contextlib import contextmanager
 from pathlib import Path
 
+from marks import Mark, Student
 from tasks import CannotGrade
+
+MARKS = "marks.json"
 
 
 def is_in(path, folder):
@@ -42,3 +47,40 @@ def made_anew(out, submissions):
         made.rename(out)
     finally:
         shutil.rmtree(made, ignore_errors=True)
+
+
+def keep(folder, students):
+    """Keeps the marks of students, so that some can be made anew."""
+    made = [dataclasses.asdict(student) for student in students]
+    for mark in (mark for student in made for mark in student["row"]):
+        mark["task"] = mark["task"]["name"]
+    (folder / MARKS).write_text(json.dumps(made, default=str), encoding="utf-8")
+
+
+def kept(out, tasks):
+    """The students of earlier grades."""
+    try:
+        found = json.loads((out / MARKS).read_text(encoding="utf-8"))
+    except (OSError, ValueError) as why:
+        raise CannotGrade(f"{out}: no earlier grades can be read: {why}") from why
+    for about in found:
+        if [mark["task"] for mark in about["row"]] != [task.name for task in tasks]:
+            raise CannotGrade(f"{out}: earlier grades are of other tasks")
+        about["row"] = [Mark(**{**mark, "task": task}) for task, mark in zip(tasks, about["row"])]
+    return [Student(**about) for about in found]
+
+
+def chosen(students, names, earlier):
+    """The students of these names or numbers, and with them all earlier ones."""
+    again = {student.name: student for student in students if {student.name, student.id} & {*names}}
+    strange = {*names} - {text for student in again.values() for text in (student.name, student.id)}
+    if strange:
+        raise CannotGrade(f"--only: there is no student {min(strange)}")
+    others = {student.name: student for student in earlier}
+    return [*again.values()], [*{**others, **again}.values()]
+
+
+def copy_feedback(out, folder, but):
+    """Copies earlier feedback but for these folders."""
+    top = f"{out / 'feedback'}"
+    shutil.copytree(top, folder / "feedback", symlinks=True, ignore=lambda at, _: but if at == top else ())

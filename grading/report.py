@@ -41,17 +41,17 @@ def write_gradebook(path, students, tasks, has_programs):
     """Points, then verdict and cycles of each task, and who was late, which attempt it is and what a program took."""
     names = [in_table(task.name) for task in tasks]
     about = {"id": "id", "attempt": "attempt", "days": "days late"}
-    about = {name: head for name, head in about.items() if any(getattr(it, name) for it in students.values())}
+    about = {name: head for name, head in about.items() if any(getattr(it, name) for it in students)}
     kinds = ["verdict", "cycles", *["seconds"] * has_programs]
     with open(path, "w", newline="", encoding="utf-8") as file:
         table = csv.writer(file)
         heads = [f"{name} {kind}" for name in names for kind in kinds]
         table.writerow(["student", "total", *names, *heads, *about.values()])
-        for name, student in students.items():
+        for student in students:
             points = map(number, (student.total(), *(mark.points for mark in student.row)))
             more = [getattr(mark, kind) for mark in student.row for kind in kinds]
             more += [in_cell(f"{getattr(student, it) or ''}") for it in about]
-            table.writerow([in_table(name), *points, *more])
+            table.writerow([in_table(student.name), *points, *more])
 
 
 def write_feedback(folder, student, tasks):
@@ -84,7 +84,7 @@ def line_of(student):
 
 def write_report(path, students, tasks, warning):
     """A page with all marks, the best first, a warning where there is one, and what only staff should see."""
-    best_first = sorted(students.values(), key=lambda student: (-student.total(), student.name))
+    best_first = sorted(students, key=lambda student: (-student.total(), student.name))
     names = [escape(shown(task.name)) for task in tasks]
     heads = "".join(f"<th>{name}<br><small>{it.ours} / {it.least}</small></th>" for name, it in zip(names, tasks))
     columns = zip(*(student.row for student in best_first))
@@ -100,5 +100,5 @@ def write_report(path, students, tasks, warning):
 def write_all(folder, students, tasks, asked, warning):
     write_gradebook(folder / "gradebook.csv", students, tasks, bool(asked.program))
     write_report(folder / "report.html", students, tasks, warning)
-    for name, student in students.items():
-        write_feedback(folder / "feedback" / safe_name(name), student, tasks)
+    for student in students:
+        write_feedback(folder / "feedback" / safe_name(student.name), student, tasks)

@@ -17,6 +17,8 @@ class Marker:
 
     def marks(self, student, tasks):
         try:
+            if student.path is None:
+                raise NoRows("missing", "There is no folder of this name.")
             with closing(Folder(student.path, self.asked.inner, student.files)) as folder, self.reading(folder) as read:
                 return [self.mark(student, read, task) for task in tasks]
         except Exception as why:

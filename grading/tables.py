@@ -7,6 +7,7 @@ from collections import Counter, defaultdict
 from datetime import datetime
 
 from handins.layouts import DAY, days_late
+from marks import Student
 from tasks import CannotGrade
 from words import say, shown
 
@@ -34,7 +35,8 @@ class Table:
         first = next(iter(self.rows), [])
         self.header = first if by or key_of("".join(first[:1])) in HEADERS else []
         heads = [key_of(cell) for cell in self.header]
-        self.at, self.named = self.column(by) if by else 0, next((heads.index(it) for it in NAMED if it in heads), 0)
+        self.at, self.is_by = self.column(by) if by else 0, by
+        self.named = next((heads.index(name) for name in NAMED if name in heads), 0)
 
     def column(self, *names):
         """The number of the column with one of these names."""
@@ -44,28 +46,40 @@ class Table:
             raise CannotGrade(f"{self.path}: there is no column {names[0]}; there is {', '.join(self.header)}")
         return found
 
-    def students(self):
-        """By number of a row its student's cell."""
+    def cells(self):
+        """By number of a row what names its student."""
         rows = [*enumerate(self.rows)][bool(self.header):]
         return {number: row[self.at].strip().removeprefix("Participant ") for number, row in rows
                 if len(row) > self.at and row[self.at].strip() and row[0].strip().casefold() not in ODD}
 
     def matched(self, students):
-        """By number of a row the name of its student, of these by name. Whom two rows or students share isn't in it."""
-        known = defaultdict(set)
-        for name, student in students.items():
-            for key in {key_of(text) for text in (student.name, student.id, student.email) if text}:
-                known[key].add(name)
-        found = {number: known[key_of(cell)] for number, cell in self.students().items() if key_of(cell) in known}
-        times = Counter(name for names in found.values() for name in names)
-        for number in [number for number, names in found.items() if len(names) > 1 or times[min(names)] > 1]:
+        """By number of a row its student, of these; None where it isn't clear which one is meant."""
+        known, cells = defaultdict(set), {number: key_of(cell) for number, cell in self.cells().items()}
+        for place, student in enumerate(students):
+            for text in filter(None, (student.name, student.id, student.email)):
+                known[key_of(text)].add(place)
+        found = {number: known[key] for number, key in cells.items() if key in known}
+        times = Counter(place for places in found.values() for place in places)
+        clear = {number for number, places in found.items() if sum(times[place] for place in places) == 1}
+        for number in found.keys() - clear:
             say(f"{self.path}: {shown(self.rows[number][self.at])} is more than one: name another column by --by")
-            del found[number]
-        return {number: min(names) for number, names in found.items()}
+        return {number: students[min(places)] if number in clear else None for number, places in found.items()}
 
-    def filled(self, column, cells):
-        """The file with other cells in a column, by number of a row: nothing else is changed."""
-        at, mark = self.column(column), re.escape(self.between)
+    def missing(self, students):
+        """Who is listed and is none of these students; that is said, and who of them isn't listed."""
+        found = self.matched(students)
+        strange = [it.name for it in students if not any(it is other for other in found.values())]
+        made = [Student(self.rows[number][self.named].strip() or cell, None, cell * bool(self.is_by))
+                for number, cell in self.cells().items() if number not in found]
+        for names, what in ([it.name for it in made], "on the roster handed in nothing"), (strange, "handed in and not on it"):
+            if names:
+                some = "; ".join(shown(name, 60) for name in names[:20]) + " .." * (len(names) > 20)
+                say(f"{len(names)} {what}: {some}")
+        return made
+
+    def filled(self, at, cells):
+        """The file with other cells in a column, by its number and that of a row: nothing else is changed."""
+        mark = re.escape(self.between)
         piece = re.compile(rf'("(?:[^"]|"")*"|[^{mark}\r\n]*)({mark}|\r\n|\r|\n|\Z)')
         made, row, cell = [], 0, 0
         for found in piece.finditer(self.text):
@@ -77,14 +91,15 @@ class Table:
             row, cell = (row, cell + 1) if found[2] == self.between else (row + 1, 0)
         return MARK * self.mark + "".join(made).encode()
 
-    def days(self, students, due):
-        """By name how many days late students are."""
-        at, made = self.column(*LATE), {}
-        for row, name in self.matched(students).items():
-            made[name] = days_of(self.rows[row][at], due)
-            if made[name] is None:
+    def set_days(self, students, due):
+        """Notes how many days late each of these students is."""
+        at = self.column(*LATE)
+        for row, student in self.matched(students).items():
+            days = days_of(self.rows[row][at], due)
+            if days is None:
                 raise CannotGrade(f"{self.path}: {shown(self.rows[row][at])} is neither days nor a time after --due")
-        return made
+            if student:
+                student.days = days
 
 
 def days_of(text, due):

@@ -89,16 +89,16 @@ def of_gradescope(folder, due):
         raise CannotGrade(f"{folder / ABOUT}: {shown(f'{why}')}") from why
 
 
-def by_name(students):
-    """Students by names of which no two are the same."""
-    times, made = Counter(student.name for student in students), {}
+def named_apart(students):
+    """Students of whom no two have the same name."""
+    times, names = Counter(student.name for student in students), set()
     for student in students:
-        if times[student.name] > 1:
-            student.name += f" ({student.id or student.path.name})"
-        while student.name in made:
+        apart = student.id or (student.path.name if student.path else "")
+        student.name += f" ({apart})" * (times[student.name] > 1 and bool(apart))
+        while student.name in names:
             student.name += "'"
-        made[student.name] = student
-    return made
+        names.add(student.name)
+    return students
 
 
 def repository(name, prefix, known):
@@ -108,7 +108,7 @@ def repository(name, prefix, known):
 
 
 def read_class(asked, tasks, known):
-    """The students of a folder by name, where these names may be known."""
+    """The students of a folder, where these names may be known."""
     folder, names = asked.submissions, sorted(name for name in os.listdir(asked.submissions) if not is_meta(name))
     layout = asked.layout or layout_of(folder, names)
     if layout != (asked.layout or "folders"):
@@ -123,4 +123,4 @@ def read_class(asked, tasks, known):
             student.name = repository(student.name, prefix, known)
     if not students:
         raise CannotGrade(f"{folder}: no student's folder is there")
-    return by_name(students)
+    return students

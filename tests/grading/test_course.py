@@ -68,7 +68,7 @@ class Course(Graded):
     def test_partial(self):
         """Half for what is wrong but prints, by the oracle, the right words on the task's memory, if its operations count."""
         due = {}
-        for made in classes.tasks():
+        for made in classes.tasks()[::3]:
             self.write(f"tasks/{made.name}.iloc", made.text())
             for number, (name, kind) in enumerate(classes.students().items()):
                 rows = classes.handed_in(made, kind, number)
