@@ -40,10 +40,9 @@ def reason(found, rows):
     more = {name: shown(value, 80) if name in ("problem", "text") else value for name, value in found.items()}
     if "row" in found:
         more["Row"] = f"Row {found['row']} (line {rows.line_of(found['row'])})"
-    if "due" in found:
-        more["early"] = count(found["due"] - found["row"], "cycle")
+    more["side"] = "before" if found.get("other_row", 0) > found.get("row", 0) else "after"
     lost = found.get("lost_operation")
-    more["before"] = f"that of row {found['lost_row']}, `{lost}`" if lost else "what was there at the start"
+    more["before"] = f"of row {found['lost_row']}, `{lost}`" if lost else "of the start"
     return SENTENCES["reasons"][found["kind"]].format(**more)
 
 

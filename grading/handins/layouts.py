@@ -72,7 +72,7 @@ def of_entries(folder, names, pattern, tasks):
         yield Student(who[0], folder, who[1], days=int(who in late), attempt=attempt, files=given, notes=notes)
 
 
-def of_gradescope(folder, due):
+def of_gradescope(folder, names, due):
     """The students of each submission."""
     try:
         import yaml
@@ -83,7 +83,8 @@ def of_gradescope(folder, due):
             for name, about in yaml.safe_load(file).items():
                 late = days_late(about[":created_at"], due) if due and about.get(":created_at") else 0
                 for person in about[":submitters"]:
-                    yield Student(f"{person[':name']}", folder / os.path.basename(name), f"{person.get(':sid') or ''}",
+                    path = folder / name if name in names else None
+                    yield Student(f"{person[':name']}", path, f"{person.get(':sid') or ''}",
                                   f"{person.get(':email') or ''}", late, 1 + len(about.get(":history") or ()))
     except (yaml.YAMLError, AttributeError, KeyError, TypeError) as why:
         raise CannotGrade(f"{folder / ABOUT}: {shown(f'{why}')}") from why
@@ -114,7 +115,7 @@ def read_class(asked, tasks, known):
     if layout != (asked.layout or "folders"):
         say(f"{folder} is read by --layout {layout}")
     if layout == "gradescope":
-        students = [*of_gradescope(folder, asked.due)]
+        students = [*of_gradescope(folder, names, asked.due)]
     else:
         students = [*of_entries(folder, names, ENTRIES.get(layout, PLAIN), {task.name for task in tasks})]
     if layout == "github":
