@@ -43,6 +43,7 @@ class Student:
     path: Path
     id: str = ""                # as a course's site has it
     email: str = ""
+    plain: str = ""             # the name, where it may be another's too
     days: int = 0               # late
     attempt: int = None
     files: dict = None          # in a folder for all, by the names that the student gave them
@@ -76,7 +77,7 @@ def prints_there(said, required):
 
 
 def alike(rows, is_wrong):
-    """What is equal for hand-ins that are equal to the byte, and for wrong ones that are but for registers and blanks."""
+    """What is equal for those that are equal to the byte, and for wrong ones that are but for registers or blanks."""
     names = {}
     plain = re.sub(rb"\br\d+", lambda found: b"r%d" % names.setdefault(found[0], len(names)), rows) if is_wrong else b""
     return [hashlib.sha256(text).hexdigest() for text in (rows, re.sub(rb"//.*|\s+", b"", plain)) if text]

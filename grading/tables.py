@@ -56,7 +56,7 @@ class Table:
         """By number of a row its student, of these; None where it isn't clear which one is meant."""
         known, cells = defaultdict(set), {number: key_of(cell) for number, cell in self.cells().items()}
         for place, student in enumerate(students):
-            for text in filter(None, (student.name, student.id, student.email)):
+            for text in filter(None, {student.plain or student.name, student.id, student.email}):
                 known[key_of(text)].add(place)
         found = {number: known[key] for number, key in cells.items() if key in known}
         times = Counter(place for places in found.values() for place in places)
@@ -71,7 +71,8 @@ class Table:
         strange = [it.name for it in students if not any(it is other for other in found.values())]
         made = [Student(self.rows[number][self.named].strip() or cell, None, cell * bool(self.is_by))
                 for number, cell in self.cells().items() if number not in found]
-        for names, what in ([it.name for it in made], "on the roster handed in nothing"), (strange, "handed in and not on it"):
+        silent = [student.name for student in made]
+        for names, what in (silent, "on the roster handed in nothing"), (strange, "handed in and not on the roster"):
             if names:
                 some = "; ".join(shown(name, 60) for name in names[:20]) + " .." * (len(names) > 20)
                 say(f"{len(names)} {what}: {some}")

@@ -84,8 +84,9 @@ def of_gradescope(folder, names, due):
                 late = days_late(about[":created_at"], due) if due and about.get(":created_at") else 0
                 for person in about[":submitters"]:
                     path = folder / name if name in names else None
-                    yield Student(f"{person[':name']}", path, f"{person.get(':sid') or ''}",
-                                  f"{person.get(':email') or ''}", late, 1 + len(about.get(":history") or ()))
+                    number, email = (f"{person.get(key) or ''}" for key in (":sid", ":email"))
+                    yield Student(f"{person[':name']}", path, number, email, days=late,
+                                  attempt=1 + len(about.get(":history") or ()))
     except (yaml.YAMLError, AttributeError, KeyError, TypeError) as why:
         raise CannotGrade(f"{folder / ABOUT}: {shown(f'{why}')}") from why
 
@@ -94,6 +95,7 @@ def named_apart(students):
     """Students of whom no two have the same name."""
     times, names = Counter(student.name for student in students), set()
     for student in students:
+        student.plain = student.name
         apart = student.id or (student.path.name if student.path else "")
         student.name += f" ({apart})" * (times[student.name] > 1 and bool(apart))
         while student.name in names:

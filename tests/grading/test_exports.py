@@ -44,3 +44,34 @@ class Exports(Graded):
             attempt = str(it.attempt) if it.kind and site in (Canvas, Gradescope) else ""
             self.expect(f"{it}", (line["total"], line["days late"], line.get("attempt", "")), (POINTS[it.kind], days, attempt))
         self.expect("merged", self.text("grades/merged.csv"), site.table(students, POINTS))
+
+    def test_tables(self):
+        """Whom two lines name is filled nowhere, which is said; and what a table lacks is said before anybody is graded."""
+        rows = self.read("examples/class/submissions/ada/both.rows")
+        for path in "Ann X_1_assignsubmission_file", "Ann X_2_assignsubmission_file", "=1+1_3_assignsubmission_file":
+            self.write(f"export/{path}/both.rows", rows)
+        text = '\ufeffName;ID;"Grade ""x"""\r\nAnn X;1;\r\n"Ann X";2;?\r\n=1+1;"3";"?"\r\n\r\n'
+        self.write("site.csv", text)
+        for by, lines in (("Name", 'Ann X;1;\r\n"Ann X";2;?\r\n'), ("id", 'Ann X;1;10\r\n"Ann X";2;10\r\n')):
+            status, said, _ = self.grade("--merge", "site.csv", "--by", by, "--column", 'Grade "x"', tasks=BOTH, submissions="export")
+            self.expect(f"{by}: {said}", (status, said.count(b"Ann X is more than one")), (0, 2 * (by == "Name")))
+            self.expect(by, self.text("grades/merged.csv"), text[:text.index("Ann")] + lines + '=1+1;"3";"10"\r\n\r\n')
+        self.write("late.csv", "name,late\nAnn X,soon 1\n")
+        for words, why in ((("--merge", "site.csv", "--by", "ID", "--column", "Grad"), "site.csv: there is no column Grad; there is Name, ID, Grade"),
+                           (("--roster", "site.csv", "--by", "Id No"), "site.csv: there is no column Id No; there is Name, ID,"),
+                           (("--late", "late.csv"), "late.csv: soon 1 is neither days nor a time after --due"),
+                           (("--layout", "gradescope"), "submission_metadata.yml")):
+            status, said, _ = self.grade(*words, tasks=BOTH, submissions="export")
+            self.expect(f"{words}: {said}", (status, why in said.decode(), b"Traceback" in said), (3, True, False))
+
+    def test_attempts(self):
+        """The last attempt counts, in whatever order files are; a task's own number is none."""
+        rows = self.read("examples/class/submissions/ada/both.rows")
+        for name in "lab-1", "lab":
+            self.write(f"tasks/{name}.iloc", self.read(f"{BOTH}/both.iloc"))
+        for number, (name, data) in enumerate({"lab-1.rows": rows, "lab-1-10.rows": rows, "lab-1-9.rows": b"", "lab.rows": rows}.items()):
+            self.write(f"export/annx_7_{number}_{name}", data)
+        book = self.grade(submissions="export")[2]["annx"]
+        self.expect("points", (book["lab-1"], book["lab"], book["attempt"], book["id"]), ("10", "10", "11", "7"))
+        notes = [line for line in self.text("grades/feedback/annx/feedback.txt").splitlines() if line.startswith("Note")]
+        self.expect("notes", notes, [f"Note: lab-1.rows of attempt {k} isn't counted, but that of attempt 11." for k in (1, 10)])
