@@ -31,15 +31,8 @@ def option(text):
     return text
 
 
-def time(text):
-    try:
-        return datetime.fromisoformat(text)
-    except ValueError:
-        raise argparse.ArgumentTypeError(f"{text} is no time such as 2026-11-20T23:59") from None
-
-
-KINDS = {"text": str, "time": time, "path": Path, "words": shlex.split, "option": option, "whole": between(1, kind=int),
-         "number": between(0), "share": between(0, 1)}
+KINDS = {"text": str, "time": datetime.fromisoformat, "path": Path, "words": shlex.split, "option": option,
+         "whole": between(1, kind=int), "number": between(0), "share": between(0, 1)}
 ACTIONS = {"flag": {"action": "store_true"}, "version": {"action": judge.Version, "nargs": 0},
            "names": {"nargs": "+", "metavar": "NAME", "default": []}}
 

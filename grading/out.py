@@ -1,4 +1,4 @@
-"""The folder of a class's grades: made anew, for its owner's eyes alone, and out of students' reach; and what is kept."""
+"""The folder of a class's grades: made anew, for its owner's eyes alone, out of students' reach; and what is kept."""
 import dataclasses
 import itertools
 import json

@@ -7,8 +7,7 @@ import unicodedata
 from html import escape
 from urllib.parse import quote
 
-import alike
-import speed
+import staff
 from words import count, number, shown, told
 
 COLOURS = {"lawful": "right", "same": "right", "prints": "right", "agrees": "ask", "changed": "ask", "unlawful": "ask",
@@ -28,13 +27,10 @@ def safe_name(student):
     return f"{made[:LONGEST // 4]}~{hashlib.sha256(os.fsencode(student)).hexdigest()[:16]}"
 
 
-def in_cell(text):
-    """A plain text in a cell that no spreadsheet computes."""
-    return "'" * text.startswith(("-", "@", "=", "+")) + text
-
-
 def in_table(name):
-    return in_cell(safe_name(name))
+    """A name in a cell that no spreadsheet computes."""
+    made = safe_name(name)
+    return "'" * made.startswith(("-", "@")) + made
 
 
 def write_gradebook(path, students, tasks, has_programs):
@@ -50,7 +46,7 @@ def write_gradebook(path, students, tasks, has_programs):
         for student in students:
             points = map(number, (student.total(), *(mark.points for mark in student.row)))
             more = [getattr(mark, kind) for mark in student.row for kind in kinds]
-            more += [in_cell(f"{getattr(student, it) or ''}") for it in about]
+            more += [in_table(f"{getattr(student, it) or ''}") for it in about]
             table.writerow([in_table(student.name), *points, *more])
 
 
@@ -94,7 +90,7 @@ def write_report(path, students, tasks, warning):
     with open(PAGE, encoding="utf-8") as template, open(path, "w", encoding="utf-8", errors="replace") as file:
         file.write(string.Template(template.read()).substitute(
             size=size, warning=warning, heads=heads, rows="\n".join(map(line_of, best_first)), passed=passed,
-            speed=speed.section(best_first, tasks), alike=alike.section(best_first, tasks)))
+            speed=staff.cycles(best_first, tasks), alike=staff.alike(best_first, tasks)))
 
 
 def write_all(folder, students, tasks, asked, warning):

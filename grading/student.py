@@ -26,11 +26,12 @@ class Marker:
 
     def mark(self, student, read, task):
         try:
-            data, notes, seconds = read(task)
+            data, lines, notes, seconds = read(task)
             rows = Rows(*lenient(data, task.head)) if self.asked.lenient else Rows(data)
             found, why = judge.records(task.path, task.words, self.asked.check, rows.data)
             made = judged(task, found[0], rows, self.asked.require) if found else refused(task, why, rows)
-            made.lines += notes
+            made.lines += lines
+            made.notes += notes
             made.seconds = seconds
         except Exception as why:
             return unmarked(task, why)
@@ -43,7 +44,7 @@ class Marker:
 
     @contextmanager
     def reading(self, folder):
-        """A call that gives the bytes for a task, what is said of them, and the seconds that a program took."""
+        """A call that gives the bytes for a task, what is said and noted of them, and a program's seconds."""
         if not self.runner:
             yield lambda task: self.handed_in(folder, task.name)
             return
@@ -55,4 +56,6 @@ class Marker:
         path = folder.find(names)
         if path is None:
             raise NoRows("missing", f"There is no file {shown(names[0])}; there is {folder.names()}.")
-        return folder.read(path), [f"Read from {shown(path)}."] * (path != names[0]), None
+        is_rows = path.casefold().endswith(ENDINGS[0])
+        lines, notes = [f"Read from {shown(path)}."] * is_rows, [f"read from {shown(path)}"] * (not is_rows)
+        return folder.read(path), lines * (path != names[0]), notes, None

@@ -91,6 +91,10 @@ class Folder:
     def archives(self):
         return [path for path in self.paths if path.lower().endswith(ENDINGS)]
 
+    def is_packed(self):
+        """Whether what was handed in isn't there as it was: it has other names, or is in archives alone."""
+        return self.given is not None or {*self.paths} == {*self.archives()} != set()
+
     def unpacked(self):
         """By path the files of archives that are there."""
         for name in self.archives() if not self.packed else ():

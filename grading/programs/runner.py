@@ -43,7 +43,7 @@ def packed(folder):
 
 def archived(folder):
     """A file with a student's folder, which `tar` reads: it follows no link, also none that appears meanwhile."""
-    if folder.given is not None or folder.archives():
+    if folder.is_packed():
         return packed(folder)
     made, at = tempfile.TemporaryFile(), f"/proc/self/fd/{folder.number}"
     limits = ["prlimit", f"--fsize={MOST_KEPT}", "timeout", f"{SECONDS}"]
@@ -114,11 +114,11 @@ class Runner:
 
     def printed(self, folder, archive, task):
         words = [word.replace("{task}", "task.iloc") for word in self.asked.program]
-        is_plain = not self.asked.build and folder.given is None and not folder.archives()
-        if is_plain and "/" in words[0] and not folder.has(words[0]):
+        is_here = self.asked.build or folder.is_packed() or "/" not in words[0] or folder.has(words[0])
+        if not is_here:
             raise NoRows("missing", f"There is no program {shown(words[0])}; there is {folder.names()}.")
         ended = self.ended(words, archive, task.path.read_bytes())
-        return ended.output, [], round(ended.seconds, 2)
+        return ended.output, [], [], round(ended.seconds, 2)
 
     def ended(self, *asked):
         """A run that ended with status 0, or the failure of any other."""

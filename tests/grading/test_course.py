@@ -117,6 +117,10 @@ class Course(Graded):
             **dict.fromkeys(book, "refused"), **dict.fromkeys(right, "lawful"), "link": "missing"})
         self.expect("said", self.text("grades/feedback/zip/feedback.txt").splitlines()[-1], "  Read from lab.zip/lab/out/Both.rows.")
 
+        self.hand_in(text=("both.txt", rows))
+        book = self.grade("--lenient", "--penalty", "1", tasks=BOTH)[2]
+        self.expect("with a penalty for another name", (book["text"]["total"], book["deep"]["total"]), ("9", "10"))
+
     def test_within(self):
         """With --in only a folder of each student's counts."""
         self.hand_in(ada=("rows/both.rows", self.rows()), ben=("both.rows", self.rows()))
@@ -131,6 +135,8 @@ class Course(Graded):
             self.hand_in(**{name: ("lab.zip", zipped(files))})
         self.hand_in(plain=("Makefile", make))
         self.hand_in(plain=("rows", self.rows()))
+        self.hand_in(plain=("lib/more/x.zip", b""))     # which is none of what is handed in
+        self.hand_in(plain=("x.zip", b""))
         book = self.grade("--program", "./schedule", "--build", "make", tasks=BOTH)[2]
         self.expect("verdicts", [line["both verdict"] for line in book.values()], ["crashed", "lawful", "lawful"])
         self.expect("seconds", [bool(line["both seconds"]) for line in book.values()], [False, True, True])

@@ -1,4 +1,5 @@
-"""Who is fast: cycles by student and task, as a table and a picture, for those who pass."""
+"""What staff read below the marks: cycles by student and task, as a table and a picture, and what is alike."""
+from collections import defaultdict
 from html import escape
 
 from words import number, shown
@@ -41,8 +42,8 @@ def picture(students, tasks):
     yield "</svg>"
 
 
-def section(students, tasks):
-    """The part of a report, or nothing where nobody passes."""
+def cycles(students, tasks):
+    """The cycles of who passes anything."""
     ranked = sorted((it for it in students if ratios(it)), key=lambda it: (-len(ratios(it)), sum(ratios(it))))
     if not ranked:
         return ""
@@ -51,3 +52,27 @@ def section(students, tasks):
             f"cycles; and a program's seconds of processor time.</p>{''.join(picture(ranked, tasks))}"
             f'<div class="scroll"><table><tr><th>student</th><th>passed</th><th>bound</th>{heads}<th>seconds</th></tr>'
             f"{''.join(map(line, ranked))}</table></div>")
+
+
+def groups(students, tasks):
+    """By task the students whose hand-ins are equal to the byte, or wrong in the same way, and which of these."""
+    for at, task in enumerate(tasks):
+        found = defaultdict(list)
+        for student in students:
+            for number, text in enumerate(student.row[at].alike):
+                found[number, text].append(student)
+        seen = set()
+        for (number, _), several in sorted(found.items(), key=lambda entry: entry[0][0]):
+            names = tuple(student.name for student in several)
+            if len(names) > 1 and names not in seen:
+                seen.add(names)
+                how = "wrong in the same way, but for registers and blanks" if number else "equal to the byte"
+                yield task, how, several[0].row[at].passes(), names
+
+
+def alike(students, tasks):
+    """The hand-ins that are alike, if there are any."""
+    lines = [f"<li>{escape(shown(task.name))}: {how}{', and right' * passes}: {escape('; '.join(map(shown, names)))}"
+             for task, how, passes, names in groups(students, tasks)]
+    about = "A right schedule is often everybody's, since there are few: what is wrong in the same way says more."
+    return f"<h2>Alike</h2><p>{about}</p><ul>{''.join(lines)}</ul>" if lines else ""
