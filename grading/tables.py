@@ -9,7 +9,7 @@ from datetime import datetime
 from handins.layouts import DAY, days_late
 from marks import Student
 from tasks import CannotGrade
-from words import say, shown
+from words import count, say, shown
 
 MARK = b"\xef\xbb\xbf"
 HEADERS = {"student", "name", "id", "sid", "login", "username", "email"}
@@ -31,8 +31,9 @@ class Table:
         data = path.read_bytes()
         self.path, self.mark, self.text = path, data.startswith(MARK), data.decode("utf-8-sig")
         self.between = max(",;\t", key=self.text.partition("\n")[0].count)
-        self.rows = [*csv.reader(io.StringIO(self.text, newline=""), delimiter=self.between, strict=True)]
-        first = next(iter(self.rows), [])
+        rows = [*csv.reader(io.StringIO(self.text, newline=""), delimiter=self.between, strict=True)]
+        first = next(iter(rows), [])
+        self.rows = [row + [""] * (len(first) - len(row)) for row in rows]
         self.header = first if by or key_of("".join(first[:1])) in HEADERS else []
         heads = [key_of(cell) for cell in self.header]
         self.at, self.is_by = self.column(by) if by else 0, by
@@ -82,14 +83,17 @@ class Table:
         """The file with other cells in a column, by its number and that of a row: nothing else is changed."""
         mark = re.escape(self.between)
         piece = re.compile(rf'("(?:[^"]|"")*"|[^{mark}\r\n]*)({mark}|\r\n|\r|\n|\Z)')
-        made, row, cell = [], 0, 0
+        made, row, cell, left = [], 0, 0, len(cells)
         for found in piece.finditer(self.text):
             is_wanted = row in cells and cell == at
             if is_wanted and (next(csv.reader([found[1]], delimiter=self.between), []) or [""]) != [self.rows[row][at]]:
                 raise CannotGrade(f"{self.path}: row {row + 1} can't be filled")
             quote = '"' * found[1].startswith('"')
             made += [quote + cells[row] + quote if is_wanted else found[1], found[2]]
+            left -= is_wanted
             row, cell = (row, cell + 1) if found[2] == self.between else (row + 1, 0)
+        if left:
+            raise CannotGrade(f"{self.path}: {count(left, 'row')} too short to be filled")
         return MARK * self.mark + "".join(made).encode()
 
     def set_days(self, students, due):
