@@ -1,4 +1,4 @@
--- The delay pairs that no others imply: every other goes by way of an operation between.
+-- The delay pairs that are drawn: all others follow from them, and some of them may follow too.
 use Rattle.std.specs.Prelude.{ℕ, ◌+◌, ◌-◌, max, ◌||◌, ◌&&◌, not, Bool, List, map, filter, fold, length}
 use Rattle.std.specs.List.{flat_map, list_any, range_with_len}
 use Rattle.iloc_ops.specs.declared.op.Op.{Op}

@@ -186,8 +186,9 @@ pub struct Report {
 /// first byte with which no reading goes on, of 1,000 lines at most, and how many more there are; hints if the text reads; and
 /// at the end how many blocks, operations and faults there are. The wording of hints and of a line that has no reading is free.
 ///
-/// Promise: the lines that are listed are the first 1,000 that the grammar refuses, each with its number, its text and the
-/// place where its reading ends.
+/// Promise: of a text within the limit the lines counted are exactly those that the grammar refuses, where those before count as
+/// empty; the first 1,000 are listed, each with its number, part of its text and, where it has no reading, the place where its
+/// reading ends. Of a longer text that is said alone.
 pub fn report_of(alloc: Global, input: &[u8]) -> Result<Report, NoMemory>
     ensures { IfOk result (λ report. ListsLint input.now report.reads report.text.items) }
 {
