@@ -6,6 +6,7 @@ use crate::place::{Part, blanks_at, part_at, parts_of, word_at};
 use crate::shown::push_shown;
 use crate::wording::opcode_of;
 use iloc_ops::{NoMemory, Opcode};
+use iloc_text::{ScheduleLine, read_schedule_line};
 use std::alloc::Global;
 
 /// The longest part of a word that is shown.
@@ -172,10 +173,36 @@ fn said_at(line: &[u8]) -> Result<&[u8], Stop<'_>>
     }
 }
 
-/// Where a line stops.
+/// Where the name is in the head of a block.
+fn own_name_at(line: &[u8]) -> Result<&[u8], Stop<'_>>
+    ensures ok { IfOk result (λ rest. IsLeft line.now rest.now) }
+    ensures err { IfErr result (λ stop. IsLeft line.now stop.rest.now) }
+{
+    let rest = after_blanks(line);
+    let (_, after) = rest.split_at(word_at(rest));
+    Ok(after_blanks(operands_at(Opcode::Output, after)?))
+}
+
+/// Where a head stops that has another name than its block.
+fn misnamed_stop(line: &[u8]) -> Stop<'_>
+    ensures { IsLeft line.now result.rest.now }
+{
+    match own_name_at(line) {
+        Ok(rest) => Stop {
+            wanted: b"the block's name",
+            rest,
+        },
+        Err(stop) => stop,
+    }
+}
+
+/// Where a line stops: one that reads is the head of a block by another name.
 fn stop_of(line: &[u8]) -> Stop<'_>
     ensures { IsLeft line.now result.rest.now }
 {
+    if let Ok(ScheduleLine::Head { .. }) = read_schedule_line(line) {
+        return misnamed_stop(line);
+    }
     match said_at(line) {
         Ok(rest) => Stop {
             wanted: b"end of line",
@@ -185,7 +212,8 @@ fn stop_of(line: &[u8]) -> Stop<'_>
     }
 }
 
-/// What is wrong with a line among rows that can't be read: what is wanted where its reading ends, and what is found there.
+/// What is wrong with a line among rows that can't be read, or that is a head with another name than its block's: what is wanted
+/// where its reading ends, and what is found there.
 ///
 /// Promise: this is `expected W, found F`, where F begins what is left of the line at some place, as bytes are shown, or is `end
 /// of line` where nothing is left. Which W and which place, isn't promised.
