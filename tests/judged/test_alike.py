@@ -157,8 +157,8 @@ def graphs():
     chance = random.Random(8)
     for points in (4, 8, 16, 30, 50):
         drawn = [alike.regular(chance, points, 3) for _ in range(12)]
-        own_dues = {"lawful"} if points < 20 else {"lawful", *NOT_FOUND}
-        for theirs, dues in ((drawn, own_dues), (drawn[1:] + drawn[:1], NOT_FOUND)):
+        own_dues, other_dues = ({"lawful"}, {"void"}) if points < 20 else ({"lawful", *NOT_FOUND}, NOT_FOUND)
+        for theirs, dues in ((drawn, own_dues), (drawn[1:] + drawn[:1], other_dues)):
             text = text_of([alike.graph(points, edges) for edges in drawn])
             text += b"".join(proposed(k, f"B{k}", alike.shuffled(chance, points, edges)) for k, edges in enumerate(theirs, 1))
             found = found_of(ending(["check"], text)[1])
