@@ -3,6 +3,7 @@ use Rattle.std.specs.Prelude.{ℕ, ◌==◌, nat_lt, if◌then◌else◌, List, 
 use Rattle.std.specs.List.{flat_map}
 use Rattle.std.specs.Fmt.{decimal}
 use Rattle.iloc_ops.specs.Spelling.{spelling}
+use Rattle.iloc_ops.specs.declared.op.Op.{Op}
 use Rattle.iloc_ops.specs.declared.op.Reg.{Reg}
 use Rattle.iloc_validation.specs.declared.lawfulness.Added.{Added}
 use Rattle.iloc_validation.specs.declared.lawfulness.Issue.{Issue}
@@ -54,6 +55,9 @@ abbrev pub before_or_after : Issue → Issue → List ℕ
 before_or_after issue other = if nat_lt issue.cycle other.cycle then codes " before "
     else if nat_lt other.cycle issue.cycle then codes " after " else codes " not after "
 
+abbrev pub for_told : Issue → ℕ → Op → List ℕ
+for_told issue number op = issue_told issue ++ numbered (codes " for operation ") number ++ spelling op
+
 -- a fact, in the words of its line
 abbrev pub fact_words : Fact → List ℕ
 fact_words (UnderWay issue store due) = under_way_told issue store due
@@ -61,7 +65,7 @@ fact_words (Brings issue register late due) = brings_told issue register late du
 fact_words (Replaced issue register from lost) = replaced_told issue register from lost
 fact_words (NeverRead issue) = issue_told issue ++ codes ", whose result is never read"
 fact_words (Order issue other) = issue_told issue ++ before_or_after issue other ++ issue_told other
-fact_words (For issue number op) = issue_told issue ++ numbered (codes " for operation ") number ++ spelling op
+fact_words (For issue number op) = for_told issue number op
 fact_words (LikeNone issue) = issue_told issue ++ codes " like none of the block"
 fact_words (See issue) = codes "see " ++ issue_told issue
 

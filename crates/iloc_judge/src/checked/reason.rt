@@ -3,7 +3,7 @@ ghost use Rattle.std.specs.Prelude.{◌≡◌, ◌++◌, OnOk};
 ghost use Rattle.std.specs.List.{flat_map};
 ghost use Rattle.iloc_judge.specs.Entry.Reasons as told;
 
-use iloc_ops::{NoMemory, Reg, push_number, push_op};
+use iloc_ops::{NoMemory, Op, Reg, push_number, push_op};
 use iloc_reasons::{Fact, Reasons};
 use iloc_validation::{Added, Issue, LeftOut};
 
@@ -133,6 +133,15 @@ fn before_or_after(issue: Issue, other: Issue) -> &'static [u8]
     }
 }
 
+/// Appends that an operation stands for this one of the block.
+fn push_for(text: &mut Vec<u8>, issue: Issue, number: usize, op: Op) -> Result<(), NoMemory>
+    ensures { OnOk result (text.new.items ≡ text.old.items ++ told.for_told issue number op) }
+{
+    push_issue(text, issue)?;
+    push_numbered(text, " for operation ", number as u64)?;
+    push_op(text, &op)
+}
+
 /// Appends a fact, without the line's end.
 fn push_fact_words(text: &mut Vec<u8>, fact: &Fact) -> Result<(), NoMemory>
     ensures { OnOk result (text.new.items ≡ text.old.items ++ told.fact_words fact.now) }
@@ -160,11 +169,7 @@ fn push_fact_words(text: &mut Vec<u8>, fact: &Fact) -> Result<(), NoMemory>
             text.extend_from_slice(before_or_after(issue, other))?;
             push_issue(text, other)
         }
-        Fact::For { issue, number, op } => {
-            push_issue(text, issue)?;
-            push_numbered(text, " for operation ", number as u64)?;
-            push_op(text, &op)
-        }
+        Fact::For { issue, number, op } => push_for(text, issue, number, op),
         Fact::LikeNone { issue } => {
             push_issue(text, issue)?;
             Ok(text.extend_from_slice(b" like none of the block")?)
