@@ -1,17 +1,29 @@
-"""The program that judges, and its answer as records: the members that `check --json` lists of a block."""
+"""The program that judges, its answer as records (what `check --json` lists of a block), and tasks: a block a file."""
 import argparse
 import json
 import os
+import re
 import shutil
 import subprocess
 import sys
+from dataclasses import dataclass
+from pathlib import Path
 
 SECONDS = 600       # no answer takes as long
+ENDINGS = (".i", ".iloc")
+INPUT = re.compile(rb"^[ \t]*//[ \t]*SIM INPUT:(.*)$", re.MULTILINE)
+POINTS = re.compile(rb"^[ \t]*//[ \t]*POINTS:[ \t]*(.*?)[ \t\r]*$", re.MULTILINE)
+WORDS = re.compile(r"-i (\d{1,10})((?: -?\d{1,10})*)")
+VOID = {"faults": "faults on its words", "shows_nothing": "shows nothing"}
 program = "ilocfarm"
 
 
-class NoAnswer(Exception):
-    """The program failed, which is no student's fault."""
+class CannotGrade(Exception):
+    """Something that is no student's fault keeps a class, or what is handed in, from being graded."""
+
+
+class NoAnswer(CannotGrade):
+    """The program failed."""
 
 
 def found(name):
@@ -55,3 +67,57 @@ def decoded(members):
     """The members of an object with their strings as texts: listed is a character for each byte."""
     return {name: value.encode("latin-1").decode("utf-8", "replace") if isinstance(value, str) else value
             for name, value in members.items()}
+
+
+@dataclass(frozen=True)
+class Task:
+    name: str
+    path: Path
+    words: tuple        # for the program: the words that memory starts with
+    ours: int           # cycles of our schedule
+    least: int          # the bound by the book
+    head: str           # the line that rows for it may have before them
+    points: float
+    is_hidden: bool     # from students, but for the points
+
+
+def words_of(path):
+    """The words that a line `//SIM INPUT: -i ADDRESS WORD ..` gives; a negative one by its pattern."""
+    found = INPUT.search(path.read_bytes())
+    given = " ".join(found[1].decode("ascii", "replace").split()) if found else ""
+    if not given:
+        return ()
+    read = WORDS.fullmatch(given)
+    if not read:
+        raise CannotGrade(f"{path}: expected `//SIM INPUT: -i ADDRESS WORD ..`, found `{given[:60]}`")
+    return "--at", read[1], *(str(int(word) % 2 ** 32) for word in read[2].split())
+
+
+def read_task(path, asked):
+    """A task that doesn't fault on its words, and shows something; a line `//POINTS: N` gives its points."""
+    words = words_of(path)
+    found, why = records(path, words, asked.check, b"")
+    if len(found) != 1:
+        raise CannotGrade(f"{path}: {why or f'a task is one block, and this has {len(found)}'}")
+    said, = found
+    if said["void"]:
+        raise CannotGrade(f"{path}: the block {VOID[said['void']['kind']]}")
+    points = POINTS.search(path.read_bytes())
+    if points and not re.fullmatch(rb"\d{1,6}(\.\d{1,4})?", points[1]):
+        raise CannotGrade(f"{path}: expected `//POINTS: N`, found `{points[1].decode('ascii', 'replace')[:60]}`")
+    return Task(path.stem, path.resolve(), words, said["ours"], said["least"], f"block 1 {said['name'] or '-'}",
+                float(points[1]) if points else asked.points, path.stem in asked.hidden)
+
+
+def read_tasks(asked):
+    folder = asked.tasks
+    paths = sorted(path for path in folder.iterdir() if path.suffix in ENDINGS) if folder.is_dir() else []
+    if not paths:
+        raise CannotGrade(f"{folder}: no task NAME.iloc or NAME.i is there")
+    twice = [path for path in paths if path.suffix == ENDINGS[0] and path.with_suffix(ENDINGS[1]) in paths]
+    if twice:
+        raise CannotGrade(f"{twice[0]}: two tasks have this name")
+    strange = sorted({*asked.hidden} - {path.stem for path in paths})
+    if strange:
+        raise CannotGrade(f"{folder}: no task {strange[0]} is there, which is to be hidden")
+    return [read_task(path, asked) for path in paths]

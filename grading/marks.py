@@ -4,8 +4,8 @@ import re
 from dataclasses import dataclass, field
 from pathlib import Path
 
-from tasks import Task
-from words import count, number, sentences, shown
+from judge import Task
+from words import count, faults, number, shown
 
 PASSING = ("lawful", "same", "prints")
 
@@ -13,9 +13,9 @@ PASSING = ("lawful", "same", "prints")
 class NoRows(Exception):
     """There is nothing to judge: the verdict, and why in lines."""
 
-    def __init__(self, verdict, *lines):
+    def __init__(self, verdict, *lines, is_starved=False):
         super().__init__(*lines)
-        self.verdict, self.lines, self.is_starved = verdict, list(lines), False
+        self.verdict, self.lines, self.is_starved = verdict, list(lines), is_starved
 
 
 @dataclass
@@ -60,22 +60,6 @@ class Student:
         return [f"{late}."] * bool(self.days) + [f"Note: {note}." for note in self.notes]
 
 
-def verdict_of(said, required):
-    """The program's verdict, unless what passes there isn't what a course requires."""
-    verdict = said["verdict"]
-    if verdict not in PASSING or said["passes"]:
-        return verdict
-    is_changed = required == "operations" or said["left_out"] or said["added"]
-    return "changed" if is_changed else "unlawful"
-
-
-def prints_there(said, required):
-    """Whether what is wrong on some memory prints what it should on the one that is handed in, by what is required."""
-    found = said["difference"]
-    is_own = required == "outcome" or not said["left_out"] and not said["added"]
-    return bool(found and is_own and (said["memory"] or found["kind"] == "word"))
-
-
 def alike(rows, is_wrong):
     """What is equal for those that are equal to the byte, and for wrong ones that are but for registers or blanks."""
     names = {}
@@ -84,12 +68,17 @@ def alike(rows, is_wrong):
 
 
 def judged(task, said, rows, required):
-    """The mark of rows of which the program has a record."""
-    verdict = verdict_of(said, required)
+    """The mark of rows of which the program has a record, which may pass there and not as a course requires."""
+    verdict, found, is_other = said["verdict"], said["difference"], said["left_out"] or said["added"]
+    if verdict in PASSING and not said["passes"]:
+        verdict = "changed" if required == "operations" or is_other else "unlawful"
+    prints = found and (required == "outcome" or not is_other) and (said["memory"] or found["kind"] == "word")
     passes = verdict in PASSING
     lines = [reason.get("line") or rows.line_of(reason["row"]) for reason in said["reasons"] if "row" in reason]
-    return Mark(task, verdict, sentences(said, rows, passes), rows.notes, said["cycles"], next(iter(lines), None),
-                prints=prints_there(said, required), alike=alike(rows.data, not passes))
+    told = [] if passes else [*faults(said, rows)]
+    told += [f"You claim {count(said['claimed'], 'cycle')}."] * (said["claimed"] not in (None, said["cycles"]))
+    return Mark(task, verdict, told, rows.notes, said["cycles"], next(iter(lines), None),
+                prints=bool(prints), alike=alike(rows.data, not passes))
 
 
 def refused(task, why, rows):
@@ -107,16 +96,9 @@ def unmarked(task, why):
     return Mark(task, "unjudged", [shown(f"{why}") or type(why).__name__])
 
 
-def lost(mark, base, asked):
-    """Points less for the cycles beyond the base; without --per-cycle in their ratio."""
-    late = max(0, mark.cycles - base)
-    if asked.per_cycle is not None:
-        return asked.per_cycle * late
-    return mark.task.points * late / mark.cycles if late else 0
-
-
 def give_points(students, asked, again):
-    """Gives these students of a class their points: for what passes, and a share of them for what only prints right."""
+    """Gives these students of a class their points: for what passes, less for the cycles beyond a base, without
+    --per-cycle in their ratio; and a share of them for what only prints right."""
     best = {}
     for mark in (mark for student in students for mark in student.row if mark.passes()):
         best[mark.task.name] = min(best.get(mark.task.name, mark.cycles), mark.cycles)
@@ -126,7 +108,9 @@ def give_points(students, asked, again):
             task, points = mark.task, 0
             if mark.passes():
                 base = {"ours": task.ours, "least": task.least, "best": best[task.name], "pass": mark.cycles}
-                points = max(asked.floor * task.points, task.points - lost(mark, base[asked.policy], asked))
+                late = max(0, mark.cycles - base[asked.policy])
+                lost = task.points * late / max(1, mark.cycles) if asked.per_cycle is None else asked.per_cycle * late
+                points = max(asked.floor * task.points, task.points - lost)
             elif mark.prints and asked.partial:
                 points = asked.partial * task.points
                 mark.lines.append("It prints the right words on the task's own memory: some of the points.")

@@ -3,50 +3,37 @@ import dataclasses
 import itertools
 import json
 import os
-import shutil
 import stat
 import tempfile
 from contextlib import contextmanager
 from pathlib import Path
 
+from judge import CannotGrade
 from marks import Mark, Student
-from tasks import CannotGrade
 
 MARKS = "marks.json"
-
-
-def is_in(path, folder):
-    return folder.resolve() in (path.resolve(), *path.resolve().parents)
-
-
-def refusal(out, submissions):
-    """Why grades can't be written there, or nothing."""
-    if is_in(out, submissions):
-        return "the grades must not be where students' files are"
-    for folder in out.parent.resolve(), *out.parent.resolve().parents:
-        mode = folder.stat().st_mode if folder.exists() else 0
-        if mode & stat.S_IWOTH and not mode & stat.S_ISVTX:
-            return f"the grades must not be below {folder}, where everybody may write"
-    is_ours = not out.is_symlink() and out.is_dir() and ("gradebook.csv" in os.listdir(out) or not os.listdir(out))
-    return "" if is_ours or not os.path.lexists(out) else "expected grades, or nothing; name another folder by --out"
 
 
 @contextmanager
 def made_anew(out, submissions):
     """A new folder, which takes the place of `out` once all is in it. Grades that were there are kept, as is said."""
-    if why := refusal(out, submissions):
-        raise CannotGrade(f"{out}: {why}")
+    if out.resolve().is_relative_to(submissions.resolve()):
+        raise CannotGrade(f"{out}: the grades must not be where students' files are")
+    for folder in out.parent.resolve(), *out.parent.resolve().parents:
+        mode = folder.stat().st_mode if folder.exists() else 0
+        if mode & stat.S_IWOTH and not mode & stat.S_ISVTX:
+            raise CannotGrade(f"{out}: the grades must not be below {folder}, where everybody may write")
+    is_ours = not out.is_symlink() and out.is_dir() and ("gradebook.csv" in os.listdir(out) or not os.listdir(out))
+    if os.path.lexists(out) and not is_ours:
+        raise CannotGrade(f"{out}: expected grades, or nothing; name another folder by --out")
     out.parent.mkdir(parents=True, exist_ok=True)
-    made = Path(tempfile.mkdtemp(prefix=".grades-", dir=out.parent))
-    try:
-        yield made
+    with tempfile.TemporaryDirectory(prefix=".grades-", dir=out.parent) as made:
+        yield Path(made)
         if out.exists():
             kept = next(name for k in itertools.count(1) if not os.path.lexists(name := f"{out}.~{k}~"))
             out.rename(kept)
             print(f"{kept} has the grades that were there")
-        made.rename(out)
-    finally:
-        shutil.rmtree(made, ignore_errors=True)
+        os.rename(made, out)
 
 
 def keep(folder, students):
@@ -78,9 +65,3 @@ def chosen(students, names, earlier):
         raise CannotGrade(f"--only: there is no student {min(strange)}")
     others = {student.name: student for student in earlier}
     return [*again.values()], [*{**others, **again}.values()]
-
-
-def copy_feedback(out, folder, but):
-    """Copies earlier feedback but for these folders."""
-    top = f"{out / 'feedback'}"
-    shutil.copytree(top, folder / "feedback", symlinks=True, ignore=lambda at, _: but if at == top else ())

@@ -11,7 +11,6 @@ from forms import USUAL
 
 MOST = 200_000      # bytes of rows that are drawn
 MOST_STEPPED = 50_000       # of those that have a page
-UNDRAWN = ("unread", "void")
 
 
 class Pictures:
@@ -26,7 +25,7 @@ class Pictures:
     def draw(self, student, mark, said, rows):
         """Writes the picture and the page of a hand-in, and gives their names to its mark."""
         is_wanted = self.which == "all" or self.which == "wrong" and not mark.passes()
-        if not is_wanted or said["verdict"] in UNDRAWN or len(rows.data) > MOST:
+        if not is_wanted or said["verdict"] in ("unread", "void") or len(rows.data) > MOST:
             return
         for ending, drawn in (("svg", self.picture), ("html", self.page)):
             try:

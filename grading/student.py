@@ -1,10 +1,11 @@
 """Marks a student: whatever is wrong with what is handed in costs that student alone."""
-from contextlib import closing, contextmanager
+import os
+from contextlib import ExitStack
+from functools import partial
 
 import judge
-from handins.folder import Folder
-from handins.lenient import ENDINGS, lenient
-from handins.rows import Rows
+from handins.folder import Folder, opened
+from handins.lenient import ENDINGS, Rows, lenient
 from marks import NoRows, judged, refused, unmarked
 from words import shown
 
@@ -19,12 +20,16 @@ class Marker:
         try:
             if student.path is None:
                 raise NoRows("missing", "There is no folder of this name.")
-            with closing(Folder(student.path, self.asked.inner, student.files)) as folder, self.reading(folder) as read:
-                return [self.mark(student, read, task) for task in tasks]
+            parts = [student.path, *filter(None, self.asked.inner.split("/"))]
+            with ExitStack() as stack:
+                folder = Folder(stack.enter_context(opened(parts, os.O_DIRECTORY)), student.files)
+                programs = stack.enter_context(self.runner.reading(folder)) if self.runner else None
+                return [self.mark(student, programs or partial(self.handed_in, folder), task) for task in tasks]
         except Exception as why:
             return [unmarked(task, why) for task in tasks]
 
     def mark(self, student, read, task):
+        """A mark by a call that gives the bytes for a task, what is said and noted of them, and a program's seconds."""
         try:
             data, lines, notes, seconds = read(task)
             rows = Rows(*lenient(data, task.head)) if self.asked.lenient else Rows(data)
@@ -42,17 +47,8 @@ class Marker:
             made.lines.append(f"No picture could be drawn: {type(why).__name__}.")
         return made
 
-    @contextmanager
-    def reading(self, folder):
-        """A call that gives the bytes for a task, what is said and noted of them, and a program's seconds."""
-        if not self.runner:
-            yield lambda task: self.handed_in(folder, task.name)
-            return
-        with self.runner.reading(folder) as printed:
-            yield printed
-
-    def handed_in(self, folder, name):
-        names = [name + ending for ending in (ENDINGS if self.asked.lenient else ENDINGS[:1])]
+    def handed_in(self, folder, task):
+        names = [task.name + ending for ending in (ENDINGS if self.asked.lenient else ENDINGS[:1])]
         path = folder.find(names)
         if path is None:
             raise NoRows("missing", f"There is no file {shown(names[0])}; there is {folder.names()}.")

@@ -7,8 +7,8 @@ from collections import Counter, defaultdict
 from datetime import datetime
 
 from handins.layouts import DAY, days_late
+from judge import CannotGrade
 from marks import Student
-from tasks import CannotGrade
 from words import count, say, shown
 
 MARK = b"\xef\xbb\xbf"
@@ -35,14 +35,13 @@ class Table:
         first = next(iter(rows), [])
         self.rows = [row + [""] * (len(first) - len(row)) for row in rows]
         self.header = first if by or key_of("".join(first[:1])) in HEADERS else []
-        heads = [key_of(cell) for cell in self.header]
+        self.heads = [key_of(cell) for cell in self.header]
         self.at, self.is_by = self.column(by) if by else 0, by
-        self.named = next((heads.index(name) for name in NAMED if name in heads), 0)
+        self.named = next((self.heads.index(name) for name in NAMED if name in self.heads), 0)
 
     def column(self, *names):
         """The number of the column with one of these names."""
-        heads = [key_of(cell) for cell in self.header]
-        found = next((heads.index(key_of(name)) for name in names if key_of(name) in heads), None)
+        found = next((self.heads.index(key_of(name)) for name in names if key_of(name) in self.heads), None)
         if found is None:
             raise CannotGrade(f"{self.path}: there is no column {names[0]}; there is {', '.join(self.header)}")
         return found

@@ -47,7 +47,6 @@ def reason(found, rows):
 
 
 def faults(said, rows):
-    """What is wrong with rows."""
     if rows.line_of(0) is None:
         yield "There are no rows."
     if said["difference"]:
@@ -61,12 +60,6 @@ def faults(said, rows):
     yield from filter(None, (reason(found, rows) for found in said["reasons"]))
     if said["more"]:
         yield f"And {said['more']} more."
-
-
-def sentences(said, rows, passes):
-    """What is said of rows below their verdict."""
-    claim = said["claimed"] not in (None, said["cycles"])
-    return [*([] if passes else faults(said, rows)), *[f"You claim {count(said['claimed'], 'cycle')}."] * claim]
 
 
 def told(mark, is_staff=True):

@@ -1,52 +1,84 @@
-"""A student's folder: nothing outside it is read, whatever is in it and becomes of it meanwhile."""
+"""A student's folder and archives in it: nothing outside is read, whatever is in it and becomes of it meanwhile."""
+import bz2
 import errno
+import gzip
+import io
 import os
 import stat
-from contextlib import suppress
-from functools import cached_property
+import tarfile
+import zipfile
+from contextlib import ExitStack, contextmanager, suppress
+from functools import cached_property, partial
 from itertools import islice
 
-from handins.archives import ENDINGS, MOST_PACKED, is_meta, members
 from marks import NoRows
 from words import shown
 
 MOST_BYTES = 1 << 20        # of a file, and of what a program prints
-MOST_NAMES = 1000           # of a folder that are looked at
+MOST_PACKED = 1 << 24       # bytes of an archive, and of all that is in it
+MOST_NAMES = 1000           # of a folder or an archive that are looked at
+ENDINGS = (".zip", ".tar", ".tar.gz", ".tgz", ".tar.bz2")
+META = {"__MACOSX", ".git", ".github", ".DS_Store", "Thumbs.db", "desktop.ini", "submission_metadata.yml"}
+OPENERS = {b"\x1f\x8b": gzip.open, b"BZh": bz2.open}
 OURS = (errno.ENFILE, errno.EMFILE, errno.ENOMEM, errno.EIO)       # errors that are no student's
 STRANGE = {errno.ELOOP: "It is a link", errno.ENXIO: "It is no regular file", errno.ENOTDIR: "The folder is a link"}
 
 
-def opened(path, flags=0, within=None):
-    """The number of an open file. No link is followed, and no pipe or device waited for."""
-    try:
-        return os.open(path, flags | os.O_NOFOLLOW | os.O_NONBLOCK, dir_fd=within)
-    except OSError as why:
-        if why.errno in OURS:
-            raise
-        verdict = "missing" if why.errno == errno.ENOENT else "refused"
-        raise NoRows(verdict, f"{STRANGE.get(why.errno, why.strerror)}.") from why
+def is_meta(path):
+    """Whether a system or a program keeps something of its own there."""
+    return any(part in META or part.startswith("._") for part in path.split("/"))
 
 
-def opened_below(number, path, flags=0):
-    """The number of an open file some folders below an open one, which is closed."""
+def files_of(data):
+    """Of each file in an archive path, size, and what opens it."""
+    if data.startswith(b"PK"):
+        archive = zipfile.ZipFile(io.BytesIO(data))
+        return ((it.filename, it.file_size, partial(archive.open, it)) for it in archive.infolist()
+                if not it.is_dir() and not stat.S_ISLNK(it.external_attr >> 16))
+    archive = tarfile.open(fileobj=io.BytesIO(data), mode="r:")
+    return ((it.name, it.size, partial(archive.extractfile, it)) for it in archive if it.isreg() and not it.issparse())
+
+
+def members(name, data):
+    """By path the files of an archive: none is made on the disk, and sizes are known before anything is read."""
     try:
-        outer, _, inner = path.partition("/")
-        if not inner:
-            return opened(outer, flags, number)
-        below = opened(outer, os.O_DIRECTORY, number)
-    finally:
-        os.close(number)
-    return opened_below(below, inner, flags)
+        opener = next((opener for begin, opener in OPENERS.items() if data.startswith(begin)), io.BufferedReader)
+        data = opener(io.BytesIO(data)).read(MOST_PACKED + 1)
+        found = [*islice(files_of(data), MOST_NAMES + 1)]
+        if len(data) > MOST_PACKED or len(found) > MOST_NAMES or sum(size for _, size, _ in found) > MOST_PACKED:
+            raise NoRows("refused", f"{shown(name)} has more than {MOST_PACKED >> 20} MiB or {MOST_NAMES} files.")
+        outside = [path for path, *_ in found if path.startswith("/") or ".." in path.split("/")]
+        if outside:
+            raise NoRows("refused", f"{shown(name)} has a file {shown(outside[0], 80)}.")
+        return {f"{name}/{path}": opened().read(size) for path, size, opened in found if not is_meta(path)}
+    except (NoRows, MemoryError):
+        raise
+    except Exception as why:        # whatever is wrong with it
+        raise NoRows("refused", f"{shown(name)} can't be unpacked: {shown(f'{why}')}.") from why
+
+
+@contextmanager
+def opened(parts, flags=0, within=None):
+    """The number of an open file, by the parts of its path. No link is followed, and no pipe or device waited for."""
+    with ExitStack() as stack:
+        for left, part in enumerate(parts, 1 - len(parts)):
+            try:
+                kind = os.O_DIRECTORY if left else flags
+                within = os.open(part, kind | os.O_NOFOLLOW | os.O_NONBLOCK, dir_fd=within)
+            except OSError as why:
+                if why.errno in OURS:
+                    raise
+                verdict = "missing" if why.errno == errno.ENOENT else "refused"
+                raise NoRows(verdict, f"{STRANGE.get(why.errno, why.strerror)}.") from why
+            stack.callback(os.close, within)
+        yield within
 
 
 def listed(number):
-    """The first entries of an open folder, which is closed, by name, without what systems and programs put there."""
-    try:
-        with os.scandir(number) as entries:
-            found = islice((entry for entry in entries if not is_meta(entry.name)), MOST_NAMES)
-            return sorted(((entry.name, entry.is_dir(follow_symlinks=False)) for entry in found))
-    finally:
-        os.close(number)
+    """The first entries of an open folder by name, without what systems and programs put there."""
+    with os.scandir(number) as entries:
+        found = islice((entry for entry in entries if not is_meta(entry.name)), MOST_NAMES)
+        return sorted((entry.name, entry.is_dir(follow_symlinks=False)) for entry in found)
 
 
 def nearest(names, paths):
@@ -60,20 +92,17 @@ def nearest(names, paths):
 
 
 class Folder:
-    """A student's folder, opened once; or, of one with all students' files, some by the names that they had."""
+    """An open folder of a student's; or, of one with all students' files, some by the names that they had."""
 
-    def __init__(self, path, inner="", given=None):
-        self.number, self.given, self.packed = opened(path, os.O_DIRECTORY), given, {}
-        for part in filter(None, inner.split("/")):
-            self.number = opened_below(self.number, part, os.O_DIRECTORY)
+    def __init__(self, number, given=None):
+        self.number, self.given, self.packed = number, given, {}
 
-    def close(self):
-        os.close(self.number)
+    def opened(self, path, flags=0):
+        return opened((self.given[path] if self.given else path).split("/"), flags, self.number)
 
     def has(self, name):
-        if self.given is not None:
-            return name in self.given
-        return os.access(name, os.F_OK, dir_fd=self.number, follow_symlinks=False)
+        return (os.access(name, os.F_OK, dir_fd=self.number, follow_symlinks=False) if self.given is None
+                else name in self.given)
 
     @cached_property
     def paths(self):
@@ -81,11 +110,11 @@ class Folder:
         if self.given is not None:
             return [*self.given]
         found = []
-        for name, is_folder in listed(os.dup(self.number)):
+        for name, is_folder in listed(self.number):
             found.append(name)
             if is_folder and len(found) < MOST_NAMES:
-                with suppress(NoRows):
-                    found += [f"{name}/{inner}" for inner, _ in listed(self.at(name, os.O_DIRECTORY))]
+                with suppress(NoRows), self.opened(name, os.O_DIRECTORY) as inner:
+                    found += [f"{name}/{entry}" for entry, _ in listed(inner)]
         return found
 
     def archives(self):
@@ -106,22 +135,15 @@ class Folder:
         exact = next(filter(self.has, names), None)
         return exact or nearest(names, self.paths) or nearest(names, self.unpacked())
 
-    def at(self, path, flags=0):
-        return opened_below(os.dup(self.number), self.given[path] if self.given else path, flags)
-
     def read(self, path, most=MOST_BYTES):
         """The bytes of a regular file that isn't too long."""
-        if path in self.packed:
-            data = self.packed[path]
-        else:
-            number = self.at(path)
-            try:
+        data = self.packed.get(path)
+        if data is None:
+            with self.opened(path) as number:
                 if not stat.S_ISREG(os.fstat(number).st_mode):
                     raise NoRows("refused", "It is no regular file.")
                 with open(number, "rb", closefd=False) as file:
                     data = file.read(most + 1)
-            finally:
-                os.close(number)
         if len(data) > most:
             raise NoRows("refused", f"It is longer than {most >> 20} MiB.")
         return data

@@ -3,11 +3,10 @@ import math
 import os
 import re
 from collections import Counter, defaultdict
-from datetime import datetime, timezone
 
-from handins.archives import is_meta
+from handins.folder import is_meta
+from judge import CannotGrade
 from marks import Student
-from tasks import CannotGrade
 from words import say, shown
 
 ABOUT = "submission_metadata.yml"       # of Gradescope: who made each submission, and when
@@ -21,7 +20,6 @@ PLAIN = re.compile("(?P<name>.+)", re.DOTALL)       # of which only folders are 
 
 
 def layout_of(folder, names):
-    """The layout of a folder, as far as it is clear."""
     if (folder / ABOUT).is_file():
         return "gradescope"
     for layout, pattern in ENTRIES.items():
@@ -41,10 +39,8 @@ def last_attempts(files, tasks):
     tried = defaultdict(list)
     for here, name in files.items():
         found = AGAIN.fullmatch(name)
-        if found and f"{found[1]}-{found[2]}" not in tasks:
-            tried[found[1] + found[3]].append((int(found[2]) + 1, here))
-        else:
-            tried[name].append((1, here))
+        is_again = found and f"{found[1]}-{found[2]}" not in tasks
+        tried[found[1] + found[3] if is_again else name].append((int(found[2]) + 1 if is_again else 1, here))
     last = {name: max(several) for name, several in tried.items()}
     notes = [f"{shown(name)} of attempt {number} isn't counted, but that of attempt {last[name][0]}"
              for name, several in tried.items() for number, _ in sorted(several) if number < last[name][0]]
@@ -73,20 +69,18 @@ def of_entries(folder, names, pattern, tasks):
 
 
 def of_gradescope(folder, names, due):
-    """The students of each submission."""
     try:
         import yaml
     except ImportError:
         raise CannotGrade(f"{folder / ABOUT} needs Debian's package python3-yaml") from None
     try:
-        with open(folder / ABOUT, encoding="utf-8") as file:
-            for name, about in yaml.safe_load(file).items():
-                late = days_late(about[":created_at"], due) if due and about.get(":created_at") else 0
-                for person in about[":submitters"]:
-                    path = folder / name if name in names else None
-                    number, email = (f"{person.get(key) or ''}" for key in (":sid", ":email"))
-                    yield Student(f"{person[':name']}", path, number, email, days=late,
-                                  attempt=1 + len(about.get(":history") or ()))
+        for name, about in yaml.safe_load((folder / ABOUT).read_text("utf-8")).items():
+            late = days_late(about[":created_at"], due) if due and about.get(":created_at") else 0
+            for person in about[":submitters"]:
+                path = folder / name if name in names else None
+                number, email = (f"{person.get(key) or ''}" for key in (":sid", ":email"))
+                yield Student(f"{person[':name']}", path, number, email, days=late,
+                              attempt=1 + len(about.get(":history") or ()))
     except (yaml.YAMLError, AttributeError, KeyError, TypeError) as why:
         raise CannotGrade(f"{folder / ABOUT}: {shown(f'{why}')}") from why
 
@@ -104,12 +98,6 @@ def named_apart(students):
     return students
 
 
-def repository(name, prefix, known):
-    """Whose repository has a name `ASSIGNMENT-USER`: the longest user that is known, or else what differs."""
-    ends = [name[at + 1:] for at, letter in enumerate(name) if letter == "-"]
-    return next((end for end in ends if end in known), name.removeprefix(prefix))
-
-
 def read_class(asked, tasks, known):
     """The students of a folder, where these names may be known."""
     folder, names = asked.submissions, sorted(name for name in os.listdir(asked.submissions) if not is_meta(name))
@@ -122,8 +110,9 @@ def read_class(asked, tasks, known):
         students = [*of_entries(folder, names, ENTRIES.get(layout, PLAIN), {task.name for task in tasks})]
     if layout == "github":
         prefix = "".join(os.path.commonprefix([student.name for student in students]).rpartition("-")[:2])
-        for student in students:
-            student.name = repository(student.name, prefix, known)
+        for student in students:        # of ASSIGNMENT-USER the longest user that is known, or else what differs
+            ends = (student.name[at.end():] for at in re.finditer("-", student.name))
+            student.name = next((end for end in ends if end in known), student.name.removeprefix(prefix))
     if not students:
         raise CannotGrade(f"{folder}: no student's folder is there")
     return students

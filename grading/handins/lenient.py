@@ -1,8 +1,10 @@
-"""Rows among other lines, as logs and tables have them: what `--lenient` takes, and notes of what it changes."""
+"""Rows as they are judged, and among other lines, as logs have them: what `--lenient` takes, and notes of changes."""
 import io
 import re
+from array import array
 from collections import Counter
-from functools import lru_cache
+from functools import cached_property, lru_cache
+from itertools import islice
 
 from forms import FORMS
 from words import count, shown
@@ -13,6 +15,22 @@ OPCODES = {opcode.lower(): opcode for opcode in FORMS}
 CLAIM = re.compile(r"(?:cycles|total) \d{1,9}", re.ASCII)
 LONGEST = 200   # characters of a row
 LOST = "left out, being no rows"
+
+
+class Rows:
+    def __init__(self, data, notes=()):
+        self.data, self.notes = data, [*notes]      # of what was changed in them
+
+    @cached_property
+    def lines(self):
+        """By row its line, from 1; each line is looked at once."""
+        return array("L", (at for at, line in enumerate(io.BytesIO(self.data), 1) if line.lstrip(b" \t\r")[:1] == b"["))
+
+    def line_of(self, row):
+        return self.lines[row] if row < len(self.lines) else None
+
+    def text_at(self, line):
+        return next(islice(io.BytesIO(self.data), line - 1, line), b"").decode("utf-8", "replace").strip()
 
 
 def spelling(opcode, form):

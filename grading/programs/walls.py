@@ -1,11 +1,11 @@
 """How a student's program is started: in bubblewrap or without walls, for root as another user, within limits."""
-import glob
 import os
 import random
 import shlex
 import subprocess
 import tempfile
 from contextlib import ExitStack, contextmanager
+from glob import glob
 from pathlib import Path
 
 HERE = os.path.dirname(os.path.realpath(__file__))
@@ -22,20 +22,10 @@ NO_FILTER = "Programs ran without a filter of system calls, since python3-seccom
 NO_WALLS = "Without walls any program may have falsified marks, and read and written what its user may."
 
 
-def system(paths):
-    """The words by which bubblewrap shows paths as they are here: read only, or links."""
-    for path in paths:
-        if os.path.islink(path):
-            yield from ("--symlink", os.readlink(path), path)
-        elif os.path.exists(path):
-            yield from ("--ro-bind", path, path)
-
-
 def covered(bound, hidden):
     """The words that hide paths, and any ilocfarm, of what is bound."""
-    found = subprocess.run(["find", *bound, "-name", "ilocfarm*", "-prune", "-print0"], stdout=subprocess.PIPE,
-                           stderr=subprocess.DEVNULL).stdout.split(b"\0")[:-1]
-    paths = {Path(path) for path in [*hidden, *map(os.path.realpath, map(os.fsdecode, found))]}
+    found = subprocess.run(["find", *bound, "-name", "ilocfarm*", "-prune", "-print0"], capture_output=True).stdout
+    paths = {Path(os.path.realpath(path)) for path in [*hidden, *map(os.fsdecode, found.split(b"\0")[:-1])]}
     inner = {path for path in paths if any(Path(folder) in path.parents for folder in bound)}
     for path in sorted(path for path in inner if not inner & {*path.parents}):
         yield from (["--tmpfs", f"{path}", "--remount-ro"] if path.is_dir() else ["--ro-bind", "/dev/null"])
@@ -44,9 +34,8 @@ def covered(bound, hidden):
 
 def in_memory(data):
     """An open file with these bytes, which is read from its start."""
-    file = open(os.memfd_create("ilocgrade"), "r+b")
-    file.write(data)
-    file.seek(0)
+    file = open(os.memfd_create("ilocgrade"), "rb")
+    os.pwrite(file.fileno(), data, 0)
     return file
 
 
@@ -76,11 +65,13 @@ class Bubblewrap(Walls):
     def __init__(self, asked, hidden):
         super().__init__(asked)
         self.sizes = {"/work": asked.memory << 20, "/tmp": 1 << 24, "/dev/shm": 1 << 22}
-        bound = [os.path.realpath(folder) for folder in asked.bind]
+        bound = [folder for folder in map(os.path.realpath, asked.bind) if os.path.exists(folder)]
         words = Path(f"{HERE}/bubblewrap.words").read_text().format(*self.sizes.values())
-        seen = [*glob.glob("/bin"), *glob.glob("/sbin"), *glob.glob("/lib*"), *glob.glob("/etc/java-*"), *bound]
-        self.words = [*self.user, "bwrap", *shlex.split(words, comments=True), *system(seen),
-                      *covered(["/usr", *bound], hidden)]
+        seen = [*glob("/bin"), *glob("/sbin"), *glob("/lib*"), *glob("/etc/java-*"), *bound]     # as they are here
+        shown = [word for path in seen for word in (
+            ("--symlink", os.readlink(path), path) if os.path.islink(path) else ("--ro-bind", path, path))]
+        hiding = covered(["/usr", *bound], hidden)
+        self.words = [*self.user, "bwrap", *shlex.split(words, comments=True), *shown, *hiding]
         calls = subprocess.run(["env", "/usr/bin/python3", "-I", f"{HERE}/filter.py"], capture_output=True)
         self.filter, self.warning = (b"", NO_FILTER) if calls.returncode else (calls.stdout, "")
 
@@ -112,14 +103,10 @@ class NoWalls(Walls):
             variables = ["PATH=/usr/local/bin:/usr/bin:/bin", "LANG=C.UTF-8", f"HOME={home}", f"TMPDIR={home}"]
             words = self.limited(0 if self.user else 4096, f"{made}/task", command, script)
             yield [*self.user, "setpriv", "--no-new-privs", "env", "-i", *variables, *words], {"cwd": home}, home
-        finally:
-            self.end(made)
-
-    def end(self, made):
-        """Ends what is left of a run. Its folder isn't walked here: `rm` follows no link, and goes to any depth."""
-        last = ["sh", "-c", "kill -9 -1"] if self.user else ["chmod", "-R", "u+rwx", made]
-        for words in [*self.user, *last], ["rm", "-rf", made]:
-            subprocess.run(words, stderr=subprocess.DEVNULL)
+        finally:        # the folder isn't walked here: `rm` follows no link, and goes to any depth
+            last = ["sh", "-c", "kill -9 -1"] if self.user else ["chmod", "-R", "u+rwx", made]
+            for words in [*self.user, *last], ["rm", "-rf", made]:
+                subprocess.run(words, stderr=subprocess.DEVNULL)
 
     def reached(self, hidden):
         """What of this a program could read, or nothing."""

@@ -20,7 +20,8 @@ TO_NOBODY = ["setpriv", "--reuid", f"{NOBODY}", "--regid", f"{NOBODY}", "--clear
 
 def cases(text):
     """By name the verdict and the lines of cases."""
-    return {name: case for name, *case in re.findall(r"^= (.+): (.+)\n((?:(?!= ).*\n)*)", text, re.MULTILINE)}
+    found = re.findall(r"^= (.+?): (\S+): (.*\n(?:(?!= ).*\n)*)", text, re.MULTILINE)
+    return {name: case for names, *case in found for name in names.split(", ")}
 
 
 def is_running(argument):
