@@ -69,21 +69,22 @@ def texts_of(*tables):
 
 
 def undecided():
-    """Rows that compute another graph than their block, of which each point has as many neighbours."""
+    """Rows that compute another graph than their block, too large to be told apart, of which each point has as many
+    neighbours."""
     chance = random.Random(8)
-    own, other = (alike.regular(chance, 12, 3) for _ in range(2))
-    return text_of([alike.graph(12, own)]) + proposed(1, "B1", alike.shuffled(chance, 12, other))
+    own, other = (alike.regular(chance, 400, 3) for _ in range(2))
+    return text_of([alike.graph(400, own)]) + proposed(1, "B1", alike.shuffled(chance, 400, other))
 
 
 def undecided_cases():
     """A line says so whether or not it is the verdict."""
     for verdict, words in ("void", []), ("undecided", ["--lawful"]):
         yield Run(f"judged/json/{verdict}_in_lines", ["check", *words], undecided(), (
-            f"block 1 B1 {verdict} cycles 48 ours 24 least 24\n  the block shows nothing\n  undecided\n"
-            "total 48 ours 24 least 24\n").encode(), b"", NOT_SAME)
+            f"block 1 B1 {verdict} cycles 1600 ours 800 least 800\n  the block shows nothing\n  undecided\n"
+            "total 1600 ours 800 least 800\n").encode(), b"", NOT_SAME)
         yield Run(f"judged/json/{verdict}", ["check", "--json", *words], undecided(), (
-            f'{{"block":1,"name":"B1","verdict":"{verdict}","passes":false,"rows":30,"cycles":48,"ours":24,"least":24,'
-            '"claimed":null,"void":{"kind":"shows_nothing"},"difference":null,"memory":null,"left_out":null,"added":null,'
+            f'{{"block":1,"name":"B1","verdict":"{verdict}","passes":false,"rows":1600,"cycles":1600,"ours":800,'
+            '"least":800,"claimed":null,"void":{"kind":"shows_nothing"},"difference":null,"memory":null,"left_out":null,"added":null,'
             '"reasons":[{"kind":"undecided"}],"more":0}\n').encode(), b"", NOT_SAME)
 
 
