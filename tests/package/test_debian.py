@@ -28,7 +28,7 @@ TYPED = (
     ("ilocgrade class/tasks class/submissions -o ~/grades",
      "10 students, 1 task, 4 of 10 passed: /home/student/grades/report.html\n"),
     ("cd ~/grades && ls . feedback/ben && rm -r ~/grades",
-     ".:\nfeedback\ngradebook.csv\nreport.html\n\nfeedback/ben:\nboth.html\nboth.svg\nfeedback.txt\n"),
+     ".:\nfeedback\ngradebook.csv\nmarks.json\nreport.html\n\nfeedback/ben:\nboth.html\nboth.svg\nfeedback.txt\n"),
     ("ilocview graph book.iloc 2>&1; echo $?",
      "ilocview: this needs dot, which is not on the PATH (Debian: graphviz)\n3\n"),
     *((f"man {name} | head -n 1 | cut -d '(' -f 1", f"{name.upper()}\n") for name in COMMANDS),
