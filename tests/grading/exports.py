@@ -100,9 +100,10 @@ class GitHub:
 
     @staticmethod
     def table(everybody, points):
-        return table([["roster_identifier", "github_username", "submission_timestamp", "points_awarded"],
-                      *([it.id(), it.user(), f"2026-11-{21 if it.is_late else 20} 22:59:00 UTC", points[it.kind]] for it in everybody)],
-                     quoting=csv.QUOTE_ALL)
+        lines = [["roster_identifier", "github_username", "submission_timestamp", "points_awarded"]]
+        for one in everybody:
+            lines.append([one.id(), one.user(), f"2026-11-{21 if one.is_late else 20} 22:59:00 UTC", points[one.kind]])
+        return table(lines, quoting=csv.QUOTE_ALL)
 
 
 class Moodle:
@@ -116,6 +117,8 @@ class Moodle:
 
     @staticmethod
     def table(everybody, points):
-        late = " - 23 hours 59 mins late"
-        return "\ufeff" + table([["Identifier", "Full name", "Status", "Grade", "Feedback comments"], *(
-            [f"Participant {it.id()}", it.name(), "Submitted for grading" + late * it.is_late, points[it.kind], "two\nlines"] for it in everybody)], ";")
+        lines = [["Identifier", "Full name", "Status", "Grade", "Feedback comments"]]
+        for one in everybody:
+            status = "Submitted for grading" + " - 23 hours 59 mins late" * one.is_late
+            lines.append([f"Participant {one.id()}", one.name(), status, points[one.kind], "two\nlines"])
+        return "\ufeff" + table(lines, ";")
