@@ -12,11 +12,11 @@ use Rattle.iloc_rules.specs.Renaming.{without_nops}
 use Rattle.iloc_timed.specs.declared.latencies.Latencies.{Latencies}
 use Rattle.iloc_timed.specs.declared.row.Row.{Row}
 use Rattle.iloc_validation.specs.ByTheBook.{IsByTheBook}
-use Rattle.iloc_validation.specs.Counts.{count_like, lacks_counterpart, lacking}
-use Rattle.iloc_validation.proofs.AlikeOps.{alike_itself}
-use Rattle.iloc_validation.proofs.CountsLike.{one_counted}
+use Rattle.iloc_facts.specs.Counts.{count_like, lacks_counterpart, lacking}
+use Rattle.iloc_facts.proofs.AlikeOps.{alike_itself}
+use Rattle.iloc_facts.proofs.CountsLike.{one_counted}
 use Rattle.iloc_validation.proofs.PairedCounts.{paired_counts}
-use Rattle.iloc_judge.specs.Kept.{has_operations}
+use Rattle.iloc_verdict.specs.Kept.{has_operations}
 
 -- where there are as many of each label, none lacks a counterpart
 module _ (ops others : List Op) (same : (op : Op) → count_like op ops ≡ count_like op others) where

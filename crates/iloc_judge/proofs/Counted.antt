@@ -17,13 +17,13 @@ use Rattle.iloc_timed.specs.declared.latencies.Latencies.{Latencies}
 use Rattle.iloc_timed.specs.declared.row.Row.{Row}
 use Rattle.iloc_timed.specs.Rows.{slots}
 use Rattle.iloc_timed.specs.Timed.{issued_before, timed_outcome}
-use Rattle.iloc_judge.specs.declared.verdict.comparison.Comparison.{Comparison}
-use Rattle.iloc_judge.specs.declared.verdict.difference.Difference.{Difference}
-use Rattle.iloc_judge.specs.declared.verdict.Verdict.{Verdict}
-use Rattle.iloc_judge.specs.Verdict.Comparison.{IsComparison}
-use Rattle.iloc_judge.specs.Verdict.Difference.{IsDifference}
+use Rattle.iloc_comparison.specs.declared.comparison.Comparison.{Comparison}
+use Rattle.iloc_comparison.specs.declared.difference.Difference.{Difference}
+use Rattle.iloc_verdict.specs.declared.verdict.Verdict.{Verdict}
+use Rattle.iloc_comparison.specs.Comparison.{IsComparison}
+use Rattle.iloc_comparison.specs.Difference.{IsDifference}
 use Rattle.iloc_judge.specs.Verdict.{IsVerdict}
-use Rattle.iloc_judge.specs.Steps.Counted.{IsCounted, CanBeCompared, CanBeListed}
+use Rattle.iloc_verdict.specs.Counted.{IsCounted, CanBeCompared, CanBeListed}
 
 -- at most n words are emitted
 abbrev EmitsAtMost : ℕ → Outcome → Type 0

@@ -12,17 +12,18 @@ use Rattle.iloc_timed.specs.Schedule.{Table}
 use Rattle.iloc_rows.specs.declared.proposal.Proposed.{Proposed}
 use Rattle.iloc_validation.specs.ByTheBook.{IsByTheBook}
 use Rattle.iloc_validation.proofs.Outcomes.{keeps_the_outcome}
-use Rattle.iloc_judge.specs.declared.verdict.comparison.Comparison.{Comparison}
-use Rattle.iloc_judge.specs.Verdict.Comparison.{AgreesOnAll, IsComparison}
+use Rattle.iloc_comparison.specs.declared.comparison.Comparison.{Comparison}
+use Rattle.iloc_comparison.specs.Comparison.{AgreesOnAll, IsComparison}
 use Rattle.iloc_terms.specs.Agreement.{AreAlike}
-use Rattle.iloc_judge.specs.declared.verdict.Verdict.{Verdict}
-use Rattle.iloc_judge.specs.declared.verdict.kind.VerdictKind.{VerdictKind}
-use Rattle.iloc_judge.specs.Verdict.Void.{CanBeJudged}
+use Rattle.iloc_verdict.specs.declared.verdict.Verdict.{Verdict}
+use Rattle.iloc_verdict.specs.declared.verdict.kind.VerdictKind.{VerdictKind}
+use Rattle.iloc_comparison.specs.Void.{CanBeJudged}
 use Rattle.iloc_judge.specs.Verdict.{IsVerdict}
-use Rattle.iloc_judge.specs.declared.checked.Checked.{Checked}
-use Rattle.iloc_judge.specs.Checked.{compared_kind, is_passing, kind_of, passes, DoEnough, DoTheSame, IsCheck}
-use Rattle.iloc_judge.specs.declared.task.CheckOptions.{CheckOptions}
-use Rattle.iloc_judge.specs.Kept.{keeps_operations, AreItsOperations}
+use Rattle.iloc_verdict.specs.declared.checked.Checked.{Checked}
+use Rattle.iloc_verdict.specs.Checked.{compared_kind, is_passing, kind_of, passes}
+use Rattle.iloc_judge.specs.Checked.{DoEnough, DoTheSame, IsCheck}
+use Rattle.iloc_comparison.specs.declared.task.CheckOptions.{CheckOptions}
+use Rattle.iloc_verdict.specs.Kept.{keeps_operations, AreItsOperations}
 use Rattle.iloc_judge.specs.Laws.{PassedRowsMayPass, SameRowsDoTheSame}
 use Rattle.std.specs.List.{range_with_len}
 use Rattle.std.proofs.Math.Seq.{take-length}
@@ -30,9 +31,9 @@ use Rattle.std.proofs.lemmas.List.FromFn.{length-range_with_len, get_or-range_wi
 use Rattle.iloc_meaning.specs.Trace.{op_at}
 use Rattle.iloc_meaning.proofs.Cases.{by_bool}
 use Rattle.iloc_rules.specs.Renaming.{without_nops}
-use Rattle.iloc_validation.specs.Counts.{are_alike, count_like, lacks_counterpart, lacking}
-use Rattle.iloc_validation.proofs.AlikeOps.{count_same}
-use Rattle.iloc_validation.proofs.CountsLike.{counted, one_more, no_more}
+use Rattle.iloc_facts.specs.Counts.{are_alike, count_like, lacks_counterpart, lacking}
+use Rattle.iloc_facts.proofs.AlikeOps.{count_same}
+use Rattle.iloc_facts.proofs.CountsLike.{counted, one_more, no_more}
 
 -- Operations of which none lacks a counterpart on either side are as many of each label.
 module _ (ops others : List Op) (none : lacking ops others ≡ 0) (op : Op) where

@@ -4,9 +4,10 @@ use Rattle.iloc_ops.specs.declared.op.Op.{Op}
 use Rattle.iloc_timed.specs.declared.latencies.Latencies.{Latencies}
 use Rattle.iloc_timed.specs.Schedule.{Table}
 use Rattle.iloc_rows.specs.declared.proposal.Proposed.{Proposed}
-use Rattle.iloc_judge.specs.declared.checked.Checked.{Checked}
-use Rattle.iloc_judge.specs.declared.task.CheckOptions.{CheckOptions}
-use Rattle.iloc_judge.specs.Checked.{IsCheck, DoTheSame, MayPass, passes}
+use Rattle.iloc_verdict.specs.declared.checked.Checked.{Checked}
+use Rattle.iloc_comparison.specs.declared.task.CheckOptions.{CheckOptions}
+use Rattle.iloc_judge.specs.Checked.{IsCheck, DoTheSame, MayPass}
+use Rattle.iloc_verdict.specs.Checked.{passes}
 
 -- rows that are found to be the same do what the block does
 abbrev pub SameRowsDoTheSame : Type 0

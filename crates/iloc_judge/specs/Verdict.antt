@@ -7,16 +7,12 @@ use Rattle.iloc_timed.specs.Rows.{IsTable}
 use Rattle.iloc_timed.specs.Schedule.{IsFirstBadRow}
 use Rattle.iloc_rules.specs.Renaming.{without_nops}
 use Rattle.iloc_validation.specs.ByTheBook.{IsByTheBook}
-use Rattle.iloc_reasons.specs.Reasons.{AreReasons}
-use Rattle.iloc_judge.specs.declared.verdict.Verdict.{Verdict}
-use Rattle.iloc_judge.specs.declared.verdict.Verdict.TheVariants.{Units, Lawful, Unlawful, Undecided}
-use Rattle.iloc_judge.specs.Changes.{AreChanges}
-use Rattle.iloc_judge.specs.Kept.{AreItsOperations}
-use Rattle.iloc_judge.specs.Verdict.Comparison.{IsComparison}
-pub mod Comparison
-pub mod Difference
-pub mod Memory
-pub mod Void
+use Rattle.iloc_facts.specs.Reasons.{AreReasons}
+use Rattle.iloc_verdict.specs.declared.verdict.Verdict.{Verdict}
+use Rattle.iloc_verdict.specs.declared.verdict.Verdict.TheVariants.{Units, Lawful, Unlawful, Undecided}
+use Rattle.iloc_verdict.specs.Changes.{AreChanges}
+use Rattle.iloc_verdict.specs.Kept.{AreItsOperations}
+use Rattle.iloc_comparison.specs.Comparison.{IsComparison}
 
 -- The verdict is right, of operations and rows for a block, with this memory handed in: the row is the first that breaks the
 -- rules of the units, and these operations are left out or added; the rows are by the book; or they aren't, these facts hold of

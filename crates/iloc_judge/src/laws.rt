@@ -1,6 +1,5 @@
 //! Laws of what is found of rows, as contracts of functions that do nothing.
 ghost use Rattle.iloc_judge.specs.Laws.{PassedRowsMayPass, SameRowsDoTheSame};
-ghost use Rattle.iloc_judge.specs.UnitRule.{BadRowsBreakARule};
 
 /// Rows that are found to be the same have the block's outcome on every memory or, where outputs alone are compared, show what
 /// it shows.
@@ -12,9 +11,4 @@ pub fn same_rows_do_the_same()
 /// block finishes on the memory handed in and has a store or an output, or an output where outputs alone are compared.
 pub fn passed_rows_may_pass()
     ensures { PassedRowsMayPass }
-{}
-
-/// Of each row that breaks the rules of the units a rule is named that it breaks, and of no other.
-pub fn bad_rows_break_a_rule()
-    ensures { BadRowsBreakARule }
 {}

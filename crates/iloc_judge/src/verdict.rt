@@ -1,42 +1,27 @@
-//! What is said of somebody's rows for a block.
+//! The verdict on somebody's rows for a block.
 ghost use Rattle.std.specs.Prelude.{◌≡◌, ◌≤◌, length, IfOk};
 ghost use Rattle.iloc_timed.specs.Rows.{IsTable};
 ghost use Rattle.iloc_validation.specs.ByTheBook.{IssueTheSame};
 ghost use Rattle.iloc_validation.specs.Decision.{IsDecision, IsFoundLawful};
-ghost use Rattle.iloc_judge.specs.Kept.{AreItsOperations};
+ghost use Rattle.iloc_verdict.specs.Kept.{AreItsOperations};
 ghost use Rattle.iloc_judge.specs.Verdict.{IsVerdict};
 
-pub(crate) mod comparison;
-pub(crate) mod difference;
-pub mod kind;
-pub(crate) mod void;
-
-use crate::checked::changes::Changes;
-use crate::checked::kept::has_operations;
-use crate::task::{Judging, Task};
-use comparison::{Comparison, compared};
+use iloc_comparison::{Judging, Task, compared};
 use iloc_ops::NoMemory;
-use iloc_reasons::{Reasons, reasons_of};
+use iloc_reasons::reasons_of;
 use iloc_timed::{MAX_ROWS, Schedule};
 use iloc_validation::{Decision, decide};
+use iloc_verdict::{Verdict, has_operations};
 use std::alloc::Global;
 
-/// What is said of somebody's rows for a block.
-#[derive(Debug, Drop)]
-pub enum Verdict {
-    /// This row, from 0, is the first that breaks the rules of the units, and the rows leave these operations out, or add them.
-    Units(usize, Changes),
-    /// The rows are a schedule of the block by the book.
-    Lawful,
-    /// They are none, of which these facts tell, and what they do compares so with what the block does.
-    Unlawful(Reasons, Comparison),
-    /// It isn't decided whether they are one. They have the block's operations, and what they do compares so with what the block
-    /// does.
-    Undecided(Comparison),
-}
-
-/// Decides whether somebody's schedule is by the book. One that leaves operations out or adds some isn't.
-fn decided(alloc: Global, task: &Task<'_>, theirs: &Schedule) -> Result<Decision, NoMemory>
+/// Decides whether somebody's schedule for one of so many blocks is by the book. One that leaves operations out or adds some
+/// isn't.
+fn decided(
+    alloc: Global,
+    task: &Task<'_>,
+    theirs: &Schedule,
+    blocks: usize,
+) -> Result<Decision, NoMemory>
     ensures right { IfOk result (IsDecision task.now.latencies.now task.now.block.now.ops theirs.now.ops theirs.now.rows) }
     ensures own { IfOk result (λ decision.
         IssueTheSame task.now.ours.now.ops task.now.ours.now.rows theirs.now.ops theirs.now.rows
@@ -44,7 +29,7 @@ fn decided(alloc: Global, task: &Task<'_>, theirs: &Schedule) -> Result<Decision
     ensures kept { IfOk result (λ decision. decision ≡ Decision.Undecided
         → AreItsOperations task.now.block.now.ops theirs.now.ops) }
 {
-    let decision = decide(alloc, task.block, task.ours, theirs, task.latencies)?;
+    let decision = decide(alloc, task.block, task.ours, theirs, task.latencies, blocks)?;
     if let Decision::Undecided = decision {
         return if has_operations(alloc, task.block, theirs.ops())? {
             Ok(Decision::Undecided)
@@ -73,7 +58,7 @@ pub fn judge(
         IssueTheSame task.now.ours.now.ops task.now.ours.now.rows theirs.now.ops theirs.now.rows
         → verdict ≡ Verdict.Lawful) }
 {
-    match decided(alloc, task, theirs)? {
+    match decided(alloc, task, theirs, judging.blocks)? {
         Decision::Lawful(_) => Ok(Verdict::Lawful),
         Decision::Unlawful => {
             let reasons = reasons_of(alloc, task.block, theirs, task.latencies)?;

@@ -5,10 +5,10 @@ use Rattle.std.specs.List.{range_with_len}
 use Rattle.std.proofs.lemmas.Bool.{cases_eq, ne_eqb}
 use Rattle.std.proofs.lemmas.List.Sums.{sum_by-cons}
 use Rattle.std.proofs.Math.Nat.{mod-add-mod, add_comm}
-use Rattle.iloc_validation.specs.declared.reading.sources.Sources.{Sources}
+use Rattle.iloc_facts.specs.declared.reading.sources.Sources.{Sources}
 use Rattle.iloc_validation.specs.Steps.Colours.{mixed, said, heard_of, heard, IsBelow, AreBelow, AreBackwards, ReadAlike, HaveColours}
 use Rattle.iloc_validation.specs.Steps.Sources.{by_numbers}
-use Rattle.iloc_validation.specs.Readings.{sources_at}
+use Rattle.iloc_facts.specs.Readings.{sources_at}
 use Rattle.iloc_validation.proofs.ColourSums.{ranges_paired}
 
 -- nothing is heard of what isn't read

@@ -8,7 +8,7 @@ use Rattle.iloc_rules.specs.Steps.Members.{In}
 use Rattle.iloc_rules.proofs.Basics.Members.{from_append, in_left, in_right}
 use Rattle.iloc_rules.proofs.Basics.Ordered.{Ordered, ordered_append}
 use Rattle.iloc_rules.proofs.Basics.Slots.{numbers_before}
-use Rattle.iloc_validation.specs.ByTheBook.{issued_before}
+use Rattle.iloc_facts.specs.Readings.{issued_before}
 use Rattle.iloc_validation.specs.Steps.FirstColours.{numbers_below}
 
 abbrev pub Apart : ℕ → ℕ → Type 0

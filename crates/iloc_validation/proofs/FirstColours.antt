@@ -6,16 +6,16 @@ use Rattle.iloc_ops.specs.declared.op.Op.{Op}
 use Rattle.iloc_ops.specs.contracts.op.OpOrd.TheImpl as in_order
 use Rattle.iloc_timed.specs.declared.latencies.Latencies.{Latencies}
 use Rattle.iloc_timed.specs.Schedule.{Table}
-use Rattle.iloc_validation.specs.declared.by_label.ByLabel.{ByLabel}
+use Rattle.iloc_facts.specs.declared.by_label.ByLabel.{ByLabel}
 use Rattle.iloc_validation.specs.declared.colours.Coloured.{Coloured}
-use Rattle.iloc_validation.specs.declared.reading.Reading.{Reading}
-use Rattle.iloc_validation.specs.declared.reading.sources.Sources.{Sources}
-use Rattle.iloc_validation.specs.ByTheBook.{label}
+use Rattle.iloc_facts.specs.declared.reading.Reading.{Reading}
+use Rattle.iloc_facts.specs.declared.reading.sources.Sources.{Sources}
+use Rattle.iloc_facts.specs.Labels.{label}
 use Rattle.iloc_validation.specs.Steps.Colours.{AreKept, AreColoured}
 use Rattle.iloc_validation.specs.Steps.Decisions.{AreKeptColours}
 use Rattle.iloc_validation.specs.Steps.FirstColours.{label_colour}
 use Rattle.iloc_validation.specs.Steps.Sides.{AreSides}
-use Rattle.iloc_validation.proofs.LabelKeys.{same_key}
+use Rattle.iloc_facts.proofs.LabelKeys.{same_key}
 
 pub same_label_colour : (labels : ByLabel) (a b : Op) → label a ≡ label b → label_colour labels a ≡ label_colour labels b
 same_label_colour labels a b same =

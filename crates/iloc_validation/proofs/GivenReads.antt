@@ -24,9 +24,9 @@ use Rattle.iloc_rules.proofs.Renamed.Sources.{name_apart}
 use Rattle.iloc_rules.proofs.Renamed.MentionedSources.{source_earlier, use_numbered, definition_numbered, renamed_op_at, length-renamed_by}
 use Rattle.iloc_rules.proofs.DelayPairs.WaitedFor.{Waits, used_in_time}
 use Rattle.iloc_rules.proofs.Renamed.RenamedBlocks.{defined_at, named_defined}
-use Rattle.iloc_validation.specs.ByTheBook.{issued_before, due, last_of, defining, arrived, read, result_in, given}
-use Rattle.iloc_validation.proofs.Issues.{numbers_from_issued, issued_from_numbers}
-use Rattle.iloc_validation.proofs.ReadValues.{only_one}
+use Rattle.iloc_facts.specs.Readings.{issued_before, due, last_of, defining, arrived, read, result_in, given}
+use Rattle.iloc_facts.proofs.Issues.{numbers_from_issued, issued_from_numbers}
+use Rattle.iloc_facts.proofs.ReadValues.{only_one}
 
 -- the operations of a block without `nop`s, renamed
 abbrev pub new : List Op → List Op

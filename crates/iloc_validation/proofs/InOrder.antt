@@ -13,9 +13,11 @@ use Rattle.iloc_rules.proofs.DelayPairs.WaitedFor.{Waits}
 use Rattle.iloc_rules.proofs.Renamed.MentionedSources.{length-renamed_by}
 use Rattle.iloc_rules.proofs.Basics.Members.{map_same}
 use Rattle.iloc_rules.proofs.Renamed.RenamedBlocks.{renamed_is_renamed}
-use Rattle.iloc_validation.specs.ByTheBook.{label, read, given, IsScheduleUnder}
-use Rattle.iloc_validation.proofs.Issues.{numbers_from_issued}
-use Rattle.iloc_validation.proofs.ReadValues.{read_in}
+use Rattle.iloc_facts.specs.Labels.{label}
+use Rattle.iloc_facts.specs.Readings.{read, given}
+use Rattle.iloc_validation.specs.ByTheBook.{IsScheduleUnder}
+use Rattle.iloc_facts.proofs.Issues.{numbers_from_issued}
+use Rattle.iloc_facts.proofs.ReadValues.{read_in}
 use Rattle.iloc_validation.proofs.Lawful.{under_itself}
 
 mapped_same : (f g : ℕ → ℕ) (o : Option ℕ) → ((k : ℕ) → o ≡ Some k → f k ≡ g k) → option_map f o ≡ option_map g o

@@ -12,16 +12,17 @@ use Rattle.iloc_timed.specs.Schedule.{Table}
 use Rattle.iloc_rules.specs.Delays.{memory_delays}
 use Rattle.iloc_rules.proofs.Basics.Members.{in_from, contains_from}
 use Rattle.iloc_rules.proofs.Basics.Slots.{issued_within}
-use Rattle.iloc_validation.specs.declared.reading.Reading.{Reading}
-use Rattle.iloc_validation.specs.declared.reading.sources.Sources.{Sources}
-use Rattle.iloc_validation.specs.ByTheBook.{read, given, IsScheduleUnder}
+use Rattle.iloc_facts.specs.declared.reading.Reading.{Reading}
+use Rattle.iloc_facts.specs.declared.reading.sources.Sources.{Sources}
+use Rattle.iloc_facts.specs.Readings.{read, given, reading_at, sources_of}
+use Rattle.iloc_validation.specs.ByTheBook.{IsScheduleUnder}
 use Rattle.iloc_validation.specs.Steps.Pairing.{LeadsBack}
-use Rattle.iloc_validation.specs.Readings.{reading_at, sources_of}
 use Rattle.iloc_validation.specs.Steps.Sides.{AreSides, IsKept}
 use Rattle.iloc_validation.specs.Steps.Sources.{by_numbers}
 use Rattle.iloc_validation.specs.Steps.Waits.{earliest}
 use Rattle.iloc_validation.proofs.EarliestCycles.{waited_for, waits_no_more}
-use Rattle.iloc_validation.proofs.SourceLists.{few_used, by_numbers_of, lists_same, sources_from_lists}
+use Rattle.iloc_facts.proofs.SourceLists.{few_used, lists_same, sources_from_lists}
+use Rattle.iloc_validation.proofs.OtherNumbers.{by_numbers_of}
 
 module _ (lat : Latencies) (block : List Op) (givens : List Sources) (schedule : Table) (readings : List Reading)
     (sides : AreSides lat block givens schedule readings) (there back : List ℕ)

@@ -10,15 +10,16 @@ use Rattle.iloc_rules.specs.Renaming.Source.{Start, Result}
 use Rattle.iloc_rules.proofs.Renamed.MentionedSources.{source_earlier}
 use Rattle.iloc_validation.specs.declared.colours.Coloured.{Coloured}
 use Rattle.iloc_validation.specs.declared.colours.issue_order.IssueOrder.{IssueOrder}
-use Rattle.iloc_validation.specs.declared.reading.Reading.{Reading}
-use Rattle.iloc_validation.specs.declared.reading.sources.Sources.{Sources}
-use Rattle.iloc_validation.specs.ByTheBook.{result_in, IsScheduleUnder}
+use Rattle.iloc_facts.specs.declared.reading.Reading.{Reading}
+use Rattle.iloc_facts.specs.declared.reading.sources.Sources.{Sources}
+use Rattle.iloc_facts.specs.Readings.{result_in, reading_at, sources_of, sources_at}
+use Rattle.iloc_validation.specs.ByTheBook.{IsScheduleUnder}
 use Rattle.iloc_validation.specs.Steps.Colours.{IsBelow, AreBelow, ReadAlike, HaveColours, ArePassed, ArePassedTo, IsOrderOf, AreColoured}
-use Rattle.iloc_validation.specs.Readings.{reading_at, sources_of, sources_at}
 use Rattle.iloc_validation.specs.Steps.Sides.{AreSides}
 use Rattle.iloc_validation.specs.Steps.Sources.{by_numbers}
 use Rattle.iloc_validation.proofs.Renumbered.{mapped_twice}
-use Rattle.iloc_validation.proofs.SourceLists.{by_numbers_of, sources_from_lists}
+use Rattle.iloc_facts.proofs.SourceLists.{sources_from_lists}
+use Rattle.iloc_validation.proofs.OtherNumbers.{by_numbers_of}
 
 by_numbers_twice : (f g : ℕ → ℕ) (s : Sources) → by_numbers f (by_numbers g s) ≡ by_numbers (λ k. f (g k)) s
 by_numbers_twice f g s = grind (arith, mapped_twice)

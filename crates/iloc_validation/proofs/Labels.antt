@@ -7,7 +7,7 @@ use Rattle.iloc_ops.specs.declared.op.Op.TheVariants.{Load, LoadI, Store, Add, S
 use Rattle.iloc_ops.specs.Registers.{used, with_registers}
 use Rattle.iloc_meaning.specs.Effect.{effect}
 use Rattle.iloc_timed.specs.Kinds.{kind}
-use Rattle.iloc_validation.specs.ByTheBook.{label}
+use Rattle.iloc_facts.specs.Labels.{label}
 
 pub kind-with_registers : (new : Reg → Reg) (own : Reg) (op : Op) → kind (with_registers new own op) ≡ kind op
 kind-with_registers new own Nop = refl

@@ -14,12 +14,12 @@ use Rattle.iloc_rules.specs.Delays.{uses_result, memory_delays, delays, when}
 use Rattle.iloc_rules.specs.Lawful.{IsLawful}
 use Rattle.iloc_rules.specs.Renaming.{numbering, without_nops, IsRenamed}
 use Rattle.iloc_rules.specs.Steps.Members.{In}
-use Rattle.iloc_rules.proofs.Basics.Members.{in_from, contains_from, in_right}
+use Rattle.iloc_rules.proofs.Basics.Members.{in_from, contains_from, in_right, map_same}
 use Rattle.iloc_rules.proofs.DelayPairs.WaitedFor.{Waits}
 use Rattle.iloc_rules.proofs.Renamed.MentionedSources.{renamed_op_at, length-renamed_by}
-use Rattle.iloc_rules.proofs.Basics.Members.{map_same}
 use Rattle.iloc_rules.proofs.Renamed.RenamedBlocks.{renamed_is_renamed}
-use Rattle.iloc_validation.specs.ByTheBook.{read, given, ArePaired, IsScheduleUnder, IsByTheBook}
+use Rattle.iloc_facts.specs.Readings.{read, given}
+use Rattle.iloc_validation.specs.ByTheBook.{ArePaired, IsScheduleUnder, IsByTheBook}
 use Rattle.iloc_validation.proofs.Labels.{kind-with_registers, label-with_registers}
 use Rattle.iloc_validation.proofs.GivenReads.{new, name_at, used_new, read_is_given}
 use Rattle.iloc_validation.specs.Steps.Waits.{memory_by}

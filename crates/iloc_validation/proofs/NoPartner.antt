@@ -8,8 +8,8 @@ use Rattle.iloc_timed.specs.Schedule.{Table}
 use Rattle.iloc_validation.specs.declared.colours.Coloured.{Coloured}
 use Rattle.iloc_validation.specs.declared.decision.Decision.{Decision}
 use Rattle.iloc_validation.specs.declared.decision.Decision.TheVariants.{Lawful, Unlawful, Undecided}
-use Rattle.iloc_validation.specs.declared.reading.Reading.{Reading}
-use Rattle.iloc_validation.specs.declared.reading.sources.Sources.{Sources}
+use Rattle.iloc_facts.specs.declared.reading.Reading.{Reading}
+use Rattle.iloc_facts.specs.declared.reading.sources.Sources.{Sources}
 use Rattle.iloc_validation.specs.ByTheBook.{ArePaired}
 use Rattle.iloc_validation.specs.Steps.Colours.{marked, HaveColours, AreKept, AreKeptByNone, AreColoured, IsNoPair, IsPairColoured}
 use Rattle.iloc_validation.specs.Steps.Decisions.{IsDecisionAmong, IsDecisionOf}

@@ -24,23 +24,23 @@ use Rattle.iloc_rules.specs.Lawful.{IsLawful}
 use Rattle.iloc_rules.specs.Renaming.{source, numbering, name_of, without_nops, renamed, IsRenamed}
 use Rattle.iloc_rules.specs.Renaming.Source.{Result}
 use Rattle.iloc_rules.specs.Steps.Members.{In}
-use Rattle.iloc_rules.proofs.Basics.Members.{in_from, contains_from, from_append, from_map, in_map, from_any, in_range_from, from_range}
+use Rattle.iloc_rules.proofs.Basics.Members.{in_from, contains_from, from_append, from_map, in_map, from_any, in_range_from, from_range, map_same}
 use Rattle.iloc_rules.proofs.Basics.Maxima.{fold_max_each, fold_max_reached}
 use Rattle.iloc_rules.proofs.Basics.Registers.{is_register_same}
 use Rattle.iloc_rules.proofs.Basics.Slots.{within, issued_early}
 use Rattle.iloc_rules.proofs.DelayPairs.WaitedFor.{Waits}
 use Rattle.iloc_rules.proofs.Outcome.LawfulOutcomes.{lawful_same_outcome}
 use Rattle.iloc_rules.proofs.Renamed.MentionedSources.{renamed_op_at, length-renamed_by}
-use Rattle.iloc_rules.proofs.Basics.Members.{map_same}
 use Rattle.iloc_rules.proofs.Renamed.RenamedBlocks.{renamed_is_renamed}
 use Rattle.iloc_rules.proofs.DelayPairs.DelayBounds.{from_when}
-use Rattle.iloc_validation.specs.ByTheBook.{due, read, given, result_in, IsScheduleUnder, IsByTheBook}
+use Rattle.iloc_facts.specs.Readings.{due, read, given, result_in}
+use Rattle.iloc_validation.specs.ByTheBook.{IsScheduleUnder, IsByTheBook}
 use Rattle.iloc_validation.specs.OwnRows.{renumber}
 use Rattle.iloc_validation.specs.Steps.Waits.{memory_by}
 use Rattle.iloc_validation.proofs.Labels.{kind-with_registers, same_kind, same_effect}
 use Rattle.iloc_validation.proofs.Alike.{AlikeAll, alike_map, words_alike, arrived_alike, outcome_alike}
-use Rattle.iloc_validation.proofs.Issues.{issued_at, log_is, numbers_from_issued}
-use Rattle.iloc_validation.proofs.ReadValues.{value_of, register_is_read, read_in}
+use Rattle.iloc_facts.proofs.Issues.{issued_at, log_is, numbers_from_issued}
+use Rattle.iloc_facts.proofs.ReadValues.{value_of, register_is_read, read_in}
 use Rattle.iloc_validation.proofs.GivenReads.{new, name_at, used_new, named_source, read_is_given}
 use Rattle.iloc_validation.proofs.Renumbered.{length-renumber, row_at-map, slots_at-map, numbers_before-map, AreApartBelow, AreBelow, times_same, cycle_same, units_same}
 

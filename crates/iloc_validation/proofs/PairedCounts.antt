@@ -8,9 +8,10 @@ use Rattle.iloc_ops.specs.declared.op.Op.TheVariants.{Nop}
 use Rattle.iloc_ops.specs.contracts.op.OpPartialEq.TheImpl as of_ops
 use Rattle.iloc_meaning.specs.Trace.{op_at}
 use Rattle.iloc_meaning.proofs.Cases.{by_bool}
-use Rattle.iloc_validation.specs.ByTheBook.{label, ArePaired}
-use Rattle.iloc_validation.specs.Counts.{are_alike, count_like}
-use Rattle.iloc_validation.proofs.CountsLike.{counts_same}
+use Rattle.iloc_facts.specs.Labels.{label}
+use Rattle.iloc_validation.specs.ByTheBook.{ArePaired}
+use Rattle.iloc_facts.specs.Counts.{are_alike, count_like}
+use Rattle.iloc_facts.proofs.CountsLike.{counts_same}
 
 abbrev itself : Bool → Bool
 itself b = b

@@ -2,12 +2,12 @@
 use Rattle.std.proofs.Common.{◌≡◌, ℕ, ◌%◌, ◌^◌, List, length, Option, Some, None, ap, ◌<◌, zero, suc, option_map, refl, sym, ◌∙◌, subst, arith}
 use Rattle.std.specs.Prelude.{sum_by, slice_index, IfSome}
 use Rattle.iloc_validation.specs.declared.colours.Coloured.{Coloured}
-use Rattle.iloc_validation.specs.declared.reading.sources.Sources.{Sources}
+use Rattle.iloc_facts.specs.declared.reading.sources.Sources.{Sources}
 use Rattle.iloc_validation.specs.Steps.Colours.{mixed, AreForwards, AreBackwards, ReadAlike, HaveColours, ArePassed, ArePassedTo, told, with_told, IsBelow, AreBelow}
 use Rattle.iloc_validation.proofs.ColourSums.{values_paired}
 use Rattle.iloc_validation.proofs.BackwardColours.{backwards_keep}
 use Rattle.iloc_validation.specs.Steps.Sources.{by_numbers}
-use Rattle.iloc_validation.specs.Readings.{sources_at}
+use Rattle.iloc_facts.specs.Readings.{sources_at}
 
 -- A pass forwards keeps colours: what operations read, those that they are paired with read too.
 module _ (f g : ℕ → ℕ) where

@@ -18,9 +18,10 @@ use Rattle.iloc_rules.proofs.Basics.Members.{in_filter, from_filter}
 use Rattle.iloc_rules.proofs.Basics.Ordered.{Ordered, ordered_filter}
 use Rattle.iloc_rules.proofs.Basics.Slots.{numbers_before, ComesLater, issued_in_order, issued_early, early_issued}
 use Rattle.iloc_rules.proofs.Basics.Kinds.{store_is, output_is}
-use Rattle.iloc_validation.specs.declared.by_label.ByLabel.{ByLabel}
+use Rattle.iloc_facts.specs.declared.by_label.ByLabel.{ByLabel}
 use Rattle.iloc_validation.specs.declared.decision.first_colours.Places.{Places}
-use Rattle.iloc_validation.specs.ByTheBook.{issued_before, IsScheduleUnder}
+use Rattle.iloc_facts.specs.Readings.{issued_before}
+use Rattle.iloc_validation.specs.ByTheBook.{IsScheduleUnder}
 use Rattle.iloc_validation.specs.Steps.Colours.{AreKept}
 use Rattle.iloc_validation.specs.Steps.FirstColours.{label_colour, with_place, colour_in, counted, with_op, with_slot, count_of, ArePlaces, numbers_below, first_here, first_there}
 use Rattle.iloc_validation.specs.Steps.Numbers.{with_number, AreNotedBefore}

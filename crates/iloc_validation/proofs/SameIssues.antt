@@ -15,14 +15,15 @@ use Rattle.iloc_timed.specs.Latency.{latency}
 use Rattle.iloc_timed.specs.Rows.{empty_row, row_at, slots, issue_cycle, times_issued, keeps_units, AreNumbered, IsTable}
 use Rattle.iloc_rules.specs.Renaming.{without_nops}
 use Rattle.iloc_rules.specs.Steps.Members.{In}
-use Rattle.iloc_rules.proofs.Basics.Members.{contains_from, in_left, in_right, from_filter}
+use Rattle.iloc_rules.proofs.Basics.Members.{contains_from, in_left, in_right, from_filter, map_same}
 use Rattle.iloc_rules.proofs.Basics.Slots.{count_in, count_in_twice, count_in_within, issued_early, issued_there, stands_there, is_issued}
-use Rattle.iloc_rules.proofs.Basics.Members.{map_same}
-use Rattle.iloc_validation.specs.ByTheBook.{issued_before, due, last_of, defining, arrived, read, label, issued_in, IssueTheSame, IsScheduleUnder}
+use Rattle.iloc_facts.specs.Readings.{issued_before, due, last_of, defining, arrived, read}
+use Rattle.iloc_facts.specs.Labels.{label}
+use Rattle.iloc_validation.specs.ByTheBook.{issued_in, IssueTheSame, IsScheduleUnder}
 use Rattle.iloc_validation.specs.Laws.{OwnRowsAreByTheBook}
 use Rattle.iloc_validation.specs.OwnRows.{renumber}
 use Rattle.iloc_validation.specs.Steps.Numbers.{is_in, in_slot, number_in}
-use Rattle.iloc_validation.proofs.Issues.{numbers_from_issued}
+use Rattle.iloc_facts.proofs.Issues.{numbers_from_issued}
 use Rattle.iloc_validation.proofs.Lawful.{lawful_by_the_book}
 use Rattle.iloc_validation.proofs.Renumbered.{slots_of, mapped_twice, length-renumber, row_at-map, cycle_same, units_same}
 

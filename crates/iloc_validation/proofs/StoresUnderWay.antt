@@ -14,7 +14,7 @@ use Rattle.iloc_rules.specs.Delays.{reads_stored}
 use Rattle.iloc_rules.specs.Steps.Members.{In}
 use Rattle.iloc_rules.proofs.Basics.Slots.{within, cycle_is}
 use Rattle.iloc_rules.proofs.Basics.Kinds.{store_is}
-use Rattle.iloc_validation.specs.UnderWay.{IsUnderWay}
+use Rattle.iloc_facts.specs.UnderWay.{IsUnderWay}
 use Rattle.iloc_validation.specs.Steps.Stores.{IsStoredUntil}
 use Rattle.iloc_validation.proofs.SameIssues.{in_first, in_second}
 

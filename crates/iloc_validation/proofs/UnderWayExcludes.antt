@@ -14,7 +14,7 @@ use Rattle.iloc_rules.specs.Delays.{memory_delays}
 use Rattle.iloc_rules.specs.Steps.Members.{In}
 use Rattle.iloc_rules.proofs.Basics.Members.{contains_from}
 use Rattle.iloc_validation.specs.ByTheBook.{IsScheduleUnder}
-use Rattle.iloc_validation.specs.UnderWay.{IsUnderWay}
+use Rattle.iloc_facts.specs.UnderWay.{IsUnderWay}
 use Rattle.iloc_validation.specs.Steps.Waits.{memory_by}
 use Rattle.iloc_validation.proofs.Labels.{same_kind}
 

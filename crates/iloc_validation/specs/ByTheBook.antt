@@ -1,66 +1,18 @@
 -- Which rows are a schedule of a block by the book, whatever registers they name: each operation of the block is issued
 -- once, reads the results that it reads in the block, and waits for what memory and outputs make it wait for.
-use Rattle.std.specs.Prelude.{ℕ, zero, suc, ◌+◌, ◌≡◌, ◌<◌, ◌≤◌, nat_lt, nat_le, if◌then◌else◌, List, [], ◌++◌, length, map, fold, filter, Option, Some, None, option_map, option_to_list, Contains}
-use Rattle.iloc_ops.specs.declared.op.Reg.{Reg}
+use Rattle.std.specs.Prelude.{ℕ, ◌+◌, ◌≡◌, ◌<◌, ◌≤◌, List, length, map, Option, option_map, Contains}
 use Rattle.iloc_ops.specs.declared.op.Op.{Op}
-use Rattle.iloc_ops.specs.Registers.{used, defined, with_registers}
-use Rattle.iloc_meaning.specs.Trace.{op_at, is_register}
+use Rattle.iloc_ops.specs.Registers.{used}
+use Rattle.iloc_meaning.specs.Trace.{op_at}
 use Rattle.iloc_timed.specs.declared.latencies.Latencies.{Latencies}
 use Rattle.iloc_timed.specs.declared.row.Row.{Row}
-use Rattle.iloc_timed.specs.Latency.{latency}
-use Rattle.iloc_timed.specs.Rows.{row_at, issue_cycle, IsTable}
+use Rattle.iloc_timed.specs.Rows.{issue_cycle, IsTable}
 use Rattle.iloc_rules.specs.Delays.{memory_delays}
-use Rattle.iloc_rules.specs.Renaming.{Source, source, without_nops}
-use Rattle.iloc_rules.specs.Renaming.Source.{Start, Result}
-
--- What is read
-
--- the operations of a row in the order of issue: unit 0 before unit 1
-abbrev pub in_order : Row → List ℕ
-in_order row = option_to_list row.zero ++ option_to_list row.one
-
--- the operations that are issued before cycle c, in that order
-abbrev pub issued_before : List Row → ℕ → List ℕ
-issued_before rows zero = []
-issued_before rows (suc c) = issued_before rows c ++ in_order (row_at rows c)
-
--- the cycle at whose start the result of operation k arrives
-abbrev pub due : Latencies → List Op → List Row → ℕ → ℕ
-due lat ops rows k = issue_cycle rows k + latency lat (op_at ops k)
-
--- of two that are issued one after the other, the one that arrives last; of one cycle the second
-abbrev pub last_of : (ℕ → ℕ) → Option ℕ → ℕ → Option ℕ
-last_of due None k = Some k
-last_of due (Some j) k = if nat_lt (due k) (due j) then Some j else Some k
-
--- those that define register r
-abbrev pub defining : List Op → Reg → List ℕ → List ℕ
-defining ops r ks = filter (λ k. is_register r (defined (op_at ops k))) ks
-
--- those whose results have arrived by cycle c
-abbrev pub arrived : (ℕ → ℕ) → ℕ → List ℕ → List ℕ
-arrived due c ks = filter (λ k. nat_le (due k) c) ks
-
--- the operation whose result register r holds at cycle c: of those that define r and have arrived the last; None where
--- there is none, and the register is as it was at the start
-abbrev pub read : Latencies → List Op → List Row → ℕ → Reg → Option ℕ
-read lat ops rows c r =
-    fold (last_of (due lat ops rows)) None (arrived (due lat ops rows) c (defining ops r (issued_before rows c)))
-
--- the operation whose result that is; None for the start of a register
-abbrev pub result_in : Source → Option ℕ
-result_in (Start r) = None
-result_in (Result i) = Some i
-
--- the operation whose result operation i of a block reads in register r
-abbrev pub given : List Op → ℕ → Reg → Option ℕ
-given block i r = result_in (source block i r)
+use Rattle.iloc_rules.specs.Renaming.{without_nops}
+use Rattle.iloc_facts.specs.Labels.{label}
+use Rattle.iloc_facts.specs.Readings.{given, read}
 
 -- Which operations are one
-
--- an operation without its registers: all of them 0
-abbrev pub label : Op → Op
-label op = with_registers (λ r. record { 0 = 0 }) (record { 0 = 0 }) op
 
 -- Each operation k of the rows is operation `origin k` of the block, and operation i of the block is operation
 -- `partner i` of the rows; they differ in registers alone.

@@ -9,8 +9,8 @@ use Rattle.iloc_timed.specs.Timed.{timed_outcome}
 use Rattle.iloc_rules.specs.Lawful.{IsLawful}
 use Rattle.iloc_rules.specs.Renaming.{without_nops}
 use Rattle.iloc_validation.specs.ByTheBook.{IsByTheBook, IssueTheSame}
-use Rattle.iloc_validation.specs.Counts.{count_like}
-use Rattle.iloc_validation.specs.UnderWay.{IsUnderWay}
+use Rattle.iloc_facts.specs.Counts.{count_like}
+use Rattle.iloc_facts.specs.UnderWay.{IsUnderWay}
 
 -- on every memory they have the block's outcome
 abbrev pub ByTheBookKeepsTheOutcome : Type 0

@@ -1,10 +1,5 @@
 pub mod ByTheBook
-pub mod Readings
-pub mod UnderWay
 pub mod Decision
-pub mod Labels
-pub mod Counts
-pub mod Lawfulness
 pub mod OwnRows
 pub mod Laws
 pub mod Steps

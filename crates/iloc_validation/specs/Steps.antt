@@ -1,12 +1,8 @@
 -- What the code does piece by piece, as steps of proof: no contract of a public function names them.
 pub mod Sources
-pub mod Tracks
-pub mod Readings
 pub mod Waits
 pub mod Pairing
 pub mod Sides
-pub mod ByLabel
-pub mod Counterparts
 pub mod Colours
 pub mod Numbers
 pub mod Stores

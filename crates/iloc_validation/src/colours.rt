@@ -10,8 +10,8 @@ mod passes;
 use crate::colours::issue_order::IssueOrder;
 use crate::colours::mixing::total;
 use crate::colours::passes::{backwards, forwards};
-use crate::reading::sources::Sources;
 use crate::verification::Sides;
+use iloc_facts::Sources;
 use iloc_ops::NoMemory;
 use std::alloc::Global;
 

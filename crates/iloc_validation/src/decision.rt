@@ -16,21 +16,11 @@ use self::ours::{issue_the_same, paired_by_slot};
 use self::partners::{Budget, searched};
 use self::under_way::is_under_way;
 use crate::pairing::Pairing;
-use crate::reading::given::{givens, without_nops};
-use crate::reading::readings;
 use crate::verification::{Sides, is_schedule_under};
+use iloc_facts::{givens, readings, without_nops};
 use iloc_ops::{Block, NoMemory};
 use iloc_timed::{Latencies, Schedule};
 use std::alloc::Global;
-
-/// How many steps a search takes for each operation before it gives up. Blocks that aren't made to slow it take about 10.
-const STEPS: usize = 1000;
-
-/// How many operations are paired one after another, where a search gives up or ends.
-const DEPTH: usize = 3;
-
-/// How many partners are tried then, times the operations that are coloured anew for each.
-const WORK: usize = 1_000_000;
 
 /// What is decided of rows that somebody made for a block.
 #[derive(Debug, Drop)]
@@ -83,7 +73,12 @@ fn is_excluded(sides: &Sides, latencies: &Latencies) -> bool
 }
 
 /// What is decided of rows under other pairings than that by number.
-fn decided(alloc: Global, sides: &Sides, latencies: &Latencies) -> Result<Decision, NoMemory>
+fn decided(
+    alloc: Global,
+    sides: &Sides,
+    latencies: &Latencies,
+    blocks: usize,
+) -> Result<Decision, NoMemory>
     requires { AreSides latencies.now sides.now.block.now sides.now.givens.now sides.now.schedule.now
         sides.now.readings.now }
     ensures { IfOk result (IsDecisionOf latencies.now sides.now.block.now sides.now.schedule.now.ops
@@ -96,11 +91,7 @@ fn decided(alloc: Global, sides: &Sides, latencies: &Latencies) -> Result<Decisi
         Some(colours) => colours,
         None => return Ok(Decision::Unlawful),
     };
-    let budget = Budget {
-        depth: DEPTH,
-        tries: WORK.checked_div(sides.block.len()).unwrap_or(0),
-        steps: STEPS,
-    };
+    let budget = Budget::on_one_of(blocks, sides.block.len());
     searched(alloc, sides, &colours, latencies, budget)
 }
 
@@ -114,13 +105,14 @@ fn decided(alloc: Global, sides: &Sides, latencies: &Latencies) -> Result<Decisi
 /// whatever numbers its operations have.
 ///
 /// Of some rows neither is found: where operations are alike in so many ways that the search gives up, and counting doesn't
-/// exclude each way to pair three of them.
+/// exclude each way to pair three of them. `blocks` is how many are decided in all: the more, the sooner each search gives up.
 pub fn decide(
     alloc: Global,
     block: &Block,
     ours: &Schedule,
     theirs: &Schedule,
     latencies: &Latencies,
+    blocks: usize,
 ) -> Result<Decision, NoMemory>
     requires lawful { IsLawful latencies.now block.now.ops ours.now.ops ours.now.rows }
     ensures right { IfOk result (IsDecision latencies.now block.now.ops theirs.now.ops theirs.now.rows) }
@@ -143,6 +135,6 @@ pub fn decide(
     };
     match in_order(alloc, &sides, latencies)? {
         Some(pairing) => Ok(Decision::Lawful(pairing)),
-        None => decided(alloc, &sides, latencies),
+        None => decided(alloc, &sides, latencies, blocks),
     }
 }

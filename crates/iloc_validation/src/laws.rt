@@ -1,7 +1,5 @@
 //! Laws of schedules by the book, as contracts of functions that do nothing.
-ghost use Rattle.iloc_validation.specs.Laws.{ByTheBookKeepsTheOutcome};
-ghost use Rattle.iloc_validation.specs.Laws.{LawfulSchedulesAreByTheBook, OwnRowsAreByTheBook};
-ghost use Rattle.iloc_validation.specs.Laws.{CountsThatDifferExcludeByTheBook, WhatIsUnderWayExcludesByTheBook};
+ghost use Rattle.iloc_validation.specs.Laws.{ByTheBookKeepsTheOutcome, LawfulSchedulesAreByTheBook, OwnRowsAreByTheBook, CountsThatDifferExcludeByTheBook, WhatIsUnderWayExcludesByTheBook};
 
 /// Rows that are a schedule of a block by the book have the block's outcome, on every memory.
 ///

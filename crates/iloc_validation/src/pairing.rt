@@ -2,7 +2,7 @@
 ghost use Rattle.std.specs.Prelude.{◌≡◌, ◌<◌, ◌↔◌, ℕ, length, slice_index, option_map, IsTrue, IfOk};
 ghost use Rattle.iloc_validation.specs.Steps.Pairing.{LeadsBack};
 
-use crate::reading::sources::at;
+use crate::numbers::at;
 use iloc_ops::NoMemory;
 use std::alloc::Global;
 

@@ -6,8 +6,8 @@ ghost use Rattle.iloc_rules.specs.Renaming.{renamed, without_nops};
 ghost use Rattle.iloc_validation.specs.Decision.{IsScheduleBy};
 ghost use Rattle.iloc_validation.specs.OwnRows.{renumber, AreOwnRows};
 
+use crate::numbers::at;
 use crate::pairing::Pairing;
-use crate::reading::sources::at;
 use iloc_ops::{Block, NoMemory, Op};
 use iloc_timed::{Row, Schedule};
 use std::alloc::Global;

@@ -5,10 +5,9 @@ ghost use Rattle.iloc_validation.specs.Steps.Sides.{AreSides, IsKept};
 
 mod waits;
 
-use crate::label::have_one_label;
+use crate::numbers::{are_same, by_numbers};
 use crate::pairing::Pairing;
-use crate::reading::Reading;
-use crate::reading::sources::{Sources, are_same};
+use iloc_facts::{Reading, Sources, have_one_label};
 use iloc_ops::{NoMemory, Op};
 use iloc_timed::{Latencies, Schedule};
 use std::alloc::Global;
@@ -40,7 +39,10 @@ fn is_kept(sides: &Sides, pairing: &Pairing, waits: &[usize], k: usize) -> bool
     let i = pairing.origin[k];
     let reading = sides.readings[k];
     have_one_label(&sides.schedule.ops()[k], &sides.block[i])
-        && are_same(reading.sources.by_numbers(&pairing.origin), sides.givens[i])
+        && are_same(
+            by_numbers(reading.sources, &pairing.origin),
+            sides.givens[i],
+        )
         && waits[i] <= reading.cycle
 }
 

@@ -8,8 +8,8 @@ use Rattle.iloc_validation.specs.declared.backtracking.Found.{Found}
 use Rattle.iloc_validation.specs.declared.backtracking.Found.TheVariants.{Paired, NoPartner}
 use Rattle.iloc_validation.specs.declared.colours.Coloured.{Coloured}
 use Rattle.iloc_validation.specs.declared.decision.Decision.{Decision}
-use Rattle.iloc_validation.specs.declared.reading.Reading.{Reading}
-use Rattle.iloc_validation.specs.declared.reading.sources.Sources.{Sources}
+use Rattle.iloc_facts.specs.declared.reading.Reading.{Reading}
+use Rattle.iloc_facts.specs.declared.reading.sources.Sources.{Sources}
 use Rattle.iloc_validation.specs.declared.decision.Decision.TheVariants.{Lawful, Unlawful, Undecided}
 use Rattle.iloc_validation.specs.ByTheBook.{IsScheduleUnder}
 use Rattle.iloc_validation.specs.Decision.{IsScheduleBy}

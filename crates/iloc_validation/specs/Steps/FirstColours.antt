@@ -7,11 +7,11 @@ use Rattle.iloc_timed.specs.declared.kind.Kind.TheVariants as K
 use Rattle.iloc_timed.specs.declared.row.Row.{Row}
 use Rattle.iloc_timed.specs.Kinds.{kind, is_store, is_output}
 use Rattle.iloc_timed.specs.Rows.{issue_cycle}
-use Rattle.iloc_validation.specs.declared.by_label.ByLabel.{ByLabel}
+use Rattle.iloc_facts.specs.declared.by_label.ByLabel.{ByLabel}
 use Rattle.iloc_validation.specs.declared.decision.first_colours.Places.{Places}
-use Rattle.iloc_validation.specs.ByTheBook.{issued_before}
+use Rattle.iloc_facts.specs.Readings.{issued_before}
 use Rattle.iloc_validation.specs.Steps.Colours.{mixed}
-use Rattle.iloc_validation.specs.Steps.ByLabel.{number_like}
+use Rattle.iloc_facts.specs.ByLabel.{number_like}
 
 -- that of a label: the number of one of the block's operations that have it; or that of no operation
 abbrev pub label_colour : ByLabel → Op → ℕ

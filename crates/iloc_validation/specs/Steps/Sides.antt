@@ -7,11 +7,11 @@ use Rattle.iloc_timed.specs.declared.latencies.Latencies.{Latencies}
 use Rattle.iloc_timed.specs.Limits.{MAX_ROWS}
 use Rattle.iloc_timed.specs.Rows.{IsTable}
 use Rattle.iloc_timed.specs.Schedule.{Table}
-use Rattle.iloc_validation.specs.declared.reading.Reading.{Reading}
-use Rattle.iloc_validation.specs.declared.reading.sources.Sources.{Sources}
-use Rattle.iloc_validation.specs.ByTheBook.{given, label}
+use Rattle.iloc_facts.specs.declared.reading.Reading.{Reading}
+use Rattle.iloc_facts.specs.declared.reading.sources.Sources.{Sources}
+use Rattle.iloc_facts.specs.Readings.{given, sources_of, sources_at, reading_at, reading_of}
+use Rattle.iloc_facts.specs.Labels.{label}
 use Rattle.iloc_validation.specs.Steps.Sources.{by_numbers}
-use Rattle.iloc_validation.specs.Readings.{sources_of, sources_at, reading_at, reading_of}
 
 -- what is noted of the operations of a block and of rows is what they read
 pub record AreSides (lat : Latencies) (block : List Op) (givens : List Sources) (schedule : Table) (readings : List Reading)

@@ -1,7 +1,7 @@
 -- What operations read, by other numbers.
 use Rattle.std.specs.Prelude.{ℕ, option_map}
-use Rattle.iloc_validation.specs.declared.reading.sources.Sources.{Sources}
-use Rattle.iloc_validation.specs.declared.reading.sources.Sources.TheVariants.{Nothing, One, Two}
+use Rattle.iloc_facts.specs.declared.reading.sources.Sources.{Sources}
+use Rattle.iloc_facts.specs.declared.reading.sources.Sources.TheVariants.{Nothing, One, Two}
 
 -- the same operations by other numbers
 abbrev pub by_numbers : (ℕ → ℕ) → Sources → Sources

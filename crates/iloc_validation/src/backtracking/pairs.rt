@@ -1,7 +1,7 @@
 //! Pairs of operations, as far as they are found.
 
+use crate::numbers::{NONE, at, put};
 use crate::pairing::Pairing;
-use crate::reading::sources::{NONE, at, put};
 use iloc_ops::NoMemory;
 use std::alloc::Global;
 

@@ -2,8 +2,8 @@
 
 use super::graph::{Graph, Reader};
 use super::pairs::Pairs;
+use crate::numbers::NONE;
 use crate::pairing::Pairing;
-use crate::reading::sources::NONE;
 use iloc_ops::NoMemory;
 use std::alloc::Global;
 

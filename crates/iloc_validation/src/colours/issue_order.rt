@@ -2,9 +2,9 @@
 ghost use Rattle.std.specs.Prelude.{◌≡◌, ◌<◌, ◌↔◌, ℕ, true, length, slice_index, IsTrue, IfOk, IfSome};
 ghost use Rattle.iloc_validation.specs.Steps.Colours.{IsBelow, AreReadAt, IsOrderOf};
 
+use crate::numbers::{are_same, by_numbers};
 use crate::pairing::leads_back;
-use crate::reading::Reading;
-use crate::reading::sources::{Sources, are_same};
+use iloc_facts::{Reading, Sources};
 use iloc_ops::NoMemory;
 use iloc_timed::Row;
 use std::alloc::Global;
@@ -59,7 +59,7 @@ fn sources_by_place(
     let mut sources = Vec::with_capacity(alloc, ops.len())?;
     for k in ops {
         let reads = match readings.get(*k) {
-            Some(reading) => reading.sources.by_numbers(places),
+            Some(reading) => by_numbers(reading.sources, places),
             None => Sources::Nothing,
         };
         sources.push(reads)?;
@@ -96,7 +96,7 @@ fn are_read(ops: &[usize], sources: &[Sources], readings: &[Reading]) -> bool
 {
     for (p, k) in ops.iter().enumerate() {
         let reads = sources[p];
-        if !is_below(reads, p) || !are_same(reads.by_numbers(ops), readings[*k].sources) {
+        if !is_below(reads, p) || !are_same(by_numbers(reads, ops), readings[*k].sources) {
             return false;
         }
     }

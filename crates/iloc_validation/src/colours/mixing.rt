@@ -2,7 +2,7 @@
 ghost use Rattle.std.specs.Prelude.{◌≡◌, ◌%◌, ◌^◌, slice_index, sum_by};
 ghost use Rattle.iloc_validation.specs.Steps.Colours.{mixed, stirred, told, with_told};
 
-use crate::reading::sources::Sources;
+use iloc_facts::Sources;
 
 /// The colour of the start of a register, and of no operation but by chance.
 pub(crate) const START: u64 = 1 << 63;

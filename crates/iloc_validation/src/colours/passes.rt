@@ -3,7 +3,7 @@ ghost use Rattle.std.specs.Prelude.{◌≡◌, ◌<◌, ◌+◌, ◌%◌, ◌^�
 ghost use Rattle.iloc_validation.specs.Steps.Colours.{said, heard_of, AreForwards, AreBackwards};
 
 use super::mixing::{mix, with_told};
-use crate::reading::sources::Sources;
+use iloc_facts::Sources;
 use iloc_ops::NoMemory;
 use std::alloc::Global;
 

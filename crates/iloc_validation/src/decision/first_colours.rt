@@ -5,11 +5,11 @@ ghost use Rattle.iloc_validation.specs.Steps.Decisions.{AreKeptColours};
 ghost use Rattle.iloc_validation.specs.Steps.FirstColours.{label_colour, first_here, first_there};
 ghost use Rattle.iloc_validation.specs.Steps.Sides.{AreSides};
 
-use crate::by_label::ByLabel;
 use crate::colours::mixing::mix;
 use crate::colours::{Coloured, kept_colours};
-use crate::reading::sources::NONE;
+use crate::numbers::NONE;
 use crate::verification::Sides;
+use iloc_facts::ByLabel;
 use iloc_ops::{NoMemory, Op};
 use iloc_timed::{Kind, Schedule};
 use std::alloc::Global;

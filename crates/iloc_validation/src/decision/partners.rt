@@ -14,8 +14,23 @@ use iloc_ops::NoMemory;
 use iloc_timed::Latencies;
 use std::alloc::Global;
 
-/// How many steps a search takes for each operation, where two have a colour of their own.
+/// How many steps a search takes for each operation before it gives up. Blocks that aren't made to slow it take about 10.
+const STEPS: usize = 1000;
+
+/// How many it takes at least, and where two operations have a colour of their own.
 const FEW_STEPS: usize = 50;
+
+/// How many steps the searches for all blocks together take, if that leaves them enough: some 0.4 s.
+const ALL_STEPS: usize = 10_000_000;
+
+/// How many operations are paired one after another, where a search gives up or ends.
+const DEPTH: usize = 3;
+
+/// How many partners are tried then, times the operations that are coloured anew for each.
+const WORK: usize = 1_000_000;
+
+/// The same for all blocks together.
+const ALL_WORK: usize = 10_000_000;
 
 /// Colours in which an operation has the colour of none but by chance.
 fn marked(alloc: Global, colours: &[u64], place: usize) -> Result<Vec<u64>, NoMemory>
@@ -83,6 +98,19 @@ pub(crate) struct Budget {
     pub tries: usize,
     /// How many steps each search takes for each operation.
     pub steps: usize,
+}
+
+impl Budget {
+    /// For one of so many blocks, with so many operations: the more of both, the less for each operation. It depends on
+    /// nothing else, so it is the same in whatever order the blocks are judged.
+    pub(crate) fn on_one_of(blocks: usize, operations: usize) -> Budget {
+        let all = blocks.saturating_mul(operations).max(1);
+        Budget {
+            depth: DEPTH,
+            tries: (ALL_WORK / all).min(WORK / operations.max(1)),
+            steps: (ALL_STEPS / all).max(FEW_STEPS).min(STEPS),
+        }
+    }
 }
 
 /// What is left of a budget for each of the operations that have a colour: no try, if they are too many.

@@ -4,7 +4,7 @@ ghost use Rattle.iloc_timed.specs.declared.kind.Kind.TheVariants as K;
 ghost use Rattle.iloc_timed.specs.Kinds.{is_store};
 ghost use Rattle.iloc_timed.specs.Rows.{kind_in, is_some_kind};
 ghost use Rattle.iloc_rules.specs.Delays.{reads_stored};
-ghost use Rattle.iloc_validation.specs.UnderWay.{IsUnderWay};
+ghost use Rattle.iloc_facts.specs.UnderWay.{IsUnderWay};
 
 use iloc_ops::Op;
 use iloc_timed::{Kind, Latencies, Row, Schedule};

@@ -2,10 +2,10 @@
 ghost use Rattle.std.specs.Prelude.{◌≡◌, ◌<◌, ◌≤◌, ◌+◌, ℕ, max, fold, map, length, slice_index, IfOk};
 ghost use Rattle.iloc_meaning.specs.Trace.{op_at};
 ghost use Rattle.iloc_timed.specs.Kinds.{kind};
-ghost use Rattle.iloc_validation.specs.Readings.{reading_at};
+ghost use Rattle.iloc_facts.specs.Readings.{reading_at};
 ghost use Rattle.iloc_validation.specs.Steps.Waits.{earliest};
 
-use crate::reading::Reading;
+use iloc_facts::Reading;
 use iloc_ops::{NoMemory, Op};
 use iloc_timed::{Kind, Latencies, MAX_ROWS};
 use std::alloc::Global;

@@ -3,7 +3,7 @@ use Rattle.std.specs.Prelude.{slice_set}
 use Rattle.std.proofs.lemmas.Bool.{cases_lt}
 use Rattle.std.proofs.lemmas.List.{get_or_default, length-set}
 use Rattle.iloc_validation.specs.Steps.Colours.{mixed, heard, heard_of}
-use Rattle.iloc_validation.specs.Readings.{sources_at}
+use Rattle.iloc_facts.specs.Readings.{sources_at}
 use Rattle.iloc_validation.proofs.BackwardColours.{heard_more, heard_stays}
 use Rattle.iloc_validation.proofs.colours.passes.backwards.Goals as goal
 

@@ -1,5 +1,5 @@
 use Rattle.std.proofs.Common.{length}
-use Rattle.iloc_validation.specs.ByTheBook.{issued_before}
+use Rattle.iloc_facts.specs.Readings.{issued_before}
 use Rattle.iloc_validation.specs.Steps.FirstColours.{ArePlaces, first_there}
 use Rattle.iloc_validation.specs.Steps.Numbers.{AreNotedBefore}
 use Rattle.iloc_validation.proofs.decision.first_colours.first_there.Given as goal

@@ -1,0 +1,5 @@
+pub mod Comparison
+pub mod Difference
+pub mod Memory
+pub mod Void
+pub mod Steps

@@ -1,0 +1,27 @@
+-- What is left out of rows, and what is added, by what lacks a counterpart.
+use Rattle.std.proofs.Common.{◌≡◌, List, Some, sym, ◌∙◌, subst}
+use Rattle.std.proofs.lemmas.List.{get_or_default}
+use Rattle.iloc_ops.specs.declared.op.Op.{Op}
+use Rattle.iloc_ops.specs.declared.op.Op.TheVariants.{Nop}
+use Rattle.iloc_meaning.specs.Trace.{op_at}
+use Rattle.iloc_timed.specs.declared.row.Row.{Row}
+use Rattle.iloc_facts.specs.declared.lawfulness.Issue.{Issue}
+use Rattle.iloc_facts.specs.declared.counterparts.lacking.Lacking.{Lacking}
+use Rattle.iloc_facts.specs.Lawfulness.{issue_of, AreLeftOut, AreAdded}
+use Rattle.iloc_facts.specs.Counts.{AreLacking, IsShort}
+
+pub left_out_is : (block ops : List Op) (it : Lacking) (op : Op) → AreLacking block ops it → op ≡ op_at block it.number
+    → AreLeftOut block ops (Some (record { count = it.count; op = op }))
+left_out_is block ops it op are is = (
+  are.count,
+  (it.number, are.within, get_or_default block it.number op Nop are.within ∙ sym is),
+  subst (λ o. IsShort o block ops) (sym is) are.short,
+)
+
+pub added_is : (block ops : List Op) (rows : List Row) (it : Lacking) (issue : Issue) → AreLacking ops block it
+    → issue ≡ issue_of ops rows it.number → AreAdded block ops rows (Some (record { count = it.count; issue = issue }))
+added_is block ops rows it issue are is = (
+  are.count,
+  (it.number, are.within, is),
+  subst (λ (i : Issue). IsShort i.op ops block) (sym is) are.short,
+)

@@ -1,0 +1,13 @@
+pub mod Issues
+pub mod ReadValues
+pub mod LabelKeys
+pub mod SourceLists
+pub mod Tracking
+pub mod ReadingRows
+pub mod GivenSources
+pub mod AlikeOps
+pub mod CountsLike
+pub mod NthLike
+pub mod SameOps
+pub mod NumberedLabels
+pub mod Changes

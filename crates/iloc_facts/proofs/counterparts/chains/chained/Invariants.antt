@@ -1,0 +1,6 @@
+use Rattle.std.proofs.Common.{◌≡◌, ◌+◌, ℕ, length}
+use Rattle.iloc_facts.specs.Steps.Counterparts.{AreChained}
+use Rattle.iloc_facts.proofs.counterparts.chains.chained.Given as goal
+
+abbrev pub invariant-loop-place : goal.invariant-loop-place
+invariant-loop-place l = (k : ℕ) → k + l.place ≡ length l.ops → AreChained l.ops k l.chains

@@ -1,0 +1,9 @@
+use Rattle.std.proofs.Common.{◌≡◌, ◌≤◌, take}
+use Rattle.iloc_facts.specs.Counts.{count_like}
+use Rattle.iloc_facts.proofs.label.count_like.Given as goal
+
+abbrev pub invariant-loop-other : goal.invariant-loop-other
+invariant-loop-other l = record {
+  count : l.count ≡ count_like l.op (take l.other-index l.ops);
+  few : l.count ≤ l.other-index;
+}

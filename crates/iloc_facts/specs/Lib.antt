@@ -1,0 +1,9 @@
+pub mod Readings
+pub mod UnderWay
+pub mod Labels
+pub mod Counts
+pub mod ByLabel
+pub mod Lawfulness
+pub mod Facts
+pub mod Reasons
+pub mod Steps

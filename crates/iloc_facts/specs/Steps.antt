@@ -1,0 +1,4 @@
+-- What the code does piece by piece, as steps of proof: no contract of a public function names them.
+pub mod Tracks
+pub mod Readings
+pub mod Counterparts

@@ -1,9 +1,0 @@
-use Rattle.std.proofs.Common.{◌≡◌, ◌++◌, take}
-use Rattle.std.specs.Prelude.{codes}
-use Rattle.std.specs.List.{flat_map}
-use Rattle.iloc_judge.specs.Entry.Json.{fact_value}
-use Rattle.iloc_judge.proofs.json.reason.push_rest.Given as goal
-
-abbrev pub invariant-loop-fact : goal.invariant-loop-fact
-invariant-loop-fact l =
-    l.text.items ≡ l.initial.text.items ++ flat_map (λ f. codes "," ++ fact_value f) (take l.fact-index l.facts)

@@ -1,5 +1,0 @@
-use Rattle.std.proofs.Common.{◌≡◌, vec_len}
-use Rattle.iloc_judge.proofs.refutation.probe.Probe.without.Given as goal
-
-abbrev pub invariant-loop-index : goal.invariant-loop-index
-invariant-loop-index l = vec_len l.words ≡ vec_len l.self.words

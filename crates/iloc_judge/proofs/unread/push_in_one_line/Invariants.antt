@@ -1,6 +1,0 @@
-use Rattle.std.proofs.Common.{◌≡◌, ◌++◌, take}
-use Rattle.iloc_judge.specs.Unread.{in_one_line}
-use Rattle.iloc_judge.proofs.unread.push_in_one_line.Given as goal
-
-abbrev pub invariant-loop-byte : goal.invariant-loop-byte
-invariant-loop-byte l = l.text.items ≡ l.fn.text.items ++ in_one_line (take l.byte-index l.fn.words)

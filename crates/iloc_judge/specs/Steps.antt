@@ -1,4 +1,0 @@
--- What the code does piece by piece, as steps of proof: no contract of a public function names them.
-pub mod Difference
-pub mod Refuting
-pub mod Counted

@@ -1,0 +1,15 @@
+use Rattle.std.proofs.Common.{◌≡◌, get_or}
+use Rattle.std.proofs.lemmas.List.{get_or_default}
+use Rattle.iloc_ops.specs.declared.op.Op.{Op}
+use Rattle.iloc_ops.specs.declared.op.Op.TheVariants.{Nop}
+use Rattle.iloc_meaning.specs.Trace.{op_at}
+use Rattle.iloc_facts.proofs.Changes.{left_out_is}
+use Rattle.iloc_verdict.proofs.checked.changes.left_out.Goals as goal
+
+pub returns-in-Some : goal.returns-in-Some
+returns-in-Some c =
+    let block = c.args.block.now in
+    let are = rw c.in-Some.is at c.in_ok-it.ensures.some in
+    let same : (d : Op) → get_or block c.in-Some.it.number d ≡ op_at block c.in-Some.it.number =
+    λ d. get_or_default block c.in-Some.it.number d Nop are.within in
+    left_out_is block c.args.ops.now c.in-Some.it _ are (same _)

@@ -1,0 +1,54 @@
+-- What is found of the rows that are proposed for a block, by their verdict.
+use Rattle.std.specs.Prelude.{◌&&◌, not, Bool, true, false, List, Option}
+use Rattle.iloc_ops.specs.declared.op.Op.{Op}
+use Rattle.iloc_timed.specs.declared.latencies.Latencies.{Latencies}
+use Rattle.iloc_timed.specs.Cycles.{cycles}
+use Rattle.iloc_timed.specs.Schedule.{Table}
+use Rattle.iloc_rows.specs.declared.proposal.Proposed.{Proposed}
+use Rattle.iloc_rules.specs.Least.{least}
+use Rattle.iloc_rules.specs.declared.sought.Sought.{Sought}
+use Rattle.iloc_comparison.specs.declared.comparison.Comparison.{Comparison}
+use Rattle.iloc_comparison.specs.declared.comparison.Comparison.TheVariants as of
+use Rattle.iloc_verdict.specs.declared.verdict.Verdict.{Verdict}
+use Rattle.iloc_verdict.specs.declared.verdict.Verdict.TheVariants.{Units, Lawful, Unlawful, Undecided}
+use Rattle.iloc_verdict.specs.declared.verdict.kind.VerdictKind.{VerdictKind}
+use Rattle.iloc_verdict.specs.declared.verdict.kind.VerdictKind.TheVariants as kind
+use Rattle.iloc_verdict.specs.declared.checked.Checked.{Checked}
+
+abbrev pub compared_kind : Comparison → VerdictKind
+compared_kind (of.Void why) = kind.Void
+compared_kind of.Same = kind.Same
+compared_kind of.Prints = kind.Prints
+compared_kind of.Agrees = kind.Agrees
+compared_kind (of.Differs difference) = kind.Differs
+compared_kind (of.DiffersOn probe difference) = kind.Differs
+
+-- A verdict in a word. Where nothing but rows by the book passes, that this isn't decided comes before how they compare.
+abbrev pub kind_of : Bool → Verdict → VerdictKind
+kind_of lawful (Units c changes) = kind.Units
+kind_of lawful Lawful = kind.Lawful
+kind_of lawful (Unlawful reasons found) = compared_kind found
+kind_of true (Undecided found) = kind.Undecided
+kind_of false (Undecided found) = compared_kind found
+
+-- what goes with a word: whether the block's operations are kept, what was sought, the cycles of what is proposed, those of our
+-- schedule, and the least
+abbrev pub found : VerdictKind → Bool → Option Sought → Latencies → List Op → Table → Proposed → Checked
+found word keeps sought lat block ours proposal = record {
+  kind = word;
+  keeps_operations = keeps;
+  cycles = cycles lat proposal.ops proposal.rows;
+  ours = cycles lat ours.ops ours.rows;
+  sought = sought;
+  least = least lat block;
+}
+
+-- whether rows of this verdict pass, where nothing but rows by the book does or where others may
+abbrev pub is_passing : Bool → VerdictKind → Bool
+is_passing lawful kind.Lawful = true
+is_passing lawful kind.Same = not lawful
+is_passing lawful kind.Prints = not lawful
+is_passing lawful word = false
+
+abbrev pub passes : Bool → Checked → Bool
+passes lawful checked = checked.keeps_operations && is_passing lawful checked.kind

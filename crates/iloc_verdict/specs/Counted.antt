@@ -1,0 +1,26 @@
+-- Which verdicts can be listed: outputs are counted from 1.
+use Rattle.std.specs.Prelude.{◌+◌, ◌<◌, ◌^◌, List, length}
+use Rattle.iloc_timed.specs.declared.row.Row.{Row}
+use Rattle.iloc_comparison.specs.declared.comparison.Comparison.{Comparison}
+use Rattle.iloc_comparison.specs.declared.comparison.Comparison.TheVariants as of
+use Rattle.iloc_comparison.specs.declared.difference.Difference.{Difference}
+use Rattle.iloc_comparison.specs.declared.difference.Difference.TheVariants.{Output}
+use Rattle.iloc_verdict.specs.declared.verdict.Verdict.{Verdict}
+use Rattle.iloc_verdict.specs.declared.verdict.Verdict.TheVariants.{Units, Lawful, Unlawful, Undecided}
+
+-- the number of an output fits 64 bits
+abbrev pub IsCounted : Difference → Type 0
+IsCounted (Output index got wanted) = index + 1 < 2 ^ 64
+IsCounted _ = Unit {0}
+
+abbrev pub CanBeCompared : Comparison → Type 0
+CanBeCompared (of.Differs difference) = IsCounted difference
+CanBeCompared (of.DiffersOn probe difference) = IsCounted difference
+CanBeCompared _ = Unit {0}
+
+-- a bad row is one of the rows, and the number of an output fits
+abbrev pub CanBeListed : List Row → Verdict → Type 0
+CanBeListed rows (Units c changes) = c < length rows
+CanBeListed rows Lawful = Unit {0}
+CanBeListed rows (Unlawful reasons found) = CanBeCompared found
+CanBeListed rows (Undecided found) = CanBeCompared found

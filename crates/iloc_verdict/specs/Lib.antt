@@ -1,0 +1,7 @@
+pub mod Changes
+pub mod Checked
+pub mod Unread
+pub mod Entry
+pub mod Kept
+pub mod UnitRule
+pub mod Counted
