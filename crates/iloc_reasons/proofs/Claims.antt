@@ -1,27 +1,26 @@
 -- What is claimed of operations of rows is a fact, where it was seen to hold.
-use Rattle.std.proofs.Common.{◌≡◌, ◌≢◌, ◌<◌, ◌≤◌, ℕ, zero, suc, List, [], ◌∷◌, length, Option, Some, sym, ap, ◌∙◌, subst, arith}
-use Rattle.std.specs.Prelude.{slice_get, Contains}
-use Rattle.std.proofs.lemmas.List.{get_or_default}
+use Rattle.std.proofs.Common.{◌≡◌, ◌≢◌, ◌<◌, ◌≤◌, ℕ, zero, suc, List, [], ◌∷◌, length, map, Option, Some, sym, ap, ◌∙◌, arith}
+use Rattle.std.specs.Prelude.{slice_get, slice_index, Contains, None}
+use Rattle.std.specs.Ordering.{nat_cmp}
+use Rattle.std.specs.BTreeMap.{get}
 use Rattle.std.proofs.lemmas.Option.{get_or_from_slice_get, slice_get_within}
 use Rattle.iloc_ops.specs.declared.op.Reg.{Reg}
 use Rattle.iloc_ops.specs.declared.op.Op.{Op}
-use Rattle.iloc_ops.specs.declared.op.Op.TheVariants.{Nop}
 use Rattle.iloc_ops.specs.Registers.{used, defined}
 use Rattle.iloc_meaning.specs.Trace.{op_at}
 use Rattle.iloc_timed.specs.declared.latencies.Latencies.{Latencies}
 use Rattle.iloc_timed.specs.declared.row.Row.{Row}
 use Rattle.iloc_timed.specs.Rows.{issue_cycle}
-use Rattle.iloc_validation.specs.declared.lawfulness.Issue.{Issue}
-use Rattle.iloc_validation.specs.declared.reading.Reading.{Reading}
-use Rattle.iloc_validation.specs.declared.counterparts.lacking.Lacking.{Lacking}
-use Rattle.iloc_validation.specs.ByTheBook.{due, read}
-use Rattle.iloc_validation.specs.Lawfulness.{issue_of, AreLeftOut, AreAdded}
-use Rattle.iloc_validation.specs.Counts.{AreLacking, IsShort}
-use Rattle.iloc_validation.specs.Readings.{reading_of, sources_of}
-use Rattle.iloc_validation.proofs.SourceLists.{few_used}
-use Rattle.iloc_reasons.specs.declared.fact.Fact.TheVariants.{Brings, Replaced}
-use Rattle.iloc_reasons.specs.Facts.{IsIssued, HasBeenThere, IsFact}
-use Rattle.iloc_reasons.specs.Steps.Sides.{source_at}
+use Rattle.iloc_facts.specs.declared.lawfulness.Issue.{Issue}
+use Rattle.iloc_facts.specs.declared.reading.Reading.{Reading}
+use Rattle.iloc_facts.specs.Readings.{due, given, read, reading_of, sources_of}
+use Rattle.iloc_facts.specs.Labels.{label}
+use Rattle.iloc_facts.proofs.SourceLists.{few_used}
+use Rattle.iloc_facts.specs.declared.fact.Fact.TheVariants.{Brings, For, LikeNone, Replaced, See}
+use Rattle.iloc_reasons.specs.declared.likeness.Terms.{Terms}
+use Rattle.iloc_facts.specs.Facts.{AreAllSources, IsCounterpart, IsIssued, HasBeenThere, IsFact}
+use Rattle.iloc_reasons.specs.Steps.Likeness.{TellApart}
+use Rattle.iloc_reasons.specs.Steps.Sides.{AreAllRead, source_at}
 
 -- what stands at a place of a list is in it
 pub contained : {X : Type 0} (xs : List X) (place : ℕ) (x : X) → slice_get xs place ≡ Some x → Contains xs x
@@ -38,22 +37,16 @@ source_there f (a ∷ b ∷ []) (suc zero) r few is = let same : b ≡ r = cc in
 source_there f (a ∷ b ∷ []) (suc (suc place)) r few is = absurd cc
 source_there f (a ∷ b ∷ c ∷ rest) place r few is = absurd (omega arith)
 
--- what is left out, and what is added
-pub left_out_is : (block ops : List Op) (it : Lacking) (op : Op) → AreLacking block ops it → op ≡ op_at block it.number
-    → AreLeftOut block ops (Some (record { count = it.count; op = op }))
-left_out_is block ops it op are is = (
-  are.count,
-  (it.number, are.within, get_or_default block it.number op Nop are.within ∙ sym is),
-  subst (λ o. IsShort o block ops) (sym is) are.short,
-)
-
-pub added_is : (block ops : List Op) (rows : List Row) (it : Lacking) (issue : Issue) → AreLacking ops block it
-    → issue ≡ issue_of ops rows it.number → AreAdded block ops rows (Some (record { count = it.count; issue = issue }))
-added_is block ops rows it issue are is = (
-  are.count,
-  (it.number, are.within, is),
-  subst (λ (i : Issue). IsShort i.op ops block) (sym is) are.short,
-)
+-- what holds of all that is read in registers holds of it as noted
+all_read : (Alike : ℕ → ℕ → Type 0) (f g : Reg → Option ℕ) (rs ss : List Reg) → AreAllSources Alike (map f rs) (map g ss)
+    → AreAllRead Alike (sources_of f rs) (sources_of g ss)
+all_read Alike f g [] [] all = tt
+all_read Alike f g [] (s ∷ ss) all = absurd all
+all_read Alike f g (r ∷ rs) [] all = absurd all
+all_read Alike f g (r ∷ []) (s ∷ []) all = all.0
+all_read Alike f g (r ∷ []) (s ∷ t ∷ ss) all = tt
+all_read Alike f g (r ∷ q ∷ rs) (s ∷ []) all = tt
+all_read Alike f g (r ∷ q ∷ rs) (s ∷ t ∷ ss) all = (all.0, all.1.0)
 
 module _ (lat : Latencies) (block ops : List Op) (rows : List Row) where
   pub brings_fact : (k l : ℕ) (issue late : Issue) (register : Reg) (place arrives : ℕ) → IsIssued ops rows k issue
@@ -96,3 +89,35 @@ module _ (lat : Latencies) (block ops : List Op) (rows : List Row) where
         there = there;
         before = before;
       }
+
+  pub for_fact : (terms : Terms) (k i : ℕ) (issue : Issue) (op : Op) → TellApart lat block ops rows terms → IsIssued ops rows k issue
+      → i < length block → label (op_at block i) ≡ label issue.op → op ≡ op_at block i
+      → slice_index terms.block.items i ≢ slice_index terms.rows.items k → IsFact lat block ops rows (For issue i op)
+  for_fact terms k i issue op apart here inside same is differ = record {
+    k = k;
+    here = here;
+    there = (inside, same);
+    is = is;
+    unlike = apart.unlike i k inside here.within differ;
+  }
+
+  pub like_none_fact : (terms : Terms) (k : ℕ) (issue : Issue) → TellApart lat block ops rows terms → IsIssued ops rows k issue
+      → get nat_cmp terms.known (slice_index terms.rows.items k) ≡ None → IsFact lat block ops rows (LikeNone issue)
+  like_none_fact terms k issue apart here none = record {
+    k = k;
+    here = here;
+    none = λ i inside. apart.unlike i k inside here.within
+        (λ same. apart.known i inside (ap (get nat_cmp terms.known) same ∙ none));
+  }
+
+  pub see_fact : (k i : ℕ) (issue : Issue) → IsIssued ops rows k issue → IsCounterpart block ops i k
+      → (AreAllRead (IsCounterpart block ops) (sources_of (given block i) (used (op_at block i)))
+      (sources_of (read lat ops rows (issue_cycle rows k)) (used (op_at ops k))) → ⊥) → IsFact lat block ops rows (See issue)
+  see_fact k i issue here there otherwise = record {
+    k = k;
+    i = i;
+    here = here;
+    there = there;
+    otherwise = λ all. otherwise (all_read (IsCounterpart block ops) (given block i) (read lat ops rows (issue_cycle rows k))
+        (used (op_at block i)) (used (op_at ops k)) all);
+  }

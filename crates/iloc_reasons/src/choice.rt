@@ -12,18 +12,16 @@ mod known;
 mod lines;
 mod missing;
 mod orders;
-mod side;
-pub(crate) mod standing_out;
+pub(crate) mod side;
 mod strays;
 mod walk;
 
 use self::counts::Counts;
 use self::graph::Graph;
-use self::lines::Lines;
 use self::missing::Missing;
 use self::side::{Side, effects, paired};
 use self::strays::Strays;
-use self::walk::Walk;
+use self::walk::{Found, Said, Walk};
 use crate::claim::Claim;
 use crate::sides::Sides;
 use iloc_ops::NoMemory;
@@ -35,8 +33,6 @@ use std::collections::BTreeMap;
 pub(crate) struct Choice {
     /// In the order in which it is listed.
     pub claims: Vec<Claim>,
-    /// Of operations that stand for ones of the block that are spelled alike, or compute the same.
-    pub own: Vec<Claim>,
     /// The operation of the block that is named as left out.
     pub left_out: Option<usize>,
     /// The operation of the rows that is named as added.
@@ -63,25 +59,33 @@ fn begun<'a>(
     read: &'a BTreeMap<usize, usize>,
 ) -> Result<Walk<'a>, NoMemory> {
     let short = short(alloc, block.graph, rows.graph)?;
-    let counterparts = paired(alloc, rows, block)?;
-    let count = rows.terms.len();
+    let counterparts = paired(alloc, &rows.both, &block.both)?;
     Ok(Walk {
         alloc,
         sides,
         block,
         rows,
         missing: Missing::of(alloc, block, short, &counterparts)?,
-        definers: Lines::new(alloc, count)?,
-        meant: Vec::from_slice(alloc, &rows.terms)?,
         strays: Strays::none(alloc, rows.graph, &counterparts, read)?,
-        counterparts,
-        partners: vec![in alloc; None; count]?,
+        found: Found::of(alloc, rows, counterparts)?,
         store: None,
-        moved: Vec::new(alloc),
-        claims: Vec::new(alloc),
-        doubts: Vec::new(alloc),
-        unlike: None,
+        said: Said::nothing(alloc),
     })
+}
+
+/// What is claimed of rows, gone through from first to last.
+fn walked(
+    alloc: Global,
+    sides: &Sides,
+    block: &Side,
+    rows: &Side,
+    read: &BTreeMap<usize, usize>,
+) -> Result<Choice, NoMemory> {
+    let mut walk = begun(alloc, sides, block, rows, read)?;
+    for row in sides.schedule.rows() {
+        walk.pass(row)?;
+    }
+    walk.choice()
 }
 
 /// What is claimed of rows, whose operations and those of the block are these.
@@ -95,9 +99,5 @@ pub(crate) fn chosen(
     let places_count = effects(here) == effects(there);
     let block = Side::of(alloc, here, places_count)?;
     let rows = Side::of(alloc, there, places_count)?;
-    let mut walk = begun(alloc, sides, &block, &rows, read)?;
-    for row in sides.schedule.rows() {
-        walk.pass(row)?;
-    }
-    walk.into_choice()
+    walked(alloc, sides, &block, &rows, read)
 }

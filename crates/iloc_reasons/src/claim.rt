@@ -3,17 +3,16 @@ ghost use Rattle.std.specs.Prelude.{◌≡◌, ◌<◌, ◌⊎◌, true, Some, I
 ghost use Rattle.iloc_ops.specs.Registers.{used};
 ghost use Rattle.iloc_timed.specs.declared.kind.Kind.TheVariants as kinds;
 ghost use Rattle.iloc_rules.specs.Delays.{keeps_order};
-ghost use Rattle.iloc_reasons.specs.Facts.{AreAgainst, HasBeenThere, HasLabel, IsFact};
+ghost use Rattle.iloc_facts.specs.Facts.{AreAgainst, HasBeenThere, HasLabel, IsFact};
 ghost use Rattle.iloc_reasons.specs.Steps.Likeness.{TellApart};
 ghost use Rattle.iloc_reasons.specs.Steps.Sides.{AreNoted, AreRead, source_at};
 
-use crate::fact::Fact;
 use crate::likeness::Terms;
 use crate::sides::Sides;
 use crate::terms::at;
+use iloc_facts::{Fact, Issue, Sources, have_one_label};
 use iloc_ops::{Op, Reg, defines, uses};
 use iloc_timed::Kind;
-use iloc_validation::{Issue, Sources, have_one_label};
 use std::collections::BTreeMap;
 
 /// What may be a fact of operation k of rows.
@@ -40,8 +39,6 @@ pub(crate) enum What {
     For { op: usize },
     /// None of the block is like it.
     LikeNone,
-    /// It is to be looked at.
-    See,
 }
 
 /// Whether an operation of this kind waits for the stores that are under way.
@@ -228,15 +225,17 @@ fn ordered(sides: &Sides, k: usize, other: usize, i: usize, o: usize) -> Option<
     None
 }
 
-/// Operation k has the label of operation i of the block.
-fn stands_for(sides: &Sides, k: usize, i: usize) -> Option<Fact>
-    requires { AreRead sides.now.latencies.now sides.now.schedule.now.ops sides.now.schedule.now.rows sides.now.readings.now }
+/// Operation k has the label of operation i of the block, and isn't alike to it.
+fn stands_for(sides: &Sides, terms: &Terms, k: usize, i: usize) -> Option<Fact>
+    requires read { AreRead sides.now.latencies.now sides.now.schedule.now.ops sides.now.schedule.now.rows sides.now.readings.now }
+    requires terms { TellApart sides.now.latencies.now sides.now.block.now sides.now.schedule.now.ops
+        sides.now.schedule.now.rows terms.now }
     ensures { IfSome result (IsFact sides.now.latencies.now sides.now.block.now sides.now.schedule.now.ops
         sides.now.schedule.now.rows) }
 {
     let issue = sides.issue(k)?;
     let op = sides.block.get(i)?;
-    if have_one_label(&issue.op, op) {
+    if have_one_label(&issue.op, op) && at(&terms.block, i) != at(&terms.rows, k) {
         return Some(Fact::For {
             issue,
             number: i,
@@ -255,7 +254,7 @@ fn like_none(sides: &Sides, terms: &Terms, k: usize) -> Option<Fact>
         sides.now.schedule.now.rows) }
 {
     let issue = sides.issue(k)?;
-    match terms.block.get(&at(&terms.rows, k)) {
+    match terms.known.get(&at(&terms.rows, k)) {
         None => Some(Fact::LikeNone { issue }),
         Some(_) => None,
     }
@@ -283,12 +282,8 @@ impl Claim {
             What::ReadsOver { place, lost } => replaced(sides, k, place, lost),
             What::NeverRead => never_read(sides, read, k),
             What::Beside { other, i, o } => ordered(sides, k, other, i, o),
-            What::For { op } => stands_for(sides, k, op),
+            What::For { op } => stands_for(sides, terms, k, op),
             What::LikeNone => like_none(sides, terms, k),
-            What::See => match sides.issue(k) {
-                Some(issue) => Some(Fact::See { issue }),
-                None => None,
-            },
         }
     }
 }

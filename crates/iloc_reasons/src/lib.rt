@@ -3,12 +3,11 @@
 
 mod choice;
 mod claim;
-mod fact;
+mod counterpart;
 mod likeness;
 mod read;
 mod reasons;
 mod sides;
 mod terms;
 
-pub use fact::Fact;
-pub use reasons::{MOST_FACTS, Reasons, reasons_of};
+pub use reasons::reasons_of;

@@ -2,7 +2,7 @@
 ghost use Rattle.std.specs.Prelude.{◌≡◌, ◌≢◌, ◌<◌, ℕ, true, None, map, slice_index, IfOk};
 ghost use Rattle.std.specs.BTreeMap.{get};
 ghost use Rattle.std.specs.Ordering.{nat_cmp};
-ghost use Rattle.iloc_validation.specs.declared.reading.Reading.{Reading as Noted};
+ghost use Rattle.iloc_facts.specs.declared.reading.Reading.{Reading as Noted};
 ghost use Rattle.iloc_reasons.specs.Steps.Likeness.{TellApart};
 ghost use Rattle.iloc_reasons.specs.Steps.Sides.{AreSides};
 ghost use Rattle.iloc_reasons.specs.Steps.Terms.{AreTerms};
@@ -10,16 +10,18 @@ ghost use Rattle.iloc_reasons.specs.Steps.Terms.{AreTerms};
 use crate::choice::graph::Graph;
 use crate::sides::Sides;
 use crate::terms::{Values, at, label_number};
+use iloc_facts::{Reading, Sources};
 use iloc_ops::{NoMemory, Op};
-use iloc_validation::{Reading, Sources};
 use std::alloc::Global;
 use std::collections::BTreeMap;
 
-/// The terms of the operations of rows, and which terms a block has.
+/// The terms of the operations of a block and of rows.
 #[derive(Drop)]
 pub(crate) struct Terms {
+    pub block: Vec<u64>,
     pub rows: Vec<u64>,
-    pub block: BTreeMap<u64, usize>,
+    /// Those of the block, to look them up.
+    pub known: BTreeMap<u64, usize>,
 }
 
 /// Whether the term of each operation is that of its label and of what it reads.
@@ -57,8 +59,8 @@ fn looked_up(alloc: Global, terms: &[u64], count: usize) -> Result<BTreeMap<u64,
     Ok(found)
 }
 
-/// The terms of both sides, whose operations are these. Where they couldn't be relied on, which doesn't happen, each operation
-/// has a term of the block.
+/// The terms of both sides, whose operations are these. Where they couldn't be relied on, which doesn't happen, all operations
+/// have one term.
 pub(crate) fn terms_of(
     alloc: Global,
     sides: &Sides,
@@ -72,15 +74,20 @@ pub(crate) fn terms_of(
 {
     let ops = sides.schedule.ops();
     let sources = sources_of(alloc, sides.readings)?;
-    let block = block.forwards(alloc, &block.labels)?;
-    let rows = rows.forwards(alloc, &rows.labels)?;
-    if are_terms(sides.block, sides.givens, &block) && are_terms(ops, &sources, &rows) {
-        let block = looked_up(alloc, &block, sides.block.len())?;
-        return Ok(Terms { rows, block });
+    let here = block.forwards(alloc, &block.labels)?;
+    let there = rows.forwards(alloc, &rows.labels)?;
+    if are_terms(sides.block, sides.givens, &here) && are_terms(ops, &sources, &there) {
+        let known = looked_up(alloc, &here, sides.block.len())?;
+        return Ok(Terms {
+            block: here,
+            rows: there,
+            known,
+        });
     }
-    let all = looked_up(alloc, &[], 1)?;
+    let known = looked_up(alloc, &[], 1)?;
     Ok(Terms {
+        block: Vec::new(alloc),
         rows: Vec::new(alloc),
-        block: all,
+        known,
     })
 }

@@ -5,8 +5,8 @@ ghost use Rattle.std.specs.Ordering.{nat_cmp};
 ghost use Rattle.iloc_reasons.specs.Steps.Sides.{AreNoted, IsNoted};
 
 use crate::claim::source_at;
+use iloc_facts::Reading;
 use iloc_ops::NoMemory;
-use iloc_validation::Reading;
 use std::alloc::Global;
 use std::collections::BTreeMap;
 

@@ -1,41 +1,26 @@
 //! Why rows aren't issued as their block asks for.
-ghost use Rattle.std.specs.Prelude.{◌≡◌, ◌<◌, ◌≤◌, false, length, IfOk, All};
+ghost use Rattle.std.specs.Prelude.{◌≡◌, ◌<◌, ◌≤◌, length, IfOk, All};
 ghost use Rattle.iloc_rules.specs.Renaming.{without_nops as ops_of};
-ghost use Rattle.iloc_validation.specs.Lawfulness.{AreLeftOut, AreAdded};
-ghost use Rattle.iloc_reasons.specs.Facts.{IsFact};
-ghost use Rattle.iloc_reasons.specs.Reasons.{AreReasons};
+ghost use Rattle.iloc_facts.specs.Lawfulness.{AreLeftOut, AreAdded};
+ghost use Rattle.iloc_facts.specs.Facts.{IsFact};
+ghost use Rattle.iloc_facts.specs.Reasons.{AreReasons};
 ghost use Rattle.iloc_reasons.specs.Steps.Likeness.{TellApart};
-ghost use Rattle.iloc_reasons.specs.Steps.Sides.{AreNoted, AreRead};
+ghost use Rattle.iloc_reasons.specs.Steps.Sides.{AreNoted, AreRead, AreSides};
 
+use crate::choice::chosen;
 use crate::choice::graph::Graph;
-use crate::choice::standing_out::standing_out;
-use crate::choice::{Choice, chosen};
-use crate::claim::{Claim, What};
-use crate::fact::Fact;
+use crate::claim::Claim;
+use crate::counterpart::first_seen;
 use crate::likeness::{Terms, sources_of, terms_of};
 use crate::read::read_by_some;
 use crate::sides::Sides;
+use iloc_facts::{
+    Added, Fact, LeftOut, MOST_FACTS, Reasons, givens, readings, without_counterpart, without_nops,
+};
 use iloc_ops::{Block, NoMemory};
 use iloc_timed::{Latencies, Schedule};
-use iloc_validation::{Added, LeftOut, givens, readings, without_counterpart, without_nops};
 use std::alloc::Global;
 use std::collections::BTreeMap;
-
-/// The most facts that are listed.
-pub const MOST_FACTS: usize = 8;
-
-/// Why rows aren't issued as their block asks for.
-#[derive(Debug, Drop)]
-pub struct Reasons {
-    /// The operations of the block that have no counterpart.
-    pub left_out: Option<LeftOut>,
-    /// The operations of the rows that have none.
-    pub added: Option<Added>,
-    /// Facts of the rows, by row, at most `MOST_FACTS`.
-    pub facts: Vec<Fact>,
-    /// How many more were found.
-    pub more: usize,
-}
 
 /// The first facts of what is claimed, and how many more there are.
 fn first_facts(
@@ -68,41 +53,16 @@ fn first_facts(
     Ok((facts, more))
 }
 
-/// The first facts of what is claimed, or else of operations that stand for ones spelled alike, or else of those that stand
-/// out, and how many more there are.
-fn found_facts(
+/// Facts or, where there is none, the first operation that doesn't read what its counterpart reads.
+fn or_seen(
     alloc: Global,
     sides: &Sides,
-    terms: &Terms,
-    read: &BTreeMap<usize, usize>,
-    choice: &Choice,
-    here: &Graph,
-    there: &Graph,
-) -> Result<(Vec<Fact>, usize), NoMemory>
-    requires terms { TellApart sides.now.latencies.now sides.now.block.now sides.now.schedule.now.ops
-        sides.now.schedule.now.rows terms.now }
-    requires readings { AreRead sides.now.latencies.now sides.now.schedule.now.ops sides.now.schedule.now.rows sides.now.readings.now }
-    requires noted { AreNoted sides.now.readings.now read.now }
-    ensures facts { IfOk result (λ listed. All (IsFact sides.now.latencies.now sides.now.block.now sides.now.schedule.now.ops
-        sides.now.schedule.now.rows) listed.0.items) }
-    ensures few { IfOk result (λ listed. length listed.0.items ≤ 8) }
-    ensures more { IfOk result (λ listed. length listed.0.items < 8 → listed.1 ≡ 0) }
-{
-    let found = first_facts(alloc, sides, terms, read, &choice.claims)?;
-    if !found.0.is_empty() {
-        return Ok(found);
-    }
-    let own = first_facts(alloc, sides, terms, read, &choice.own)?;
-    if !own.0.is_empty() {
-        return Ok(own);
-    }
-    let others = standing_out(alloc, here, there)?;
-    first_facts(alloc, sides, terms, read, &others)
-}
-
-/// Facts, or that there is the first operation of the rows, if there are neither facts nor anything else is said.
-fn or_first(sides: &Sides, facts: Vec<Fact>, is_said: bool) -> Result<Vec<Fact>, NoMemory>
-    requires read { AreRead sides.now.latencies.now sides.now.schedule.now.ops sides.now.schedule.now.rows sides.now.readings.now }
+    block: &Graph,
+    rows: &Graph,
+    facts: Vec<Fact>,
+) -> Result<Vec<Fact>, NoMemory>
+    requires sides { AreSides sides.now.latencies.now sides.now.block.now sides.now.givens.now sides.now.schedule.now
+        sides.now.readings.now }
     requires facts { All (IsFact sides.now.latencies.now sides.now.block.now sides.now.schedule.now.ops
         sides.now.schedule.now.rows) facts.items }
     requires few { length facts.items ≤ 8 }
@@ -110,12 +70,12 @@ fn or_first(sides: &Sides, facts: Vec<Fact>, is_said: bool) -> Result<Vec<Fact>,
         sides.now.schedule.now.rows) listed.items) }
     ensures few { IfOk result (λ listed. length listed.items ≤ 8) }
     ensures kept { IfOk result (λ listed. length facts.items ≤ length listed.items) }
-    ensures said { IfOk result (λ listed. is_said ≡ false → 0 < length sides.now.schedule.now.ops → 0 < length listed.items) }
 {
     let mut facts = facts;
-    if !is_said && facts.is_empty() && !sides.schedule.ops().is_empty() {
-        let issue = sides.issued(0);
-        facts.push(Fact::See { issue })?;
+    if facts.is_empty()
+        && let Some(fact) = first_seen(alloc, sides, block, rows)?
+    {
+        facts.push(fact)?;
     }
     Ok(facts)
 }
@@ -147,41 +107,75 @@ fn added(alloc: Global, sides: &Sides, named: Option<usize>) -> Result<Option<Ad
     }
 }
 
-/// Why rows aren't issued as their block asks for, of which this was chosen to be said.
-fn reasons_by(
+/// The first facts of rows of which this was chosen to be said, and how many more there are.
+fn found_facts(
     alloc: Global,
     sides: &Sides,
-    terms: &Terms,
+    block: &Graph,
+    rows: &Graph,
     read: &BTreeMap<usize, usize>,
-    choice: &Choice,
-    here: &Graph,
-    there: &Graph,
-) -> Result<Reasons, NoMemory>
-    requires terms { TellApart sides.now.latencies.now sides.now.block.now sides.now.schedule.now.ops
-        sides.now.schedule.now.rows terms.now }
-    requires readings { AreRead sides.now.latencies.now sides.now.schedule.now.ops sides.now.schedule.now.rows sides.now.readings.now }
+    claims: &[Claim],
+) -> Result<(Vec<Fact>, usize), NoMemory>
+    requires sides { AreSides sides.now.latencies.now sides.now.block.now sides.now.givens.now sides.now.schedule.now
+        sides.now.readings.now }
     requires noted { AreNoted sides.now.readings.now read.now }
+    ensures facts { IfOk result (λ listed. All (IsFact sides.now.latencies.now sides.now.block.now sides.now.schedule.now.ops
+        sides.now.schedule.now.rows) listed.0.items) }
+    ensures few { IfOk result (λ listed. length listed.0.items ≤ 8) }
+    ensures more { IfOk result (λ listed. length listed.0.items < 8 → listed.1 ≡ 0) }
+{
+    let terms = terms_of(alloc, sides, block, rows)?;
+    first_facts(alloc, sides, &terms, read, claims)
+}
+
+/// Why rows aren't issued as their block asks for, whose operations are these.
+fn reasons_among(
+    alloc: Global,
+    sides: &Sides,
+    block: &Graph,
+    rows: &Graph,
+) -> Result<Reasons, NoMemory>
+    requires { AreSides sides.now.latencies.now sides.now.block.now sides.now.givens.now sides.now.schedule.now
+        sides.now.readings.now }
     ensures { IfOk result (AreReasons sides.now.latencies.now sides.now.block.now sides.now.schedule.now.ops
         sides.now.schedule.now.rows) }
 {
-    let (facts, more) = found_facts(alloc, sides, terms, read, choice, here, there)?;
+    let read = read_by_some(alloc, sides.readings)?;
+    let choice = chosen(alloc, sides, block, rows, &read)?;
+    let (facts, more) = found_facts(alloc, sides, block, rows, &read, &choice.claims)?;
     let left_out = left_out(alloc, sides, choice.left_out)?;
     let added = added(alloc, sides, choice.added)?;
-    let is_said = left_out.is_some() || added.is_some();
+    let facts = if left_out.is_some() || added.is_some() {
+        facts
+    } else {
+        or_seen(alloc, sides, block, rows, facts)?
+    };
     Ok(Reasons {
         left_out,
         added,
-        facts: or_first(sides, facts, is_said)?,
+        facts,
         more,
     })
+}
+
+/// The same, of both sides.
+fn reasons_by(alloc: Global, sides: &Sides) -> Result<Reasons, NoMemory>
+    requires { AreSides sides.now.latencies.now sides.now.block.now sides.now.givens.now sides.now.schedule.now
+        sides.now.readings.now }
+    ensures { IfOk result (AreReasons sides.now.latencies.now sides.now.block.now sides.now.schedule.now.ops
+        sides.now.schedule.now.rows) }
+{
+    let block = Graph::of_block(alloc, sides.block, sides.givens)?;
+    let sources = sources_of(alloc, sides.readings)?;
+    let rows = Graph::of(alloc, sides.schedule.ops(), sides.schedule.rows(), &sources)?;
+    reasons_among(alloc, sides, &block, &rows)
 }
 
 /// Why rows that somebody made for a block aren't issued as it asks for: which operations are left out or added, and facts
 /// of the rows, by row, last which operations stand for others. Which facts are listed is a choice that promises nothing; it
 /// names the operations at fault.
 ///
-/// Promise: what is said to be left out or added is, each line is a fact of the rows, and of rows that issue something there
-/// is a line.
+/// Promise: what is said to be left out or added is, and each line is a fact of the rows.
 pub fn reasons_of(
     alloc: Global,
     block: &Block,
@@ -200,11 +194,5 @@ pub fn reasons_of(
         readings: &readings,
         latencies,
     };
-    let here = Graph::of_block(alloc, &ops, &givens)?;
-    let sources = sources_of(alloc, &readings)?;
-    let there = Graph::of(alloc, theirs.ops(), theirs.rows(), &sources)?;
-    let terms = terms_of(alloc, &sides, &here, &there)?;
-    let read = read_by_some(alloc, &readings)?;
-    let choice = chosen(alloc, &sides, &here, &there, &read)?;
-    reasons_by(alloc, &sides, &terms, &read, &choice, &here, &there)
+    reasons_by(alloc, &sides)
 }

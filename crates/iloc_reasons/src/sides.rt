@@ -1,8 +1,8 @@
 //! A block and rows for it, with what their operations read.
 
+use iloc_facts::{Issue, Reading, Sources};
 use iloc_ops::Op;
 use iloc_timed::{Latencies, Schedule, latency};
-use iloc_validation::{Issue, Reading, Sources};
 
 /// A block without its `nop`s and rows for it, with what their operations read.
 #[derive(Clone, Copy)]
@@ -18,11 +18,13 @@ pub(crate) struct Sides<'a> {
 
 impl Sides<'_> {
     ghost use Rattle.std.specs.Prelude.{◌≡◌, ◌<◌, length, IfSome};
-    ghost use Rattle.iloc_validation.specs.ByTheBook.{due};
-    ghost use Rattle.iloc_validation.specs.Lawfulness.{issue_of};
-    ghost use Rattle.iloc_validation.specs.Readings.{reading_of};
-    ghost use Rattle.iloc_reasons.specs.Facts.{IsIssued};
-    ghost use Rattle.iloc_reasons.specs.Steps.Sides.{AreRead};
+    ghost use Rattle.iloc_ops.specs.Registers.{used};
+    ghost use Rattle.iloc_meaning.specs.Trace.{op_at};
+    ghost use Rattle.iloc_facts.specs.Readings.{due, given};
+    ghost use Rattle.iloc_facts.specs.Lawfulness.{issue_of};
+    ghost use Rattle.iloc_facts.specs.Readings.{reading_of, sources_of};
+    ghost use Rattle.iloc_facts.specs.Facts.{IsIssued};
+    ghost use Rattle.iloc_reasons.specs.Steps.Sides.{AreRead, AreSides};
 
     /// Operation k of the rows, with its cycle.
     pub(crate) fn issue(&self, k: usize) -> Option<Issue>
@@ -56,6 +58,14 @@ impl Sides<'_> {
             self.now.schedule.now.rows k) }
     {
         self.readings.get(k).copied()
+    }
+
+    /// What operation i of the block reads.
+    pub(crate) fn given(&self, i: usize) -> Option<Sources>
+        requires { AreSides self.now.latencies.now self.now.block.now self.now.givens.now self.now.schedule.now self.now.readings.now }
+        ensures { IfSome result (λ sources. sources ≡ sources_of (given self.now.block.now i) (used (op_at self.now.block.now i))) }
+    {
+        self.givens.get(i).copied()
     }
 
     /// The cycle at which the result of operation k of the rows arrives.

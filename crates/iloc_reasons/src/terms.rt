@@ -2,8 +2,8 @@
 ghost use Rattle.std.specs.Prelude.{◌≡◌, slice_index};
 ghost use Rattle.iloc_reasons.specs.Steps.Terms.{label_number, mixed, opcode_number, value_of};
 
+use iloc_facts::{Sources, opcode_and_constant};
 use iloc_ops::{Op, Opcode};
-use iloc_validation::{Sources, opcode_and_constant};
 
 /// A number for two numbers in order.
 pub(crate) fn mix(one: u64, other: u64) -> u64
@@ -53,7 +53,7 @@ pub(crate) fn at(numbers: &[u64], place: usize) -> u64
 }
 
 /// The numbers of what an operation reads, left to right; 0 for the start of a register.
-#[derive(Clone, Copy, PartialEq, Eq)]
+#[derive(Clone, Copy)]
 pub(crate) enum Values {
     Nothing,
     One(u64),

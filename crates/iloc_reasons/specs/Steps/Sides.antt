@@ -9,11 +9,11 @@ use Rattle.iloc_timed.specs.declared.latencies.Latencies.{Latencies}
 use Rattle.iloc_timed.specs.declared.row.Row.{Row}
 use Rattle.iloc_timed.specs.Rows.{IsTable}
 use Rattle.iloc_timed.specs.Schedule.{Table}
-use Rattle.iloc_validation.specs.declared.reading.Reading.{Reading}
-use Rattle.iloc_validation.specs.declared.reading.sources.Sources.{Sources}
-use Rattle.iloc_validation.specs.declared.reading.sources.Sources.TheVariants.{One, Two}
-use Rattle.iloc_validation.specs.ByTheBook.{given}
-use Rattle.iloc_validation.specs.Readings.{reading_at, reading_of, sources_at, sources_of}
+use Rattle.iloc_facts.specs.declared.reading.Reading.{Reading}
+use Rattle.iloc_facts.specs.declared.reading.sources.Sources.{Sources}
+use Rattle.iloc_facts.specs.declared.reading.sources.Sources.TheVariants.{One, Two}
+use Rattle.iloc_facts.specs.Readings.{given, reading_at, reading_of, sources_at, sources_of}
+use Rattle.iloc_facts.specs.Facts.{AreSources}
 
 -- what is noted of the operations of rows is when they are issued and what they read
 pub record AreRead (lat : Latencies) (ops : List Op) (rows : List Row) (readings : List Reading) : Type 0 where
@@ -35,6 +35,12 @@ source_at (One only) zero = only
 source_at (Two left right) zero = left
 source_at (Two left right) (suc zero) = right
 source_at _ place = None
+
+-- this holds of what is read on both sides, at each place
+abbrev pub AreAllRead : (ℕ → ℕ → Type 0) → Sources → Sources → Type 0
+AreAllRead Alike (One only) (One other) = AreSources Alike only other
+AreAllRead Alike (Two left right) (Two other another) = AreSources Alike left other × AreSources Alike right another
+AreAllRead Alike _ _ = Unit
 
 -- what is read is among these
 abbrev pub IsNoted : BTreeMap ℕ ℕ → Option ℕ → Type 0

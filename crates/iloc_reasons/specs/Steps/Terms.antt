@@ -4,10 +4,10 @@ use Rattle.iloc_ops.specs.declared.op.Op.{Op}
 use Rattle.iloc_ops.specs.declared.forms.Opcode.{Opcode}
 use Rattle.iloc_ops.specs.Forms.{opcode, opcode_text}
 use Rattle.iloc_meaning.specs.Trace.{op_at}
-use Rattle.iloc_validation.specs.declared.reading.sources.Sources.{Sources}
-use Rattle.iloc_validation.specs.declared.reading.sources.Sources.TheVariants as reads
-use Rattle.iloc_validation.specs.Labels.{constant}
-use Rattle.iloc_validation.specs.Readings.{sources_at}
+use Rattle.iloc_facts.specs.declared.reading.sources.Sources.{Sources}
+use Rattle.iloc_facts.specs.declared.reading.sources.Sources.TheVariants as reads
+use Rattle.iloc_facts.specs.Labels.{constant}
+use Rattle.iloc_facts.specs.Readings.{sources_at}
 use Rattle.iloc_reasons.specs.declared.terms.Values.{Values}
 use Rattle.iloc_reasons.specs.declared.terms.Values.TheVariants.{Nothing, One, Two}
 

@@ -155,9 +155,21 @@ fn is_later(known: &Known, k: usize, place: usize, due: usize) -> bool {
     false
 }
 
+/// Whether operation u brings its result in a lower register than the one that operation k reads at a place: where both are free,
+/// the lower one is taken first.
+fn is_lower(known: &Known, k: usize, place: usize, u: usize) -> bool {
+    let Some(op) = known.rows.graph.ops.get(u) else {
+        return false;
+    };
+    match (defines(op), register_at(known, k, place)) {
+        (Some(here), Some(there)) => here.0 < there.0,
+        _ => false,
+    }
+}
+
 /// What is claimed of an operation that reads at a place something else than this one brings, in a register of others where
-/// nobody reads it. If where it is wanted its result would be in the way of others or be replaced, the reader is at fault; if
-/// it is replaced where it is, it is itself.
+/// nobody reads it. If where it is wanted its result would be in the way of others or be replaced, or that register isn't the
+/// first that is free, the reader is at fault; if it is replaced where it is, it is itself.
 fn astray(
     known: &Known,
     lives: &Lives,
@@ -168,7 +180,8 @@ fn astray(
     let k = doubt.claim.k;
     let due = known.sides.cycles(u).map_or(0, |cycles| cycles.1);
     let is_reader = lives.is_read(known, k, doubt.place, due)
-        || is_later(known, k, doubt.place, due);
+        || is_later(known, k, doubt.place, due)
+        || is_lower(known, k, doubt.place, u);
     if !is_reader {
         let what = What::NeverRead;
         found.push(Claim { k: u, what })?;
@@ -177,6 +190,21 @@ fn astray(
         found.push(doubt.claim)?;
     }
     Ok(())
+}
+
+/// What is claimed of an operation in doubt.
+fn resolve(
+    known: &Known,
+    lives: &Lives,
+    misread: &BTreeMap<usize, usize>,
+    doubt: &Doubt,
+    found: &mut Vec<Claim>,
+) -> Result<(), NoMemory> {
+    match doubt.cause {
+        Cause::Elsewhere(u) if misread.get(&u).is_none() => Ok(found.push(doubt.claim)?),
+        Cause::Astray(u) => astray(known, lives, doubt, u, found),
+        _ => Ok(()),
+    }
 }
 
 /// What is claimed once it is known what all operations read.
@@ -190,11 +218,7 @@ pub(crate) fn undoubted(
     let lives = Lives::of(alloc, known)?;
     let mut found = Vec::new(alloc);
     for doubt in doubts {
-        match doubt.cause {
-            Cause::Elsewhere(u) if misread.get(&u).is_none() => found.push(doubt.claim)?,
-            Cause::Astray(u) => astray(known, &lives, doubt, u, &mut found)?,
-            _ => {}
-        }
+        resolve(known, &lives, &misread, doubt, &mut found)?;
     }
     Ok(found)
 }

@@ -2,14 +2,14 @@
 
 use crate::claim::source_at;
 use crate::terms::{Values, at, label_number, mix};
+use iloc_facts::Sources;
 use iloc_ops::{NoMemory, Op};
 use iloc_timed::{Kind, Row};
-use iloc_validation::Sources;
 use std::alloc::Global;
 
 /// What memory and outputs fix of an operation: how many stores are before a load, a store or an output, and how many
 /// outputs before an output.
-#[derive(Clone, Copy, Default, PartialEq, Eq)]
+#[derive(Clone, Copy, Default)]
 pub(crate) struct Place {
     pub stores: usize,
     pub outputs: usize,

@@ -5,8 +5,8 @@ use super::lines::Lines;
 use crate::claim::{What, source_at};
 use crate::sides::Sides;
 use crate::terms::{Values, at, value};
+use iloc_facts::Sources;
 use iloc_ops::{NoMemory, Op, Reg, uses};
-use iloc_validation::Sources;
 use std::alloc::Global;
 
 /// How many results are thought of, of those under way and of those that were there.
@@ -41,6 +41,18 @@ pub(crate) struct Looking<'a> {
     pub meant: &'a [u64],
 }
 
+/// The start of a register, where an operation reads a result at a place.
+fn push_start(guesses: &mut Vec<Guess>, place: usize, read: Option<usize>) -> Result<(), NoMemory> {
+    if read.is_some() {
+        guesses.push(Guess {
+            value: 0,
+            cost: 4,
+            what: Some(What::ReadsOver { place, lost: None }),
+        })?;
+    }
+    Ok(())
+}
+
 impl Looking<'_> {
     /// The guess that the result of an operation was meant.
     fn guess(&self, u: usize, cost: u32, what: What) -> Guess {
@@ -65,21 +77,13 @@ impl Looking<'_> {
             cost: 0,
             what: None,
         })?;
-        let Some(op) = self.sides.schedule.ops().get(k) else {
-            return Ok(guesses);
-        };
-        let Some((place, register)) = first_use(op, place) else {
-            return Ok(guesses);
-        };
-        let last = self.definers.first_few(alloc, u64::from(register.0))?;
-        self.push_later(&mut guesses, &last, k, place)?;
-        self.push_older(alloc, &mut guesses, &last, k, place, read)?;
-        if read.is_some() {
-            guesses.push(Guess {
-                value: 0,
-                cost: 4,
-                what: Some(What::ReadsOver { place, lost: None }),
-            })?;
+        if let Some(op) = self.sides.schedule.ops().get(k)
+            && let Some((place, register)) = first_use(op, place)
+        {
+            let last = self.definers.first_few(alloc, u64::from(register.0))?;
+            self.push_later(&mut guesses, &last, k, place)?;
+            self.push_older(alloc, &mut guesses, &last, k, place, read)?;
+            push_start(&mut guesses, place, read)?;
         }
         Ok(guesses)
     }

@@ -4,8 +4,8 @@ use super::graph::put;
 use super::lines::Lines;
 use super::side::{Side, has};
 use crate::terms::{Values, at, mix, one_if};
+use iloc_facts::Sources;
 use iloc_ops::NoMemory;
-use iloc_validation::Sources;
 use std::alloc::Global;
 
 /// What differs in two things that it reads is so far.
@@ -33,7 +33,34 @@ pub(crate) struct Missing {
     by_label: Lines,
 }
 
+/// Which of so many operations of a block are counterparts.
+fn taken(
+    alloc: Global,
+    count: usize,
+    counterparts: &[Option<usize>],
+) -> Result<Vec<bool>, NoMemory> {
+    let mut taken = vec![in alloc; false; count]?;
+    for counterpart in counterparts {
+        if let Some(i) = *counterpart {
+            put(&mut taken, i, true);
+        }
+    }
+    Ok(taken)
+}
+
 impl Missing {
+    /// None of so many.
+    fn none(alloc: Global, count: usize, short: Vec<bool>) -> Result<Missing, NoMemory> {
+        Ok(Missing {
+            free: vec![in alloc; false; count]?,
+            short,
+            by_term: Lines::new(alloc, count)?,
+            by_term_and_readers: Lines::new(alloc, count)?,
+            by_reads: Lines::new(alloc, count)?,
+            by_label: Lines::new(alloc, count)?,
+        })
+    }
+
     /// Those of the block that are none of the counterparts of operations of rows.
     pub(crate) fn of(
         alloc: Global,
@@ -42,20 +69,8 @@ impl Missing {
         counterparts: &[Option<usize>],
     ) -> Result<Missing, NoMemory> {
         let count = block.terms.len();
-        let mut taken = vec![in alloc; false; count]?;
-        for counterpart in counterparts {
-            if let Some(i) = *counterpart {
-                put(&mut taken, i, true);
-            }
-        }
-        let mut missing = Missing {
-            free: vec![in alloc; false; count]?,
-            short,
-            by_term: Lines::new(alloc, count)?,
-            by_term_and_readers: Lines::new(alloc, count)?,
-            by_reads: Lines::new(alloc, count)?,
-            by_label: Lines::new(alloc, count)?,
-        };
+        let taken = taken(alloc, count, counterparts)?;
+        let mut missing = Missing::none(alloc, count, short)?;
         for i in (0..count).rev() {
             if !has(&taken, i) {
                 missing.put_first(block, i)?;
@@ -69,7 +84,7 @@ impl Missing {
         let values = Values::of(&block.terms, block.graph.sources(i));
         put(&mut self.free, i, true);
         self.by_term.put_first(at(&block.terms, i), i)?;
-        self.by_term_and_readers.put_first(block.both(i), i)?;
+        self.by_term_and_readers.put_first(at(&block.both, i), i)?;
         self.by_reads.put_first(block.term(i, 0, values), i)?;
         self.by_label.put_first(at(&block.graph.labels, i), i)
     }

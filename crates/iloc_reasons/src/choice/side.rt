@@ -1,6 +1,6 @@
 //! Which operations of a block have no counterpart in rows, by what they compute.
 
-use super::graph::{Graph, put};
+use super::graph::{Graph, Place, put};
 use super::lines::Lines;
 use crate::terms::{Values, at, mix};
 use iloc_ops::NoMemory;
@@ -17,6 +17,26 @@ pub(crate) struct Side<'a> {
     pub terms: Vec<u64>,
     /// By operation a number for its label and for who reads it.
     pub readers: Vec<u64>,
+    /// By operation a number for its term and for who reads it.
+    pub both: Vec<u64>,
+}
+
+/// The numbers of places.
+fn numbers_of(alloc: Global, places: &[Place]) -> Result<Vec<u64>, NoMemory> {
+    let mut numbers = Vec::with_capacity(alloc, places.len())?;
+    for place in places {
+        numbers.push(place.number())?;
+    }
+    Ok(numbers)
+}
+
+/// A number for each of these with each of those.
+fn all_mixed(alloc: Global, these: &[u64], those: &[u64]) -> Result<Vec<u64>, NoMemory> {
+    let mut mixed = Vec::with_capacity(alloc, these.len())?;
+    for (one, other) in these.iter().zip(those.iter()) {
+        mixed.push(mix(*one, *other))?;
+    }
+    Ok(mixed)
 }
 
 impl<'a> Side<'a> {
@@ -26,17 +46,16 @@ impl<'a> Side<'a> {
         graph: &'a Graph<'a>,
         places_count: bool,
     ) -> Result<Side<'a>, NoMemory> {
-        let mut places = Vec::with_capacity(alloc, graph.ops.len())?;
-        let mut numbers = Vec::with_capacity(alloc, graph.ops.len())?;
-        for (label, place) in graph.labels.iter().zip(graph.places.iter()) {
-            let place = if places_count { place.number() } else { 0 };
-            places.push(place)?;
-            numbers.push(mix(*label, place))?;
-        }
-        let terms = graph.forwards(alloc, &numbers)?;
+        let places = if places_count {
+            numbers_of(alloc, &graph.places)?
+        } else {
+            vec![in alloc; 0; graph.ops.len()]?
+        };
+        let terms = graph.forwards(alloc, &all_mixed(alloc, &graph.labels, &places)?)?;
         let readers = graph.backwards(alloc, &graph.labels)?;
         Ok(Side {
             graph,
+            both: all_mixed(alloc, &terms, &readers)?,
             places,
             terms,
             readers,
@@ -46,11 +65,6 @@ impl<'a> Side<'a> {
     /// The term of operation k, with a place and where it reads these.
     pub(crate) fn term(&self, k: usize, place: u64, values: Values) -> u64 {
         values.behind(mix(at(&self.graph.labels, k), place))
-    }
-
-    /// The term of operation k and who reads it, as one number.
-    pub(crate) fn both(&self, k: usize) -> u64 {
-        mix(at(&self.terms, k), at(&self.readers, k))
     }
 }
 
@@ -65,21 +79,26 @@ pub(crate) fn effects(graph: &Graph) -> u64 {
     sum
 }
 
-/// By operation of a side its counterpart of the same term and readers on the other.
+/// Operations in lines by these keys.
+fn lined_up(alloc: Global, keys: &[u64]) -> Result<Lines, NoMemory> {
+    let mut lines = Lines::new(alloc, keys.len())?;
+    for (i, key) in keys.iter().enumerate().rev() {
+        lines.put_first(*key, i)?;
+    }
+    Ok(lines)
+}
+
+/// By operation its counterpart of the same key among others: the first for the first, and so on.
 pub(crate) fn paired(
     alloc: Global,
-    side: &Side,
-    other: &Side,
+    keys: &[u64],
+    others: &[u64],
 ) -> Result<Vec<Option<usize>>, NoMemory> {
-    let count = other.terms.len();
-    let mut there = Lines::new(alloc, count)?;
-    for i in (0..count).rev() {
-        there.put_first(other.both(i), i)?;
-    }
-    let mut free = vec![in alloc; true; count]?;
-    let mut pairs = Vec::with_capacity(alloc, side.terms.len())?;
-    for k in 0..side.terms.len() {
-        let found = there.first_free(side.both(k), &free)?;
+    let mut there = lined_up(alloc, others)?;
+    let mut free = vec![in alloc; true; others.len()]?;
+    let mut pairs = Vec::with_capacity(alloc, keys.len())?;
+    for key in keys {
+        let found = there.first_free(*key, &free)?;
         if let Some(i) = found {
             put(&mut free, i, false);
         }

@@ -48,42 +48,127 @@ pub(crate) struct Walk<'a> {
     pub sides: &'a Sides<'a>,
     pub block: &'a Side<'a>,
     pub rows: &'a Side<'a>,
-    /// By operation of the rows its counterpart of its term.
-    pub counterparts: Vec<Option<usize>>,
-    /// By operation of the rows which one of the block it is found to be.
-    pub partners: Vec<Option<usize>>,
     pub missing: Missing,
-    /// By register the operations that defined it so far, the last first.
-    pub definers: Lines,
-    /// By operation of the rows what it is meant to bring.
-    pub meant: Vec<u64>,
     pub strays: Strays<'a>,
+    pub found: Found,
     /// The store that was issued last.
     pub store: Option<usize>,
-    /// The operations that are found to be in another place than in the block.
-    pub moved: Vec<usize>,
-    pub claims: Vec<Claim>,
-    pub doubts: Vec<Doubt>,
-    /// The first operation that is like none of the block.
-    pub unlike: Option<usize>,
+    pub said: Said,
 }
 
-impl Walk<'_> {
+/// What is found of the operations of rows so far.
+#[derive(Drop)]
+pub(crate) struct Found {
+    /// By operation its counterpart of its term.
+    counterparts: Vec<Option<usize>>,
+    /// By operation which one of the block it is found to be.
+    partners: Vec<Option<usize>>,
+    /// By operation what it is meant to bring.
+    meant: Vec<u64>,
+    /// By register the operations that defined it so far, the last first.
+    definers: Lines,
+}
+
+impl Found {
+    /// Nothing but counterparts.
+    pub(crate) fn of(
+        alloc: Global,
+        rows: &Side,
+        counterparts: Vec<Option<usize>>,
+    ) -> Result<Found, NoMemory> {
+        let count = rows.terms.len();
+        Ok(Found {
+            partners: vec![in alloc; None; count]?,
+            meant: Vec::from_slice(alloc, &rows.terms)?,
+            definers: Lines::new(alloc, count)?,
+            counterparts,
+        })
+    }
+
+    /// Operation k is meant to be operation i of the block, and to bring this.
+    fn note(&mut self, k: usize, i: Option<usize>, term: u64) {
+        put(&mut self.partners, k, i);
+        put(&mut self.meant, k, term);
+    }
+}
+
+/// What is said so far.
+#[derive(Drop)]
+pub(crate) struct Said {
+    claims: Vec<Claim>,
+    doubts: Vec<Doubt>,
+    /// The operations that are found to be in another place than in the block.
+    moved: Vec<usize>,
+    /// The first operation that is like none of the block.
+    unlike: Option<usize>,
+}
+
+impl Said {
+    /// Nothing.
+    pub(crate) fn nothing(alloc: Global) -> Said {
+        Said {
+            claims: Vec::new(alloc),
+            doubts: Vec::new(alloc),
+            moved: Vec::new(alloc),
+            unlike: None,
+        }
+    }
+
     /// Something may be a fact of operation k.
     fn claim(&mut self, k: usize, what: What) -> Result<(), NoMemory> {
-        let claim = Claim { k, what };
-        match self.claims.last() {
-            Some(last) if *last == claim => {}
-            _ => self.claims.push(claim)?,
+        Ok(self.claims.push(Claim { k, what })?)
+    }
+
+    /// All that a change makes of operation k.
+    fn change(&mut self, k: usize, change: &Change) -> Result<(), NoMemory> {
+        for said in change.said {
+            if let Some(what) = said {
+                self.claim(k, what)?;
+            }
+        }
+        if change.moved {
+            self.moved.push(k)?;
         }
         Ok(())
     }
 
+    /// Operation k stands for operation i of the block: says why or, where nothing is known, that it does.
+    fn stand_for(&mut self, k: usize, i: usize, causes: Causes) -> Result<(), NoMemory> {
+        let what = What::For { op: i };
+        if !are_known(causes) {
+            return self.claim(k, what);
+        }
+        self.put_down(Claim { k, what }, 0, causes.0)?;
+        self.put_down(Claim { k, what }, 1, causes.1)
+    }
+
+    /// What an operation reads at a place is put down to a cause: says it, or doubts what is claimed of the operation.
+    fn put_down(
+        &mut self,
+        claim: Claim,
+        place: usize,
+        cause: Option<Cause>,
+    ) -> Result<(), NoMemory> {
+        match cause {
+            None => Ok(()),
+            Some(Cause::Said(said)) => self.claim(said.k, said.what),
+            Some(cause) => Ok(
+                self.doubts.push(Doubt {
+                    claim,
+                    place,
+                    cause,
+                })?,
+            ),
+        }
+    }
+}
+
+impl Walk<'_> {
     /// Operation k is meant to be operation i of the block.
     fn take(&mut self, k: usize, i: usize) {
         self.missing.take(i);
-        put(&mut self.partners, k, Some(i));
-        put(&mut self.meant, k, at(&self.block.terms, i));
+        let term = at(&self.block.terms, i);
+        self.found.note(k, Some(i), term);
     }
 
     /// The place of operation k as a number.
@@ -91,25 +176,33 @@ impl Walk<'_> {
         at(&self.rows.places, k)
     }
 
-    /// Goes on to what is issued in a row.
-    pub(crate) fn pass(&mut self, row: &Row) -> Result<(), NoMemory> {
-        let ops = self.sides.schedule.ops();
-        for slot in [row.zero, row.one] {
-            if let Some(k) = slot
-                && let Some(op) = ops.get(k)
-                && let Some(register) = defines(op)
-            {
-                self.definers.put_first(u64::from(register.0), k)?;
-            }
-        }
-        for slot in [row.zero, row.one] {
-            if let Some(k) = slot {
-                self.wait(k)?;
-                self.step(k)?;
-                self.strays.note(k, at(&self.meant, k))?;
-            }
+    /// Notes what is issued in a slot as the last that defines its register.
+    fn define(&mut self, slot: Option<usize>) -> Result<(), NoMemory> {
+        if let Some(k) = slot
+            && let Some(op) = self.sides.schedule.ops().get(k)
+            && let Some(register) = defines(op)
+        {
+            self.found.definers.put_first(u64::from(register.0), k)?;
         }
         Ok(())
+    }
+
+    /// Goes on to what is issued in a slot.
+    fn pass_slot(&mut self, slot: Option<usize>) -> Result<(), NoMemory> {
+        if let Some(k) = slot {
+            self.wait(k)?;
+            self.step(k)?;
+            self.strays.note(k, at(&self.found.meant, k))?;
+        }
+        Ok(())
+    }
+
+    /// Goes on to what is issued in a row.
+    pub(crate) fn pass(&mut self, row: &Row) -> Result<(), NoMemory> {
+        self.define(row.zero)?;
+        self.define(row.one)?;
+        self.pass_slot(row.zero)?;
+        self.pass_slot(row.one)
     }
 
     /// Whether a store is under way when operation k is issued.
@@ -125,7 +218,7 @@ impl Walk<'_> {
         match (self.rows.graph.kind(k), self.store) {
             (Kind::Store, _) => self.store = Some(k),
             (Kind::Load | Kind::Output, Some(store)) if self.is_under_way(store, k) => {
-                self.claim(k, What::While { store })?;
+                self.said.claim(k, What::While { store })?;
             }
             _ => {}
         }
@@ -134,71 +227,92 @@ impl Walk<'_> {
 
     /// Finds what operation k is meant to be, and what is said of it.
     fn step(&mut self, k: usize) -> Result<(), NoMemory> {
-        let values = Values::of(&self.meant, self.rows.graph.sources(k));
+        let values = Values::of(&self.found.meant, self.rows.graph.sources(k));
         let own = self.rows.term(k, self.place(k), values);
-        let counterpart = self.counterparts.get(k).copied().flatten();
+        let counterpart = self.found.counterparts.get(k).copied().flatten();
         if own == at(&self.rows.terms, k) && counterpart.is_some() {
-            put(&mut self.partners, k, counterpart);
-            put(&mut self.meant, k, own);
+            self.found.note(k, counterpart, own);
             return Ok(());
         }
         if let Some(i) = self.missing.of_term(own, at(&self.rows.readers, k))? {
             self.take(k, i);
             return Ok(());
         }
+        self.explain(k, values, own)
+    }
+
+    /// The same of one that reads otherwise than any that is missing, of which it has this term.
+    fn explain(&mut self, k: usize, values: Values, own: u64) -> Result<(), NoMemory> {
         if let Some(change) = self.cheapest(k)? {
-            return self.changed(k, change);
-        }
-        match self.counterpart(k, values)? {
-            Some((i, causes)) => {
-                self.stand_for(k, i, causes)?;
-                self.take(k, i);
-            }
-            None => {
-                self.unlike = self.unlike.or(Some(k));
-                self.claim(k, What::LikeNone)?;
-                put(&mut self.meant, k, mix(own, own));
-            }
+            self.said.change(k, &change)?;
+            self.take(k, change.i);
+        } else if let Some((i, causes)) = self.counterpart(k, values)? {
+            self.said.stand_for(k, i, causes)?;
+            self.take(k, i);
+        } else {
+            self.said.unlike = self.said.unlike.or(Some(k));
+            self.said.claim(k, What::LikeNone)?;
+            put(&mut self.found.meant, k, mix(own, own));
         }
         Ok(())
     }
 
-    /// The missing operation that operation k is if its operands are exchanged, or else the nearest one of its label, or one
-    /// of which the causes are known why k reads otherwise; with these causes.
+    /// The missing operation that operation k is if its operands are exchanged.
+    fn exchanged(&mut self, k: usize, values: Values) -> Result<Option<usize>, NoMemory> {
+        match values {
+            Values::Two(left, right) if left != right => {
+                let values = Values::Two(right, left);
+                let term = self.rows.term(k, self.place(k), values);
+                self.missing.of_term(term, at(&self.rows.readers, k))
+            }
+            _ => Ok(None),
+        }
+    }
+
+    /// What operation k is meant to be, besides its label.
+    fn wanted(&self, k: usize, values: Values) -> Wanted {
+        Wanted {
+            place: self.place(k),
+            values,
+            readers: at(&self.rows.readers, k),
+        }
+    }
+
+    /// The missing operation that operation k is if its operands are exchanged, or else the nearest one of its label, or one of
+    /// which the causes are known why k reads otherwise; with these causes.
     fn counterpart(
         &mut self,
         k: usize,
         values: Values,
     ) -> Result<Option<(usize, Causes)>, NoMemory> {
+        if let Some(i) = self.exchanged(k, values)? {
+            return Ok(Some((i, (None, None))));
+        }
         let (alloc, rows) = (self.alloc, self.rows);
         let guesses = self.looking().both(alloc, rows.graph, k)?;
-        if let Values::Two(left, right) = values
-            && left != right
-        {
-            let exchanged = rows.term(k, self.place(k), Values::Two(right, left));
-            if let Some(i) = self.missing.of_term(exchanged, at(&rows.readers, k))? {
-                let causes = self.causes(k, values, i, &guesses, true);
-                return Ok(Some((i, causes)));
+        let these = self.missing.of_label(alloc, at(&rows.graph.labels, k))?;
+        let wanted = self.wanted(k, values);
+        if let Some(i) = self.missing.nearest(self.block, &these, &wanted) {
+            return Ok(Some((i, self.causes(k, values, i, &guesses, true))));
+        }
+        Ok(self.by_causes(k, values, &these, &guesses))
+    }
+
+    /// The first few of these of which the causes are known, in the place of operation k.
+    fn by_causes(
+        &self,
+        k: usize,
+        values: Values,
+        these: &[usize],
+        guesses: &Guesses,
+    ) -> Option<(usize, Causes)> {
+        for i in these.iter().take(FEW) {
+            let causes = self.causes(k, values, *i, guesses, false);
+            if at(&self.block.places, *i) == self.place(k) && are_known(causes) {
+                return Some((*i, causes));
             }
         }
-        let wanted = Wanted {
-            place: self.place(k),
-            values,
-            readers: at(&rows.readers, k),
-        };
-        let label = at(&rows.graph.labels, k);
-        let found = self.missing.of_label(alloc, label)?;
-        if let Some(i) = self.missing.nearest(self.block, &found, &wanted) {
-            let causes = self.causes(k, values, i, &guesses, true);
-            return Ok(Some((i, causes)));
-        }
-        for i in found.iter().take(FEW) {
-            let causes = self.causes(k, values, *i, &guesses, false);
-            if at(&self.block.places, *i) == wanted.place && are_known(causes) {
-                return Ok(Some((*i, causes)));
-            }
-        }
-        Ok(None)
+        None
     }
 
     /// Why operation k reads otherwise than operation i of the block, which is near it or not; nothing unless it is known at
@@ -251,44 +365,12 @@ impl Walk<'_> {
         })
     }
 
-    /// Operation k stands for operation i of the block: says why or, where nothing is known, that it does.
-    fn stand_for(&mut self, k: usize, i: usize, causes: Causes) -> Result<(), NoMemory> {
-        for cause in [causes.0, causes.1] {
-            if let Some(Cause::Said(claim)) = cause {
-                self.claim(claim.k, claim.what)?;
-            }
-        }
-        let claim = Claim {
-            k,
-            what: What::For { op: i },
-        };
-        if !are_known(causes) {
-            return self.claim(k, claim.what);
-        }
-        self.doubt(claim, 0, causes.0)?;
-        self.doubt(claim, 1, causes.1)
-    }
-
-    /// What this claims of an operation is in doubt, by what it reads at a place.
-    fn doubt(&mut self, claim: Claim, place: usize, cause: Option<Cause>) -> Result<(), NoMemory> {
-        match cause {
-            Some(Cause::Said(_)) | None => Ok(()),
-            Some(cause) => Ok(
-                self.doubts.push(Doubt {
-                    claim,
-                    place,
-                    cause,
-                })?,
-            ),
-        }
-    }
-
     /// What is known while operations' uses are looked at.
     fn looking(&self) -> Looking<'_> {
         Looking {
             sides: self.sides,
-            definers: &self.definers,
-            meant: &self.meant,
+            definers: &self.found.definers,
+            meant: &self.found.meant,
         }
     }
 
@@ -341,36 +423,22 @@ impl Walk<'_> {
         }
     }
 
-    /// Operation k is meant to be one of the block by this change.
-    fn changed(&mut self, k: usize, change: Change) -> Result<(), NoMemory> {
-        for said in change.said {
-            if let Some(what) = said {
-                self.claim(k, what)?;
-            }
-        }
-        if change.moved {
-            self.moved.push(k)?;
-        }
-        self.take(k, change.i);
-        Ok(())
-    }
-
     /// What is known of all operations.
     fn known(&self) -> Known<'_> {
         Known {
             sides: self.sides,
             block: self.block,
             rows: self.rows,
-            partners: &self.partners,
-            meant: &self.meant,
+            partners: &self.found.partners,
+            meant: &self.found.meant,
         }
     }
 
     /// What is claimed of all operations.
     fn all_claims(&self) -> Result<Vec<Claim>, NoMemory> {
         let known = self.known();
-        let undoubted = undoubted(self.alloc, &known, &self.doubts, &self.claims)?;
-        let mut claims = with_orders(self.alloc, &known, &self.moved, &self.claims)?;
+        let undoubted = undoubted(self.alloc, &known, &self.said.doubts, &self.said.claims)?;
+        let mut claims = with_orders(self.alloc, &known, &self.said.moved, &self.said.claims)?;
         claims.extend_from_slice(&undoubted)?;
         Ok(claims)
     }
@@ -395,42 +463,32 @@ impl Walk<'_> {
         Ok(claims)
     }
 
-    /// Whether it is claimed that an operation stands for one that is spelled alike, or that has the same of these numbers.
-    fn is_own(&self, claim: &Claim, here: &[u64], there: &[u64]) -> bool {
-        if let What::For { op: i } = claim.what
-            && let Some(wanted) = self.sides.block.get(i)
-            && let Some(op) = self.sides.schedule.ops().get(claim.k)
-        {
-            return *op == *wanted || at(there, claim.k) == at(here, i);
+    /// Whether it is claimed that an operation stands for one that is spelled alike.
+    fn is_spelled_alike(&self, claim: &Claim) -> bool {
+        match claim.what {
+            What::For { op } => self.sides.block.get(op) == self.sides.schedule.ops().get(claim.k),
+            _ => false,
         }
-        false
+    }
+
+    /// Those that name another fault than that an operation stands for one that is spelled alike, or all, if none does.
+    fn telling(&self, claims: Vec<Claim>) -> Result<Vec<Claim>, NoMemory> {
+        let mut telling = Vec::new(self.alloc);
+        for claim in &claims {
+            if !self.is_spelled_alike(claim) {
+                telling.push(*claim)?;
+            }
+        }
+        Ok(if telling.is_empty() { claims } else { telling })
     }
 
     /// What is claimed; of those that are missing the first that is short is named.
-    pub(crate) fn into_choice(self) -> Result<Choice, NoMemory> {
-        let here = self
-            .block
-            .graph
-            .forwards(self.alloc, &self.block.graph.labels)?;
-        let there = self
-            .rows
-            .graph
-            .forwards(self.alloc, &self.rows.graph.labels)?;
-        let all = self.by_row(&self.all_claims()?)?;
-        let mut claims = Vec::new(self.alloc);
-        let mut own = Vec::new(self.alloc);
-        for claim in &all {
-            if self.is_own(claim, &here, &there) {
-                own.push(*claim)?;
-            } else {
-                claims.push(*claim)?;
-            }
-        }
+    pub(crate) fn choice(&self) -> Result<Choice, NoMemory> {
+        let all = self.all_claims()?;
         Ok(Choice {
-            claims,
-            own,
+            claims: self.telling(self.by_row(&all)?)?,
             left_out: self.missing.first_short(),
-            added: self.unlike,
+            added: self.said.unlike,
         })
     }
 }

@@ -1,13 +1,11 @@
 use Rattle.std.proofs.Common.{◌≡◌, ◌≢◌, ◌<◌, ℕ, None, length, ap, ◌∙◌, arith, zero, suc, ◌+◌, ◌%◌, ◌^◌, List, [], ◌∷◌, map, Option, Some, refl, sym, ap₂}
 use Rattle.std.specs.Prelude.{slice_index, IfSome}
-use Rattle.std.specs.Ordering.{nat_cmp}
-use Rattle.std.specs.BTreeMap.{get}
 use Rattle.iloc_ops.specs.Registers.{used}
 use Rattle.iloc_meaning.specs.Trace.{op_at}
 use Rattle.iloc_timed.specs.Rows.{issue_cycle, IsTable}
-use Rattle.iloc_validation.specs.declared.reading.Reading.{Reading}
-use Rattle.iloc_validation.specs.ByTheBook.{read, given, label, result_in}
-use Rattle.iloc_validation.specs.Readings.{sources_at, sources_of, reading_at}
+use Rattle.iloc_facts.specs.declared.reading.Reading.{Reading}
+use Rattle.iloc_facts.specs.Readings.{read, given, result_in, sources_at, sources_of, reading_at}
+use Rattle.iloc_facts.specs.Labels.{label}
 use Rattle.iloc_reasons.specs.Steps.Terms.{AreTerms, behind, label_number, mixed, opcode_number, value_of, values_of}
 use Rattle.iloc_ops.specs.declared.op.Reg.{Reg}
 use Rattle.iloc_ops.specs.declared.op.Op.{Op}
@@ -17,12 +15,12 @@ use Rattle.iloc_rules.specs.Renaming.{Source, source}
 use Rattle.iloc_rules.specs.Renaming.Source.{Start, Result}
 use Rattle.iloc_rules.proofs.Basics.Slots.{issued_early}
 use Rattle.iloc_rules.proofs.Renamed.MentionedSources.{source_earlier}
-use Rattle.iloc_validation.specs.declared.reading.sources.Sources.{Sources}
-use Rattle.iloc_validation.proofs.Issues.{numbers_from_issued}
-use Rattle.iloc_validation.proofs.LabelKeys.{same_constant, same_opcode}
-use Rattle.iloc_validation.proofs.ReadValues.{read_in}
+use Rattle.iloc_facts.specs.declared.reading.sources.Sources.{Sources}
+use Rattle.iloc_facts.proofs.Issues.{numbers_from_issued}
+use Rattle.iloc_facts.proofs.LabelKeys.{same_constant, same_opcode}
+use Rattle.iloc_facts.proofs.ReadValues.{read_in}
 use Rattle.iloc_reasons.specs.declared.terms.Values.TheVariants.{One, Two}
-use Rattle.iloc_reasons.specs.Facts.{AreAlike, AreAllSources, AreSources}
+use Rattle.iloc_facts.specs.Facts.{AreAlike, AreAllSources, AreSources, AreUnlike}
 use Rattle.iloc_reasons.proofs.likeness.terms_of.Goals as goal
 
 -- Operations that are alike to every depth have one term.
@@ -99,11 +97,10 @@ module _ (lat : Latencies) (block ops : List Op) (rows : List Row) (table : IsTa
       ∙ ap (λ s. behind (values_of there s) (label_number (op_at ops k))) (sym (each_read k within))
       ∙ sym (terms_there k within)
 
-  told_apart : (has : ℕ → Option ℕ) → ((i : ℕ) → i < length block → has (slice_index here i) ≢ None) → (k : ℕ)
-      → k < length ops → has (slice_index there k) ≡ None → (i : ℕ) → i < length block
-      → (depth : ℕ) × (AreAlike lat block ops rows depth i k → ⊥)
-  told_apart has kept k within none i inside =
-      (suc i, λ alike. kept i inside (ap has (alike_terms (suc i) i k (omega arith) inside within alike) ∙ none))
+  told_unlike : (i k : ℕ) → i < length block → k < length ops → slice_index here i ≢ slice_index there k
+      → AreUnlike lat block ops rows i k
+  told_unlike i k inside within differ =
+      (suc i, λ alike. differ (alike_terms (suc i) i k (omega arith) inside within alike))
 
 pub returns-then-are_terms-2 : goal.returns-then-are_terms-2
 returns-then-are_terms-2 c =
@@ -115,17 +112,21 @@ returns-then-are_terms-2 c =
     ≡ sources_of (read lat schedule.ops schedule.rows (issue_cycle schedule.rows k)) (used (op_at schedule.ops k)) =
     λ k within. ap (λ ss. sources_at ss k) c.in_ok-sources.ensures ∙ reads_at sides.readings.now k
     ∙ ap (λ (r : Reading). r.sources) (c.requires.each k within) in
-    let terms_here : AreTerms sides.block.now sides.givens.now c.in_ok-block.block.items =
+    let terms_here : AreTerms sides.block.now sides.givens.now c.in_ok-here.here.items =
     rw c.deref-3.ensures.value at (c.are_terms.ensures c.if-are_terms.true) in
-    let terms_there : AreTerms schedule.ops reads c.in_ok-rows.rows.items =
+    let terms_there : AreTerms schedule.ops reads c.in_ok-there.there.items =
     rw (c.ops-ops.ensures.ops, c.deref-then-are_terms.ensures.value, c.deref-then-are_terms-2.ensures.value)
     at (c.are_terms-then-are_terms.ensures c.if-are_terms-2.true) in
-    let kept : (i : ℕ) → i < length sides.block.now
-    → get nat_cmp c.in_ok-block-2.block (slice_index c.in_ok-block.block.items i) ≢ None =
-    rw c.deref-then-are_terms-2-2.ensures.value at c.in_ok-block-2.ensures in
-    told_apart lat sides.block.now schedule.ops schedule.rows c.requires.table sides.givens.now reads c.requires.each_given each_read
-    c.in_ok-block.block.items c.in_ok-rows.rows.items terms_here terms_there (get nat_cmp c.in_ok-block-2.block) kept
+    record {
+      unlike = told_unlike lat sides.block.now schedule.ops schedule.rows c.requires.table sides.givens.now reads c.requires.each_given
+          each_read c.in_ok-here.here.items c.in_ok-there.there.items terms_here terms_there;
+      known = rw c.deref-then-are_terms-2-2.ensures.value at c.in_ok-known.ensures;
+    }
 
 pub returns : goal.returns
-returns c = λ k within none i inside. absurd (c.in_ok-all.ensures 0 (omega arith)
-    (rw c.new.ensures.items at none))
+returns c = record {
+  unlike = λ i k inside within differ.
+      let apart = rw (c.new.ensures.items, c.new-2.ensures.items) at differ in
+      absurd (apart refl);
+  known = λ i inside. rw c.new.ensures.items (c.in_ok-known-2.ensures 0 (omega arith));
+}

@@ -1,5 +1,5 @@
 use Rattle.std.proofs.Common.{◌<◌, ℕ}
-use Rattle.iloc_validation.specs.Readings.{reading_at}
+use Rattle.iloc_facts.specs.Readings.{reading_at}
 use Rattle.iloc_reasons.specs.Steps.Sides.{IsNoted, source_at}
 use Rattle.iloc_reasons.proofs.read.read_by_some.Given as goal
 

@@ -1,4 +1,4 @@
-use Rattle.iloc_reasons.proofs.Claims.{added_is}
+use Rattle.iloc_facts.proofs.Changes.{added_is}
 use Rattle.iloc_reasons.proofs.reasons.added.Goals as goal
 
 pub returns-in-Some : goal.returns-in-Some

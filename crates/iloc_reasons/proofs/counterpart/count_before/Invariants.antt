@@ -1,0 +1,10 @@
+use Rattle.std.proofs.Common.{◌≡◌, ◌≤◌, take}
+use Rattle.iloc_meaning.specs.Trace.{op_at}
+use Rattle.iloc_facts.specs.Counts.{count_like}
+use Rattle.iloc_reasons.proofs.counterpart.count_before.Given as goal
+
+abbrev pub invariant-loop-j : goal.invariant-loop-j
+invariant-loop-j l = record {
+  count : l.count ≡ count_like (op_at l.ops l.k) (take l.j l.ops);
+  few : l.count ≤ l.j;
+}
