@@ -1,3 +1,4 @@
 pub mod Terms
 pub mod Runs
 pub mod Outcomes
+pub mod Addresses

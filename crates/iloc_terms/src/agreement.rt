@@ -1,8 +1,9 @@
 //! Whether two runs in terms end with the same.
-ghost use Rattle.std.specs.Prelude.{◌≡◌, ◌⊎◌, true, false, List, ℤ, slice_index_or, IfOk};
+ghost use Rattle.std.specs.Prelude.{◌≡◌, true, false, List, ℕ, ℤ, slice_index_or, IfOk};
 ghost use Rattle.iloc_terms.specs.Steps.Terms.{Meaning, IsMeaning};
-ghost use Rattle.iloc_terms.specs.Steps.Agreement.{AreMarks, IsSurelyGood, BadThere, AreSame};
+ghost use Rattle.iloc_terms.specs.Steps.Agreement.{AreMarks, IsSurelyGood, IsGoodWith, IsBadWith, BadThere, AreSame};
 
+use crate::spans::{Span, is_between, spans};
 use crate::symbols::Symbols;
 use crate::table::Table;
 use crate::table::node::Node;
@@ -40,15 +41,56 @@ pub(crate) fn is_marked(marks: &[bool], number: u32) -> bool
     marks.get(number as usize).copied().unwrap_or(false)
 }
 
-/// Whether an address is marked, or known and good.
-fn is_settled(table: &Table, marks: &[bool], address: u32) -> bool
-    ensures { result ≡ true → (slice_index_or marks.now address false ≡ true) ⊎ IsSurelyGood table.now address }
+/// Whether an address is good wherever two others are, since it is between them.
+fn is_within(table: &Table, span: Span, address: u32) -> bool
+    ensures { result ≡ true → IsGoodWith table.now span.low span.high address }
 {
-    is_marked(marks, address) || is_known(table, address)
+    let at = table.parts(address);
+    let low = table.parts(span.low);
+    let high = table.parts(span.high);
+    if low.base != at.base {
+        return false;
+    }
+    if high.base != at.base {
+        return false;
+    }
+    is_between(low.constant, at.constant, high.constant)
 }
 
-/// Whether each of these addresses is surely good or stands among those: where one of these is bad, one
-/// of those is.
+/// Whether an address is between two that are marked.
+fn is_between_marked(table: &Table, marks: &[bool], spans: &[Option<Span>], address: u32) -> bool
+    ensures { result ≡ true → (those : List ℕ) → AreMarks those marks.now → IsBadWith table.now those address }
+{
+    let Some(base) = table.parts(address).base else {
+        return false;
+    };
+    let Some(Some(span)) = spans.get(base as usize).copied() else {
+        return false;
+    };
+    if !is_marked(marks, span.low) {
+        return false;
+    }
+    if !is_marked(marks, span.high) {
+        return false;
+    }
+    is_within(table, span, address)
+}
+
+/// Whether an address is marked, known and good, or between two that are marked.
+fn is_settled(table: &Table, marks: &[bool], spans: &[Option<Span>], address: u32) -> bool
+    ensures { result ≡ true → (those : List ℕ) → AreMarks those marks.now → IsBadWith table.now those address }
+{
+    if is_marked(marks, address) {
+        return true;
+    }
+    if is_known(table, address) {
+        return true;
+    }
+    is_between_marked(table, marks, spans, address)
+}
+
+/// Whether each of these addresses is surely good, stands among those or is between two of them: where one
+/// of these is bad, one of those is.
 fn is_bad_there(
     alloc: Global,
     table: &Table,
@@ -58,8 +100,9 @@ fn is_bad_there(
     ensures { IfOk result (λ yes. yes ≡ true → BadThere table.now these.now those.now) }
 {
     let marks = marks(alloc, those, table.len())?;
+    let spans = spans(alloc, table, those)?;
     for address in these {
-        if !is_settled(table, &marks, *address) {
+        if !is_settled(table, &marks, &spans, *address) {
             return Ok(false);
         }
     }

@@ -3,9 +3,10 @@
 
 mod agreement;
 mod mentions;
+mod spans;
 mod symbols;
 mod table;
 mod two_runs;
 
-pub use mentions::Mentions;
+pub use mentions::{Mentions, Place};
 pub use two_runs::{Agreement, compare};

@@ -7,7 +7,16 @@ use iloc_meaning::Memory;
 use iloc_ops::NoMemory;
 use std::alloc::Global;
 
-/// The known words of two runs, as patterns of 32 bits.
+/// An address: so far above a word that is loaded, which has this number among those, or above 0.
+#[derive(Clone, Copy, Debug, PartialEq, Eq)]
+pub struct Place {
+    /// The number of the word; `None` above 0.
+    pub base: Option<usize>,
+    /// The bytes above it, modulo 2^32.
+    pub offset: u32,
+}
+
+/// The known words of two runs, as patterns of 32 bits, and how they get to unknown addresses.
 #[derive(Debug, Drop)]
 pub struct Mentions {
     /// The good addresses at which something is done.
@@ -16,6 +25,35 @@ pub struct Mentions {
     pub constants: Vec<u32>,
     /// The offsets from unknown words at which something is done.
     pub offsets: Vec<u32>,
+    /// Where words are loaded from, each above one before it or above 0.
+    pub loaded: Vec<Place>,
+    /// The places above such words at which something is done, first those of one run alone.
+    pub reached: Vec<Place>,
+}
+
+/// The number of a word that isn't loaded.
+const NONE: usize = usize::MAX;
+
+/// Where an address is, if it is known, or above a word that is loaded; these have numbers by term.
+fn place_of(table: &Table, loads: &[usize], address: u32) -> Option<Place> {
+    let (base, offset) = match table.node(address)? {
+        Node::Known(word) => {
+            return Some(Place {
+                base: None,
+                offset: word.cast_unsigned(),
+            });
+        }
+        Node::Offset { base, constant } => (base, constant.cast_unsigned()),
+        _ => (address, 0),
+    };
+    let base = *loads.get(base as usize)?;
+    if base == NONE {
+        return None;
+    }
+    Some(Place {
+        base: Some(base),
+        offset,
+    })
 }
 
 impl Mentions {
@@ -32,12 +70,47 @@ impl Mentions {
             addresses: Vec::new(alloc),
             constants: Vec::new(alloc),
             offsets: Vec::new(alloc),
+            loaded: Vec::new(alloc),
+            reached: Vec::new(alloc),
         };
+        let mut loads = vec![in alloc; NONE; table.len()]?;
+        let mut reached_by_both = Vec::new(alloc);
         for (number, node) in (0..u32::MAX).zip(table.nodes()) {
-            let is_address = is_marked(&one, number) || is_marked(&other, number);
-            mentions.add(node, is_address)?;
+            let (is_in_one, is_in_other) = (is_marked(&one, number), is_marked(&other, number));
+            mentions.add(node, is_in_one || is_in_other)?;
+            mentions.add_loaded(table, &mut loads, number, node)?;
+            match place_of(table, &loads, number) {
+                Some(place) if place.base.is_some() && is_in_one && is_in_other => {
+                    reached_by_both.push(place)?;
+                }
+                Some(place) if place.base.is_some() && (is_in_one || is_in_other) => {
+                    mentions.reached.push(place)?;
+                }
+                _ => {}
+            }
         }
+        mentions.reached.extend_from_slice(&reached_by_both)?;
         Ok(mentions)
+    }
+
+    /// Adds from where the word with this number is loaded, and notes its number among those.
+    fn add_loaded(
+        &mut self,
+        table: &Table,
+        loads: &mut Vec<usize>,
+        number: u32,
+        node: &Node,
+    ) -> Result<(), NoMemory> {
+        if let Node::Word { address, .. } = *node {
+            if let (Some(place), Some(load)) = (
+                place_of(table, loads, address),
+                loads.get_mut(number as usize),
+            ) {
+                *load = self.loaded.len();
+                self.loaded.push(place)?;
+            }
+        }
+        Ok(())
     }
 
     /// Adds what a node says.

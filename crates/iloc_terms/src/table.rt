@@ -1,16 +1,23 @@
 //! A table of terms.
 ghost use Rattle.std.specs.Prelude.{◌≡◌, [], length, true, IfSome, IfOk};
 
+mod epochs;
 mod memories;
 pub(crate) mod node;
+mod products;
+mod shifts;
+mod sums;
 mod tries;
-mod words;
+pub(crate) mod words;
 
 use iloc_ops::NoMemory;
 use node::{Node, fork_key};
 use std::alloc::Global;
 use std::collections::BTreeMap;
 use std::marker::Model;
+
+/// How many epochs of a memory are looked at, at most.
+const REACH: usize = 64;
 
 /// Terms by their numbers. Equal terms share a number.
 #[derive(Drop)]
@@ -20,6 +27,8 @@ pub(crate) struct Table {
     // looks whether it does.
     forks: BTreeMap<u64, u32>,
     numbers: BTreeMap<u128, u32>,
+    // How many terms it may still make or find before its memories are no longer put in order.
+    steps: usize,
 }
 
 impl Model for Table {
@@ -35,15 +44,32 @@ impl Table {
     ghost use Rattle.iloc_terms.specs.Steps.Terms.{IsNode, Means, Adds};
     ghost use Rattle.iloc_terms.specs.Steps.Order.{IsOrdered};
 
-    /// The table without terms.
-    pub(crate) fn new(alloc: Global) -> Table
+    /// The table without terms, whose memories are put in order for so many steps: terms made or found.
+    pub(crate) fn new(alloc: Global, steps: usize) -> Table
         ensures { result ≡ [] }
     {
         Table {
             nodes: Vec::new(alloc),
             forks: BTreeMap::new(alloc),
             numbers: BTreeMap::new(alloc),
+            steps,
         }
+    }
+
+    /// How many epochs of a memory may be looked at.
+    fn reach(&self) -> usize {
+        self.steps.min(REACH)
+    }
+
+    /// Takes a step, if there is one more.
+    fn spends(&mut self) -> bool
+        ensures { self.new ≡ self.old }
+    {
+        if self.steps == 0 {
+            return false;
+        }
+        self.steps -= 1;
+        true
     }
 
     /// How many terms it has.
@@ -86,6 +112,7 @@ impl Table {
         let Ok(next) = u32::try_from(self.nodes.len()) else {
             return Err(NoMemory);
         };
+        self.steps = self.steps.saturating_sub(1);
         let number = self.noted(node, next)?;
         if self.node(number) == Some(node) {
             return Ok(number);

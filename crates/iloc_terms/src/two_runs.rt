@@ -14,6 +14,12 @@ use iloc_ops::NoMemory;
 use iloc_timed::{Latencies, Schedule};
 use std::alloc::Global;
 
+/// How many steps memories may take to be put in order, for each term of the plain runs.
+const STEPS_PER_TERM: usize = 4;
+
+/// How many more they may take in each block.
+const FIRST_STEPS: usize = 4096;
+
 /// What is seen of two schedules by their runs in terms.
 #[derive(Debug, Drop)]
 pub enum Agreement {
@@ -34,9 +40,10 @@ struct TwoRuns {
 }
 
 impl TwoRuns {
-    /// The runs of two schedules.
+    /// The runs of two schedules, whose memories may take so many steps to be put in order.
     fn of(
         alloc: Global,
+        steps: usize,
         one: &Schedule,
         other: &Schedule,
         latencies: &Latencies,
@@ -46,7 +53,7 @@ impl TwoRuns {
             × Ends memory d (issued_before latencies.now memory other.now.ops other.now.rows (length other.now.rows))
             runs.other) }
     {
-        let mut table = Table::new(alloc);
+        let mut table = Table::new(alloc, steps);
         let one = Symbols::of(alloc, &mut table, one, latencies)?;
         let other = Symbols::of(alloc, &mut table, other, latencies)?;
         Ok(TwoRuns { table, one, other })
@@ -73,7 +80,31 @@ impl TwoRuns {
     }
 }
 
-/// Compares two schedules by their runs in terms: by outcomes or by outputs alone.
+/// What is seen of two schedules by runs whose memories may take so many steps to be put in order, and how many
+/// terms they have.
+fn seen(
+    alloc: Global,
+    steps: usize,
+    outputs_alone: bool,
+    one: &Schedule,
+    other: &Schedule,
+    latencies: &Latencies,
+) -> Result<(Agreement, usize), NoMemory>
+    ensures { IfOk result (λ seen. IsAgreement outputs_alone latencies.now one.now other.now seen.0) }
+{
+    let runs = TwoRuns::of(alloc, steps, one, other, latencies)?;
+    let terms = runs.table.len();
+    if runs.agree(alloc, false)? {
+        return Ok((Agreement::Same, terms));
+    }
+    if outputs_alone && runs.agree(alloc, true)? {
+        return Ok((Agreement::Prints, terms));
+    }
+    Ok((Agreement::Unseen(runs.mentions(alloc)?), terms))
+}
+
+/// Compares two schedules by their runs in terms: by outcomes or by outputs alone. First memories stay as they are
+/// written, then they are put in order: that costs more, and may lack steps.
 ///
 /// Promise: those that are found to agree do so on every memory.
 pub fn compare(
@@ -85,12 +116,17 @@ pub fn compare(
 ) -> Result<Agreement, NoMemory>
     ensures { IfOk result (IsAgreement outputs_alone latencies.now one.now other.now) }
 {
-    let runs = TwoRuns::of(alloc, one, other, latencies)?;
-    if runs.agree(alloc, false)? {
+    let (plain, terms) = seen(alloc, 0, outputs_alone, one, other, latencies)?;
+    if let Agreement::Same = plain {
         return Ok(Agreement::Same);
     }
-    if outputs_alone && runs.agree(alloc, true)? {
-        return Ok(Agreement::Prints);
+    let steps = terms
+        .saturating_mul(STEPS_PER_TERM)
+        .saturating_add(FIRST_STEPS);
+    let (ordered, _) = seen(alloc, steps, outputs_alone, one, other, latencies)?;
+    match ordered {
+        Agreement::Same => Ok(Agreement::Same),
+        Agreement::Prints => Ok(Agreement::Prints),
+        Agreement::Unseen(_) => Ok(plain),
     }
-    Ok(Agreement::Unseen(runs.mentions(alloc)?))
 }

@@ -1,5 +1,5 @@
 -- Sums modulo 2^32.
-use Rattle.std.proofs.Common.{◌≡◌, ℤ, pos, ◌+ℤ◌, ◌-ℤ◌, FitsSigned, w32, sym, ap, ◌∙◌, arith}
+use Rattle.std.proofs.Common.{◌≡◌, ℤ, ◌+ℤ◌, ◌-ℤ◌, FitsSigned, w32, sym, ap, ◌∙◌, arith}
 use Rattle.std.specs.Int.{cast_signed, cast_unsigned}
 use Rattle.std.proofs.lemmas.Int.{int_wrap_fits, int_wrap-add_left, int_wrap-add_right, to_z-of_z, SFits-int_wrap, ints}
 use Rattle.iloc_meaning.specs.Arithmetic.{wrapped}
@@ -37,15 +37,6 @@ raised_parts word base c by is =
     let order : base +ℤ (c +ℤ by) ≡ (base +ℤ c) +ℤ by = omega (arith, ints) in
     int_wrap-add_right w32 base (c +ℤ by) ∙ ap (λ x. wrapped x) order ∙ sym (int_wrap-add_left w32 (base +ℤ c) by)
     ∙ ap (λ x. wrapped (x +ℤ by)) (sym is)
-
--- the sum of a constant and a word
-pub sum_constant : (left right c : ℤ) → left ≡ wrapped (pos 0 +ℤ c) → wrapped (right +ℤ c) ≡ wrapped (left +ℤ right)
-sum_constant left right c is =
-    let order : right +ℤ c ≡ (pos 0 +ℤ c) +ℤ right = omega (arith, ints) in
-    ap (λ x. wrapped x) order ∙ sym (int_wrap-add_left w32 (pos 0 +ℤ c) right) ∙ ap (λ x. wrapped (x +ℤ right)) (sym is)
-
-pub sum_comm : (left right : ℤ) → wrapped (right +ℤ left) ≡ wrapped (left +ℤ right)
-sum_comm left right = let order : right +ℤ left ≡ left +ℤ right = omega (arith, ints) in ap (λ x. wrapped x) order
 
 -- an operation on what is stored, itself stored
 pub stored : (f : ℤ → ℤ → ℤ) (a b r : ℤ) → FitsSigned w32 a → FitsSigned w32 b → FitsSigned w32 r

@@ -11,9 +11,9 @@ use Rattle.iloc_meaning.specs.Arithmetic.{wrapped, shift_of}
 use Rattle.iloc_meaning.specs.Memory.{word_at}
 use Rattle.iloc_meaning.proofs.Cases.{by_bool}
 use Rattle.iloc_terms.specs.declared.table.node.Binary.{Binary}
-use Rattle.iloc_terms.specs.declared.table.node.Binary.TheVariants.{Sum, Product, ShiftLeft, ShiftRight}
+use Rattle.iloc_terms.specs.declared.table.node.Binary.TheVariants.{Product, ShiftLeft, ShiftRight}
 use Rattle.iloc_terms.specs.declared.table.node.Node.{Node}
-use Rattle.iloc_terms.specs.declared.table.node.Node.TheVariants.{Known, Offset, Scaled, Combined, Word, Start, Epoch, Leaf, Fork}
+use Rattle.iloc_terms.specs.declared.table.node.Node.TheVariants.{Known, Offset, Sum, Combined, Word, Start, Epoch, Leaf, Fork}
 use Rattle.iloc_terms.specs.Agreement.{IsMemory}
 use Rattle.iloc_terms.specs.Steps.Terms.{Meaning, IsMeaning, Means, node_at, base_word, key_of, computed, word_or_zero}
 use Rattle.iloc_terms.specs.Steps.Order.{names_below, base_below, IsOrdered}
@@ -22,7 +22,7 @@ use Rattle.iloc_terms.specs.Steps.Order.{names_below, base_below, IsOrdered}
 abbrev word_of : Meaning → Node → ℤ
 word_of d (Known word) = wrapped word
 word_of d (Offset base c) = wrapped (d.word base +ℤ c)
-word_of d (Scaled factor by) = wrapped (d.word factor *ℤ by)
+word_of d (Sum rest atom by) = wrapped (base_word d rest +ℤ d.word atom *ℤ by)
 word_of d (Combined by left right) = computed by (d.word left) (d.word right)
 word_of d (Word address m) = d.words m (d.word address)
 word_of d _ = pos 0
@@ -138,7 +138,6 @@ shl_fits : (z : ℤ) (k : ℕ) → FitsSigned w32 (int_shl w32 z k)
 shl_fits z k = sfits_to_z {w = w32} {n = (cast_unsigned w32 z * 2 ^ k) % 2 ^ 32} (omega arith)
 
 computed_fits : (by : Binary) (x y : ℤ) → FitsSigned w32 x → FitsSigned w32 (computed by x y)
-computed_fits Sum x y fits = SFits-int_wrap w32 (x +ℤ y)
 computed_fits Product x y fits = SFits-int_wrap w32 (x *ℤ y)
 computed_fits ShiftLeft x y fits = shl_fits x (shift_of y)
 computed_fits ShiftRight x y fits = shr_fits x (shift_of y) fits
@@ -146,7 +145,7 @@ computed_fits ShiftRight x y fits = shr_fits x (shift_of y) fits
 word_of_fits : (d : Meaning) (node : Node) → AllFit d → FitsSigned w32 (word_of d node)
 word_of_fits d (Known word) fit = SFits-int_wrap w32 word
 word_of_fits d (Offset base c) fit = SFits-int_wrap w32 (d.word base +ℤ c)
-word_of_fits d (Scaled factor by) fit = SFits-int_wrap w32 (d.word factor *ℤ by)
+word_of_fits d (Sum rest atom by) fit = SFits-int_wrap w32 (base_word d rest +ℤ d.word atom *ℤ by)
 word_of_fits d (Combined by left right) fit = computed_fits by (d.word left) (d.word right) (fit.word left)
 word_of_fits d (Word address m) fit = fit.words m (d.word address)
 word_of_fits d _ fit = zero_fits

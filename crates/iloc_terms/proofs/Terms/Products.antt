@@ -1,7 +1,7 @@
 -- Products of integers, and of words.
 use Rattle.std.proofs.Common.{◌≡◌, ℤ, pos, negsuc, ◌+ℤ◌, ◌-ℤ◌, ◌*ℤ◌, w32, arith, sym, ap, ◌∙◌}
 use Rattle.std.proofs.Math.IntN.{neg_ℤ, suc_ℤ, pred_ℤ, ℤ_ind, +ℤ_one, -ℤ_one, suc_ℤ-+ℤ, pred_ℤ-+ℤ, suc_ℤ-*ℤ, pred_ℤ-*ℤ, zero-*ℤ, *ℤ_comm, *ℤ-negsuc}
-use Rattle.std.proofs.lemmas.Int.{ints, int_wrap-add_left, int_wrap-add_right, int_wrap-mul_left, int_wrap-mul_right}
+use Rattle.std.proofs.lemmas.Int.{ints, int_wrap-add_left, int_wrap-add_right, int_wrap-mul_left}
 use Rattle.iloc_meaning.specs.Arithmetic.{wrapped}
 
 -- an integer is reached from 0 by steps up and down
@@ -34,30 +34,16 @@ mul-assoc a b c = by_steps (λ x. (x *ℤ b) *ℤ c ≡ x *ℤ (b *ℤ c))
         let whole : x *ℤ k ≡ (x -ℤ y) *ℤ k +ℤ y *ℤ k = ap (λ z. z *ℤ k) (sym back) ∙ add-mul (x -ℤ y) y k in
         rw whole (omega (arith, ints))
 
-mul-add : (k a b : ℤ) → k *ℤ (a +ℤ b) ≡ k *ℤ a +ℤ k *ℤ b
+pub mul-add : (k a b : ℤ) → k *ℤ (a +ℤ b) ≡ k *ℤ a +ℤ k *ℤ b
 mul-add k a b = *ℤ_comm k (a +ℤ b) ∙ add-mul a b k ∙ ap (λ y. y +ℤ b *ℤ k) (*ℤ_comm a k)
     ∙ ap (λ y. k *ℤ a +ℤ y) (*ℤ_comm b k)
-
--- a multiple of a multiple
-pub times_times : (word factor by more : ℤ) → word ≡ wrapped (factor *ℤ by)
-    → wrapped (factor *ℤ wrapped (by *ℤ more)) ≡ wrapped (word *ℤ more)
-times_times word factor by more is = grind (arith, int_wrap-mul_left, int_wrap-mul_right, mul-assoc, w32)
 
 -- a multiple of a sum
 pub times_parts : (word base c by : ℤ) → word ≡ wrapped (base +ℤ c)
     → wrapped (wrapped (base *ℤ by) +ℤ wrapped (c *ℤ by)) ≡ wrapped (word *ℤ by)
 times_parts word base c by is = grind (arith, add-mul, int_wrap-add_left, int_wrap-add_right, int_wrap-mul_left, w32)
 
--- the sum of two multiples
-pub times_sum : (left right factor by more : ℤ) → left ≡ wrapped (factor *ℤ by) → right ≡ wrapped (factor *ℤ more)
-    → wrapped (factor *ℤ wrapped (by +ℤ more)) ≡ wrapped (left +ℤ right)
-times_sum left right factor by more is other = grind (arith, int_wrap-add_left, int_wrap-add_right, int_wrap-mul_right, mul-add, w32)
-
--- a multiple of a constant
-pub times_constant : (word c by : ℤ) → word ≡ wrapped (pos 0 +ℤ c) → wrapped (c *ℤ by) ≡ wrapped (word *ℤ by)
-times_constant word c by is = grind (arith, int_wrap-mul_left, ints, pos, w32)
-
-times_one : (k : ℤ) → k *ℤ pos 1 ≡ k
+pub times_one : (k : ℤ) → k *ℤ pos 1 ≡ k
 times_one k = let plain : pos 0 +ℤ k ≡ k = omega (arith, ints) in
     *ℤ_comm k (pos 1) ∙ suc_ℤ-*ℤ (pos 0) k ∙ ap (λ x. x +ℤ k) (zero-*ℤ k) ∙ plain
 

@@ -1,5 +1,5 @@
 -- The same terms at the ends of two schedules.
-use Rattle.std.specs.Prelude.{ℕ, ◌≡◌, ◌==◌, Bool, true, false, List, slice_index_or, ℤ}
+use Rattle.std.specs.Prelude.{ℕ, ◌≡◌, ◌==◌, Bool, not, true, false, List, slice_index_or, ℤ}
 use Rattle.std.specs.List.{list_any}
 use Rattle.iloc_meaning.specs.Address.{is_good}
 use Rattle.iloc_terms.specs.declared.symbols.Symbols.{Symbols}
@@ -19,6 +19,18 @@ AreMarks numbers marks = (k : ℕ) → slice_index_or marks k false ≡ true →
 -- number k is a good address, whatever the terms mean
 abbrev pub IsSurelyGood : List Node → ℕ → Type 0
 IsSurelyGood nodes k = (memory : List ℤ) (d : Meaning) → IsMeaning memory nodes d → is_good (d.word k) ≡ true
+
+-- number k is a good address where two others are, whatever the terms mean
+abbrev pub IsGoodWith : List Node → ℕ → ℕ → ℕ → Type 0
+IsGoodWith nodes one other k =
+    (memory : List ℤ) (d : Meaning) → IsMeaning memory nodes d → is_good (d.word one) ≡ true
+    → is_good (d.word other) ≡ true → is_good (d.word k) ≡ true
+
+-- where number k is bad, one of those is, whatever the terms mean
+abbrev pub IsBadWith : List Node → List ℕ → ℕ → Type 0
+IsBadWith nodes those k =
+    (memory : List ℤ) (d : Meaning) → IsMeaning memory nodes d → not (is_good (d.word k)) ≡ true
+    → some_bad d those ≡ true
 
 -- where one of these is bad, one of those is, whatever the terms mean
 abbrev pub BadThere : List Node → List ℕ → List ℕ → Type 0

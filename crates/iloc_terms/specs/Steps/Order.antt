@@ -1,7 +1,7 @@
 -- Terms that name earlier ones alone.
 use Rattle.std.specs.Prelude.{ℕ, ◌≡◌, ◌<◌, ◌&&◌, nat_lt, Bool, true, List, length, Option, Some, None}
 use Rattle.iloc_terms.specs.declared.table.node.Node.{Node}
-use Rattle.iloc_terms.specs.declared.table.node.Node.TheVariants.{Known, Offset, Scaled, Combined, Word, Start, Epoch, Empty, Leaf, Fork}
+use Rattle.iloc_terms.specs.declared.table.node.Node.TheVariants.{Known, Offset, Sum, Combined, Word, Start, Epoch, Empty, Leaf, Fork}
 use Rattle.iloc_terms.specs.Steps.Terms.{node_at}
 
 -- whether a base is below k, if there is one
@@ -13,7 +13,7 @@ base_below k (Some base) = nat_lt base k
 abbrev pub names_below : ℕ → Node → Bool
 names_below k (Known word) = true
 names_below k (Offset base c) = nat_lt base k
-names_below k (Scaled factor by) = nat_lt factor k
+names_below k (Sum rest atom by) = base_below k rest && nat_lt atom k
 names_below k (Combined by left right) = nat_lt left k && nat_lt right k
 names_below k (Word address memory) = nat_lt address k && nat_lt memory k
 names_below k Start = true

@@ -1,18 +1,18 @@
 -- What terms mean on a memory.
-use Rattle.std.specs.Prelude.{ℕ, ◌≡◌, ◌<◌, ◌==◌, ◌%◌, ◌/◌, if◌then◌else◌, false, List, length, slice_index_or, Option, Some, None, unwrap_or, option_map, ℤ, pos, ◌+ℤ◌, ◌-ℤ◌, ◌*ℤ◌, FitsSigned}
+use Rattle.std.specs.Prelude.{ℕ, ◌≡◌, ◌<◌, ◌==◌, ◌%◌, ◌/◌, if◌then◌else◌, true, false, List, length, slice_index_or, Option, Some, None, IfSome, unwrap_or, option_map, ℤ, pos, ◌+ℤ◌, ◌-ℤ◌, ◌*ℤ◌, FitsSigned}
 use Rattle.std.specs.Int.{w32, cast_unsigned}
 use Rattle.std.specs.Ordering.{int_eq}
 use Rattle.iloc_meaning.specs.Address.{good_address}
 use Rattle.iloc_meaning.specs.Arithmetic.{wrapped, shifted_left, shifted_right}
 use Rattle.iloc_meaning.specs.Memory.{word_at}
 use Rattle.iloc_terms.specs.declared.table.node.Binary.{Binary}
-use Rattle.iloc_terms.specs.declared.table.node.Binary.TheVariants.{Sum, Product, ShiftLeft, ShiftRight}
+use Rattle.iloc_terms.specs.declared.table.node.Binary.TheVariants.{Product, ShiftLeft, ShiftRight}
 use Rattle.iloc_terms.specs.declared.table.tries.Found.{Found}
 use Rattle.iloc_terms.specs.declared.table.tries.Found.TheVariants.{Term, Nothing, Untold}
 use Rattle.iloc_terms.specs.declared.table.memories.LoadSource.{LoadSource}
 use Rattle.iloc_terms.specs.declared.table.memories.LoadSource.TheVariants.{Written, In}
 use Rattle.iloc_terms.specs.declared.table.node.Node.{Node}
-use Rattle.iloc_terms.specs.declared.table.node.Node.TheVariants.{Known, Offset, Scaled, Combined, Word, Start, Epoch, Empty, Leaf, Fork}
+use Rattle.iloc_terms.specs.declared.table.node.Node.TheVariants.{Known, Offset, Sum, Combined, Word, Start, Epoch, Empty, Leaf, Fork}
 
 -- for each number a word, what stands at each address of a memory, and what a trie has at each key
 pub record Meaning : Type 0 where
@@ -30,7 +30,6 @@ abbrev pub key_of : ℤ → ℤ → ℕ
 key_of base z = cast_unsigned w32 (wrapped (z -ℤ base))
 
 abbrev pub computed : Binary → ℤ → ℤ → ℤ
-computed Sum x y = wrapped (x +ℤ y)
 computed Product x y = wrapped (x *ℤ y)
 computed ShiftLeft x y = shifted_left x y
 computed ShiftRight x y = shifted_right x y
@@ -47,7 +46,7 @@ with_word words a word z = if int_eq z a then word else words z
 abbrev pub Means : List ℤ → Meaning → ℕ → Node → Type 0
 Means memory d k (Known word) = d.word k ≡ wrapped word
 Means memory d k (Offset base c) = d.word k ≡ wrapped (d.word base +ℤ c)
-Means memory d k (Scaled factor by) = d.word k ≡ wrapped (d.word factor *ℤ by)
+Means memory d k (Sum rest atom by) = d.word k ≡ wrapped (base_word d rest +ℤ d.word atom *ℤ by)
 Means memory d k (Combined by left right) = d.word k ≡ computed by (d.word left) (d.word right)
 Means memory d k (Word address m) = d.word k ≡ d.words m (d.word address)
 Means memory d k Start = (z : ℤ) → d.words k z ≡ word_or_zero memory z
@@ -95,11 +94,37 @@ AreHalves d trie (Some halves) =
     (key : ℕ) → d.entry trie key
     ≡ (if key % 2 == 0 then d.entry halves.0 (key / 2) else d.entry halves.1 (key / 2))
 
--- the memory has this word at a base and a key, and else those of another memory
-abbrev pub IsWritten : Meaning → ℕ → Option ℕ → ℕ → ℕ → Option ℕ → Type 0
-IsWritten d memory base key value None = Unit {0}
-IsWritten d memory base key value (Some number) =
-    (z : ℤ) → d.words number z ≡ (if key_of (base_word d base) z == key then d.word value else d.words memory z)
+-- the trie has what the old one has at every other key
+abbrev pub IsSameBut : Meaning → ℕ → ℕ → ℕ → Type 0
+IsSameBut d trie key new = (other : ℕ) → (other == key) ≡ false → d.entry new other ≡ d.entry trie other
+
+-- the trie has the words of two, those of the second where both have one
+abbrev pub IsUnion : Meaning → ℕ → ℕ → Option ℕ → Type 0
+IsUnion d under over None = Unit {0}
+IsUnion d under over (Some new) =
+    (key : ℕ) (word : ℤ)
+    → unwrap_or (d.entry new key) word ≡ unwrap_or (d.entry over key) (unwrap_or (d.entry under key) word)
+
+-- the memory has the words of a trie above a base, and else those of another memory
+abbrev pub IsOver : Meaning → ℕ → Option ℕ → ℕ → ℕ → Type 0
+IsOver d memory base trie new =
+    (z : ℤ) → d.words new z ≡ unwrap_or (d.entry trie (key_of (base_word d base) z)) (d.words memory z)
+
+-- one trie does over the memory what the other does
+abbrev pub IsOverSame : Meaning → ℕ → Option ℕ → ℕ → ℕ → Type 0
+IsOverSame d memory base trie new =
+    (z : ℤ) → FitsSigned w32 z → unwrap_or (d.entry new (key_of (base_word d base) z)) (d.words memory z)
+    ≡ unwrap_or (d.entry trie (key_of (base_word d base) z)) (d.words memory z)
+
+-- the memories have the same words at all other locations
+abbrev pub IsSameElsewhere : Meaning → Option ℕ → ℕ → ℕ → ℕ → Type 0
+IsSameElsewhere d base key memory new =
+    (z : ℤ) → FitsSigned w32 z → (key_of (base_word d base) z == key) ≡ false → d.words new z ≡ d.words memory z
+
+-- the memories have the same word at the location
+abbrev pub IsSameAt : Meaning → Option ℕ → ℕ → ℕ → ℕ → Type 0
+IsSameAt d base key memory new =
+    (z : ℤ) → (key_of (base_word d base) z == key) ≡ true → d.words new z ≡ d.words memory z
 
 -- the trie has nothing at any other key
 abbrev pub HasNoOther : Meaning → ℕ → ℕ → Type 0
@@ -119,6 +144,23 @@ abbrev pub IsLocationOf : Meaning → ℕ → Option ℕ → ℕ → Type 0
 IsLocationOf d address base key =
     (z : ℤ) → FitsSigned w32 z → (key_of (base_word d base) z == key) ≡ int_eq z (d.word address)
 
--- the word is a multiple of another
-abbrev pub IsMultipleOf : Meaning → ℕ → ℕ → ℤ → Type 0
-IsMultipleOf d number factor by = d.word number ≡ wrapped (d.word factor *ℤ by)
+-- the base is another and a term together
+abbrev pub IsSum : Meaning → Option ℕ → Option ℕ → ℕ → ℤ → Type 0
+IsSum d base rest atom by = base_word d base ≡ wrapped (base_word d rest +ℤ d.word atom *ℤ by)
+
+-- the base is the sum of two, if one is made
+abbrev pub IsSumOfBases : Meaning → Option (Option ℕ) → Option ℕ → Option ℕ → Type 0
+IsSumOfBases d sum left right = IfSome sum (λ base. base_word d base ≡ wrapped (base_word d left +ℤ base_word d right))
+
+-- the base is a multiple of another, if one is made
+abbrev pub IsMultiple : Meaning → Option (Option ℕ) → Option ℕ → ℤ → Type 0
+IsMultiple d multiple base by = IfSome multiple (λ it. base_word d it ≡ wrapped (base_word d base *ℤ by))
+
+-- the word of what is left of a product, 1 where nothing is
+abbrev pub factor_word : Meaning → Option ℕ → ℤ
+factor_word d None = pos 1
+factor_word d (Some rest) = d.word rest
+
+-- the word is the product of two, if one is made
+abbrev pub IsProduct : Meaning → Option ℕ → ℕ → ℕ → Type 0
+IsProduct d product left right = IfSome product (λ it. d.word it ≡ wrapped (d.word left *ℤ d.word right))

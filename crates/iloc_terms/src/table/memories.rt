@@ -1,7 +1,7 @@
 //! The memories of a table: the memory handed in, and epochs of writes whose addresses have one base.
-ghost use Rattle.std.specs.Prelude.{◌≡◌, List, ℤ, FitsSigned, IfOk};
+ghost use Rattle.std.specs.Prelude.{◌≡◌, true, List, ℤ, FitsSigned, IfOk};
 ghost use Rattle.std.specs.Int.{w32};
-ghost use Rattle.iloc_terms.specs.Steps.Terms.{Adds, Meaning, IsMeaning, IsWritten, IsSeen, IsLocationOf, word_or_zero, with_word};
+ghost use Rattle.iloc_terms.specs.Steps.Terms.{Adds, Meaning, IsMeaning, IsSeen, IsLocationOf, word_or_zero, with_word};
 
 use crate::table::Table;
 use crate::table::node::Node;
@@ -19,14 +19,14 @@ pub(crate) enum LoadSource {
 
 /// Where an address is: so far above a base, modulo 2^32; with no base, above 0.
 #[derive(Clone, Copy)]
-struct Location {
-    base: Option<u32>,
-    key: u32,
+pub(crate) struct Location {
+    pub(crate) base: Option<u32>,
+    pub(crate) key: u32,
 }
 
 impl Table {
     /// Where an address is.
-    fn location(&self, address: u32) -> Location
+    pub(crate) fn location(&self, address: u32) -> Location
         ensures { (memory : List ℤ) (d : Meaning) → IsMeaning memory self.now d
             → IsLocationOf d address result.base result.key }
     {
@@ -43,65 +43,6 @@ impl Table {
             → d.words n z ≡ word_or_zero memory z)) }
     {
         self.intern(Node::Start)
-    }
-
-    /// A memory with a word written in its last epoch; `None` where that has another base.
-    fn written_in_last(
-        &mut self,
-        memory: u32,
-        base: Option<u32>,
-        key: u32,
-        value: u32,
-    ) -> Result<Option<u32>, NoMemory>
-        ensures { IfOk result (λ n. Adds self.old self.new (λ _ d. IsWritten d memory base key value n)) }
-    {
-        let Some(
-            Node::Epoch {
-                memory: before,
-                base: last,
-                trie,
-            },
-        ) = self.node(memory)
-        else {
-            return Ok(None);
-        };
-        if last != base {
-            return Ok(None);
-        }
-        let Some(trie) = self.put(trie, key, value)? else {
-            return Ok(None);
-        };
-        Ok(Some(self.intern(Node::Epoch {
-            memory: before,
-            base,
-            trie,
-        })?))
-    }
-
-    /// A memory with a word written in an epoch of its own.
-    fn written_in_new(
-        &mut self,
-        memory: u32,
-        base: Option<u32>,
-        key: u32,
-        value: u32,
-    ) -> Result<u32, NoMemory>
-        ensures { IfOk result (λ n. Adds self.old self.new (λ _ d. IsWritten d memory base key value (Some n))) }
-    {
-        let trie = self.intern(Node::Leaf { at: key, value })?;
-        self.intern(Node::Epoch { memory, base, trie })
-    }
-
-    /// A memory with a word written at an address.
-    pub(crate) fn written(&mut self, memory: u32, address: u32, value: u32) -> Result<u32, NoMemory>
-        ensures { IfOk result (λ n. Adds self.old self.new (λ _ d. (z : ℤ) → FitsSigned w32 z
-            → d.words n z ≡ with_word (d.words memory) (d.word address) (d.word value) z)) }
-    {
-        let Location { base, key } = self.location(address);
-        match self.written_in_last(memory, base, key, value)? {
-            Some(number) => Ok(number),
-            None => self.written_in_new(memory, base, key, value),
-        }
     }
 
     /// What the last epoch of a memory says of an address.
@@ -129,13 +70,78 @@ impl Table {
         }
     }
 
-    /// The word at an address of a memory.
+    /// The word at an address of a memory. What is known not to matter there is left out of the memory.
     pub(crate) fn word(&mut self, memory: u32, address: u32) -> Result<u32, NoMemory>
         ensures { IfOk result (λ n. Adds self.old self.new (λ _ d. d.word n ≡ d.words memory (d.word address))) }
     {
         match self.seen(memory, address) {
             LoadSource::Written(value) => Ok(value),
-            LoadSource::In(memory) => self.intern(Node::Word { address, memory }),
+            LoadSource::In(memory) => {
+                let at = self.location(address);
+                let memory = self.narrowed(memory, at, self.reach())?;
+                self.intern(Node::Word { address, memory })
+            }
         }
+    }
+
+    /// Whether a word was read at an address.
+    fn is_from(&self, value: u32, address: u32) -> bool {
+        match self.node(value) {
+            Some(Node::Word { address: from, .. }) => from == address,
+            _ => false,
+        }
+    }
+
+    /// Whether a word is the one at an address of a memory.
+    pub(crate) fn is_there(
+        &mut self,
+        memory: u32,
+        address: u32,
+        value: u32,
+    ) -> Result<bool, NoMemory>
+        ensures { IfOk result (λ yes. Adds self.old self.new (λ _ d.
+            yes ≡ true → d.word value ≡ d.words memory (d.word address))) }
+    {
+        match self.seen(memory, address) {
+            LoadSource::Written(word) => Ok(word == value),
+            LoadSource::In(_) => {
+                if !self.is_from(value, address) {
+                    return Ok(false);
+                }
+                let word = self.word(memory, address)?;
+                Ok(word == value)
+            }
+        }
+    }
+
+    /// A memory with a word written at an address, which isn't the one there.
+    fn changed(&mut self, memory: u32, address: u32, value: u32) -> Result<u32, NoMemory>
+        ensures { IfOk result (λ n. Adds self.old self.new (λ _ d. (z : ℤ) → FitsSigned w32 z
+            → d.words n z ≡ with_word (d.words memory) (d.word address) (d.word value) z)) }
+    {
+        let Location { base, key } = self.location(address);
+        let trie = self.intern(Node::Leaf { at: key, value })?;
+        self.over(memory, base, trie)
+    }
+
+    /// A memory with a word written at an address. A word written back is no change, and what is overwritten
+    /// is dropped.
+    pub(crate) fn written(&mut self, memory: u32, address: u32, value: u32) -> Result<u32, NoMemory>
+        ensures { IfOk result (λ n. Adds self.old self.new (λ _ d. (z : ℤ) → FitsSigned w32 z
+            → d.words n z ≡ with_word (d.words memory) (d.word address) (d.word value) z)) }
+    {
+        let reach = self.reach();
+        if reach == 0 {
+            return self.changed(memory, address, value);
+        }
+        if self.is_there(memory, address, value)? {
+            return Ok(memory);
+        }
+        let at = self.location(address);
+        let kept = self.without(memory, at, reach)?;
+        if self.is_there(kept, address, value)? {
+            return Ok(kept);
+        }
+        self.changed(kept, address, value)
     }
 }

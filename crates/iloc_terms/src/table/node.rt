@@ -4,8 +4,6 @@ ghost use Rattle.std.specs.Prelude.{◌≡◌};
 /// An operation on two words.
 #[derive(Clone, Copy, PartialEq, Eq)]
 pub(crate) enum Binary {
-    /// The sum, wrapped to 32 bits.
-    Sum,
     /// The product, wrapped to 32 bits.
     Product,
     /// The first shifted left by the second modulo 32.
@@ -25,9 +23,10 @@ pub(crate) enum Node {
         base: u32,
         constant: i32,
     },
-    /// The product of a word and a constant, wrapped to 32 bits.
-    Scaled {
-        factor: u32,
+    /// The sum of a word, 0 if there is none, and the product of another and a constant, wrapped to 32 bits.
+    Sum {
+        rest: Option<u32>,
+        atom: u32,
         by: i32,
     },
     /// What an operation makes of two words.
@@ -86,10 +85,9 @@ impl Binary {
     /// Its part of the key of a term, another one for each operation.
     fn key(self) -> u32 {
         match self {
-            Binary::Sum => 0,
-            Binary::Product => 1,
-            Binary::ShiftLeft => 2,
-            Binary::ShiftRight => 3,
+            Binary::Product => 0,
+            Binary::ShiftLeft => 1,
+            Binary::ShiftRight => 2,
         }
     }
 }
@@ -105,7 +103,7 @@ impl Node {
         match *self {
             Node::Known(_) | Node::Start | Node::Empty => true,
             Node::Offset { base, .. } => below(base),
-            Node::Scaled { factor, .. } => below(factor),
+            Node::Sum { rest, atom, .. } => rest.is_none_or(below) && below(atom),
             Node::Combined { left, right, .. } => below(left) && below(right),
             Node::Word { address, memory } => below(address) && below(memory),
             Node::Epoch { memory, base, trie } => below(memory)
@@ -122,7 +120,16 @@ impl Node {
         match *self {
             Node::Known(word) => keyed(0, 0, 0, word.cast_unsigned()),
             Node::Offset { base, constant } => keyed(1, base, 0, constant.cast_unsigned()),
-            Node::Scaled { factor, by } => keyed(2, factor, 0, by.cast_unsigned()),
+            Node::Sum {
+                rest: None,
+                atom,
+                by,
+            } => keyed(2, atom, 0, by.cast_unsigned()),
+            Node::Sum {
+                rest: Some(rest),
+                atom,
+                by,
+            } => keyed(11, atom, rest, by.cast_unsigned()),
             Node::Combined { by, left, right } => keyed(3, by.key(), left, right),
             Node::Word { address, memory } => keyed(4, address, 0, memory),
             Node::Start => keyed(5, 0, 0, 0),

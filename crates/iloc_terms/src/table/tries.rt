@@ -1,13 +1,16 @@
 //! The tries of a table: words at keys of 32 bits, the lowest bit first.
-ghost use Rattle.std.specs.Prelude.{◌≡◌, true, List, ℤ, IfOk};
-ghost use Rattle.iloc_terms.specs.Steps.Terms.{Adds, PutsAt, AreHalves, HasNoOther, Meaning, IsMeaning, IsFound};
+ghost use Rattle.std.specs.Prelude.{◌≡◌, true, List, ℕ, ℤ, Some, None, IfOk};
+ghost use Rattle.iloc_terms.specs.Steps.Terms.{Adds, PutsAt, AreHalves, HasNoOther, IsSameBut, IsUnion, Meaning, IsMeaning, IsFound};
 
 use crate::table::Table;
 use crate::table::node::Node;
 use iloc_ops::NoMemory;
 
 /// How many bits a key has.
-const KEY_BITS: u32 = 32;
+pub(crate) const KEY_BITS: u32 = 32;
+
+/// The first key that has no double of so many bits.
+const FIRST_LONG_KEY: u32 = 1 << 31;
 
 /// What stands at a key.
 #[derive(Clone, Copy, PartialEq, Eq)]
@@ -115,5 +118,106 @@ impl Table {
         ensures { (memory : List ℤ) (d : Meaning) → IsMeaning memory self.now d → IsFound d trie key result }
     {
         self.found_within(trie, key, KEY_BITS)
+    }
+
+    /// Whether a trie has a word at a key.
+    pub(crate) fn has(&self, trie: u32, key: u32) -> bool {
+        match self.found(trie, key) {
+            Found::Term(_) => true,
+            _ => false,
+        }
+    }
+
+    /// Whether a trie has no word.
+    pub(crate) fn is_empty(&self, trie: u32) -> bool
+        ensures { result ≡ true → (memory : List ℤ) (d : Meaning) → IsMeaning memory self.now d
+            → (key : ℕ) → d.entry trie key ≡ None }
+    {
+        match self.node(trie) {
+            Some(Node::Empty) => true,
+            _ => false,
+        }
+    }
+
+    /// The trie with the words of two at twice their keys, those of the second one above.
+    fn fork(&mut self, even: u32, odd: u32) -> Result<u32, NoMemory>
+        ensures { IfOk result (λ new. Adds self.old self.new (λ _ d. AreHalves d new (Some (even, odd)))) }
+    {
+        match (self.node(even), self.node(odd)) {
+            (Some(Node::Empty), Some(Node::Empty)) => Ok(even),
+            (Some(Node::Leaf { at, value }), Some(Node::Empty)) if at < FIRST_LONG_KEY => {
+                self.intern(Node::Leaf { at: at * 2, value })
+            }
+            (Some(Node::Empty), Some(Node::Leaf { at, value })) if at < FIRST_LONG_KEY => {
+                self.intern(Node::Leaf {
+                    at: at * 2 + 1,
+                    value,
+                })
+            }
+            _ => self.intern(Node::Fork { even, odd }),
+        }
+    }
+
+    /// A trie that may differ from another at a key of so many bits alone: the word there is left out.
+    fn removed_within(&mut self, trie: u32, key: u32, bits: u32) -> Result<u32, NoMemory>
+        ensures { IfOk result (λ new. Adds self.old self.new (λ _ d. IsSameBut d trie key new)) }
+    {
+        match self.node(trie) {
+            Some(Node::Leaf { at, .. }) if at == key => self.intern(Node::Empty),
+            Some(Node::Fork { even, odd }) if bits > 0 => {
+                if key % 2 == 0 {
+                    let even = self.removed_within(even, key / 2, bits - 1)?;
+                    self.fork(even, odd)
+                } else {
+                    let odd = self.removed_within(odd, key / 2, bits - 1)?;
+                    self.fork(even, odd)
+                }
+            }
+            _ => Ok(trie),
+        }
+    }
+
+    /// A trie that may differ from another at a key alone: the word there is left out.
+    pub(crate) fn removed(&mut self, trie: u32, key: u32) -> Result<u32, NoMemory>
+        ensures { IfOk result (λ new. Adds self.old self.new (λ _ d. IsSameBut d trie key new)) }
+    {
+        self.removed_within(trie, key, KEY_BITS)
+    }
+
+    /// The trie with the words of two at keys of so many bits, those of the second where both have one;
+    /// `None` where steps are missing, or one is no trie of such keys.
+    fn union_within(&mut self, under: u32, over: u32, bits: u32) -> Result<Option<u32>, NoMemory>
+        ensures { IfOk result (λ new. Adds self.old self.new (λ _ d. IsUnion d under over new)) }
+    {
+        if self.is_empty(under) {
+            return Ok(Some(over));
+        }
+        match self.node(over) {
+            Some(Node::Leaf { at, value }) => self.put_within(under, at, value, bits),
+            Some(Node::Fork { even, odd }) if bits > 0 => {
+                if !self.spends() {
+                    return Ok(None);
+                }
+                let Some((under_even, under_odd)) = self.halves(under)? else {
+                    return Ok(None);
+                };
+                let Some(even) = self.union_within(under_even, even, bits - 1)? else {
+                    return Ok(None);
+                };
+                let Some(odd) = self.union_within(under_odd, odd, bits - 1)? else {
+                    return Ok(None);
+                };
+                Ok(Some(self.intern(Node::Fork { even, odd })?))
+            }
+            _ => Ok(None),
+        }
+    }
+
+    /// The trie with the words of two, those of the second where both have one; `None` where steps are
+    /// missing, or one is no trie.
+    pub(crate) fn union(&mut self, under: u32, over: u32) -> Result<Option<u32>, NoMemory>
+        ensures { IfOk result (λ new. Adds self.old self.new (λ _ d. IsUnion d under over new)) }
+    {
+        self.union_within(under, over, KEY_BITS)
     }
 }

@@ -1,6 +1,6 @@
 use Rattle.std.proofs.Common.{true, false}
 use Rattle.iloc_terms.proofs.Outcomes.{alike_on_all}
-use Rattle.iloc_terms.proofs.two_runs.compare.Goals as goal
+use Rattle.iloc_terms.proofs.two_runs.seen.Goals as goal
 
 pub returns-then-branch : goal.returns-then-branch
 returns-then-branch c =
