@@ -12,3 +12,9 @@ pub mod Lines
 pub mod OneText
 pub mod PathSums
 pub mod GreedyRoom
+pub mod ReadyOrder
+pub mod ReadyKept
+pub mod NextReady
+pub mod UnderWay
+pub mod ReadyLines
+pub mod TakenRows

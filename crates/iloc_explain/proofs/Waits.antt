@@ -30,10 +30,10 @@ use Rattle.iloc_timed.specs.Kinds.{kind}
 abbrev pub in_order : Row → List ℕ
 in_order row = option_to_list row.zero ++ option_to_list row.one
 
-from_row : (row : Row) (i : ℕ) → In (in_order row) i → holds row i ≡ true
+pub from_row : (row : Row) (i : ℕ) → In (in_order row) i → holds row i ≡ true
 from_row row i there = grind (arith, from_append, holds_one, holds_zero, in_option, option_to_list)
 
-from_order : (rows : List Row) (i : ℕ) → In (issue_order rows) i
+pub from_order : (rows : List Row) (i : ℕ) → In (issue_order rows) i
     → (c : ℕ) × (c < length rows) × In (in_order (row_at rows c)) i
 from_order [] i there = absurd there
 from_order (row ∷ rows) i there = elim (from_append (in_order row) (issue_order rows) i there) [

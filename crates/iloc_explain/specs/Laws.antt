@@ -1,21 +1,31 @@
 -- What holds of explanations as a whole.
-use Rattle.std.specs.Prelude.{ℕ, ◌≡◌, ◌≢◌, ◌<◌, List, length, Contains}
-use Rattle.std.specs.List.{sum_by}
+use Rattle.std.specs.Prelude.{ℕ, ◌≡◌, ◌≢◌, ◌<◌, if◌then◌else◌, List, length, map, Contains}
+use Rattle.std.specs.List.{range_with_len, sum_by}
 use Rattle.iloc_ops.specs.declared.op.Op.{Op}
 use Rattle.iloc_timed.specs.declared.latencies.Latencies.{Latencies}
 use Rattle.iloc_timed.specs.declared.row.Row.{Row}
 use Rattle.iloc_timed.specs.Cycles.{cycles}
-use Rattle.iloc_timed.specs.Rows.{issue_cycle}
+use Rattle.iloc_timed.specs.Rows.{empty_row, issue_cycle, row_at}
 use Rattle.iloc_rules.specs.declared.heuristic.Heuristic.{Heuristic}
 use Rattle.iloc_rules.specs.Greedy.{IsGreedyBy}
 use Rattle.iloc_rules.specs.Lawful.{IsLawful}
 use Rattle.iloc_explain.specs.declared.holding.Holder.TheVariants.{Nothing}
 use Rattle.iloc_explain.specs.declared.path.Stretch.{Stretch}
 use Rattle.iloc_explain.specs.declared.path.Stretch.TheVariants.{Free}
+use Rattle.iloc_explain.specs.CycleLines.{begins_line}
 use Rattle.iloc_explain.specs.Holding.{holder}
 use Rattle.iloc_explain.specs.Listing.{IsExplanation}
 use Rattle.iloc_explain.specs.Path.{IsPath, span}
 use Rattle.iloc_explain.specs.Waiting.{IsReadyAt}
+
+-- The rows of a lawful schedule are read from the lines of its ready list: each cycle that begins a line has the row that it says
+-- is taken, and the others have empty ones.
+abbrev pub row_read : List ℕ → Latencies → List Op → List Row → ℕ → Row
+row_read prios lat ops rows c = if begins_line prios lat ops rows c then row_at rows c else empty_row
+
+abbrev pub LinesGiveTheRows : Type 0
+LinesGiveTheRows = (prios : List ℕ) (lat : Latencies) (block ops : List Op) (rows : List Row) → IsLawful lat block ops rows
+    → rows ≡ map (row_read prios lat ops rows) (range_with_len 0 (length rows))
 
 -- there is one text that explains a schedule of a block
 abbrev pub SchedulesHaveOneExplanation : Type 0

@@ -6,4 +6,6 @@ pub mod Laws
 pub mod Path
 pub mod Measures
 pub mod Listing
+pub mod ReadyList
+pub mod CycleLines
 pub mod Steps

@@ -6,3 +6,5 @@ pub mod Links
 pub mod SoFar
 pub mod Greatest
 pub mod Walk
+pub mod Queue
+pub mod CycleParts

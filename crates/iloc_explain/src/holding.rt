@@ -1,6 +1,6 @@
 //! What kept an operation out of the row before its own.
 ghost use Rattle.std.specs.Prelude.{◌≡◌, ◌<◌, ◌≤◌, length, IfSome};
-ghost use Rattle.iloc_explain.specs.Holding.{clash, holder, keeper};
+ghost use Rattle.iloc_explain.specs.Holding.{clash, held_by, holder, keeper};
 ghost use Rattle.iloc_rules.specs.Greedy.{may_stand_beside};
 
 use iloc_ops::Op;
@@ -50,6 +50,16 @@ pub(crate) fn keeper(ops: &[Op], row: Row, j: usize) -> Option<usize>
     }
 }
 
+/// What an operation is held by where this one keeps it out, or nothing does.
+pub(crate) fn held_by(keeper: Option<usize>) -> Holder
+    ensures { result ≡ held_by keeper }
+{
+    match keeper {
+        Some(i) => Holder::Operation(i),
+        None => Holder::Nothing,
+    }
+}
+
 /// What kept operation j, issued in this cycle and ready in that one, out of the row before. It looks at that row alone.
 pub(crate) fn holder_of(schedule: &Schedule, j: usize, cycle: usize, ready: usize) -> Holder
     requires known { j < length schedule.now.ops }
@@ -59,8 +69,5 @@ pub(crate) fn holder_of(schedule: &Schedule, j: usize, cycle: usize, ready: usiz
     if cycle <= ready {
         return Holder::Delays;
     }
-    match keeper(schedule.ops(), schedule.rows()[cycle - 1], j) {
-        Some(i) => Holder::Operation(i),
-        None => Holder::Nothing,
-    }
+    held_by(keeper(schedule.ops(), schedule.rows()[cycle - 1], j))
 }

@@ -1,5 +1,5 @@
 //! Laws of explanations, as contracts of functions that do nothing.
-ghost use Rattle.iloc_explain.specs.Laws.{GreedySchedulesLeaveNoRoom, PathsSumToTheCycles, SchedulesHaveOneExplanation};
+ghost use Rattle.iloc_explain.specs.Laws.{GreedySchedulesLeaveNoRoom, LinesGiveTheRows, PathsSumToTheCycles, SchedulesHaveOneExplanation};
 
 /// Promise: Two texts that explain one schedule of a block are equal.
 pub fn one_explanation()
@@ -15,4 +15,10 @@ pub fn paths_sum_to_the_cycles()
 /// soon as it is ready is held by an operation of the row before, and no stretch of the path is free.
 pub fn greedy_schedules_leave_no_room()
     ensures { GreedySchedulesLeaveNoRoom }
+{}
+
+/// Promise: Who reads the lines of a lawful schedule's ready list has its rows: each cycle that begins a line has the row that the
+/// line says is taken, and the others have empty rows.
+pub fn lines_give_the_rows()
+    ensures { LinesGiveTheRows }
 {}

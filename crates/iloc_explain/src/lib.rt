@@ -2,6 +2,7 @@
 #![tactic(auto)]
 
 mod chain;
+mod cycle_lines;
 mod explanation;
 mod holding;
 mod issued;
@@ -11,8 +12,11 @@ mod listing;
 mod measures;
 mod path;
 mod path_line;
+mod ready_list;
+mod under_way;
 mod waited;
 
 pub use chain::longest_chain;
+pub use cycle_lines::push_ready_list;
 pub use listing::push_explanation;
 pub use measures::Measures;

@@ -52,8 +52,8 @@ fn unit_number(unit: Unit) -> u64
     }
 }
 
-/// Appends what kept an operation out of the row before its own.
-fn push_holder(text: &mut Vec<u8>, holder: Holder) -> Result<(), NoMemory>
+/// Appends what kept an operation out of a row.
+pub(crate) fn push_holder(text: &mut Vec<u8>, holder: Holder) -> Result<(), NoMemory>
     ensures { OnOk result (text.new.items ≡ text.old.items ++ listed.holder_text holder) }
 {
     match holder {
@@ -137,7 +137,7 @@ fn push_lines(
 }
 
 /// Appends the line of the cycles of a schedule and their lower bound.
-fn push_cycles(text: &mut Vec<u8>, cycles: u64, least: u64) -> Result<(), NoMemory>
+pub(crate) fn push_cycles(text: &mut Vec<u8>, cycles: u64, least: u64) -> Result<(), NoMemory>
     ensures { OnOk result (text.new.items ≡ text.old.items ++ listed.cycles_line cycles least) }
 {
     text.extend_from_slice(b"cycles ")?;

@@ -18,7 +18,7 @@ use Rattle.iloc_graph.specs.Nearest.{nearest_pairs}
 abbrev pub opening : List ℕ
 opening =
     codes "strict digraph blocks {\n"
-    ++ codes "    bgcolor=\"white\"; fontname=\"monospace\"; fontcolor=\"#59636e\"; color=\"#7d8590\";\n"
+    ++ codes "    bgcolor=\"transparent\"; fontname=\"monospace\"; fontcolor=\"#59636e\"; color=\"#7d8590\";\n"
     ++ codes "    node [shape=box, style=\"filled,rounded\", fontname=\"monospace\", fontcolor=\"#0b0f14\", color=\"transparent\"];\n"
     ++ codes "    edge [fontname=\"monospace\", fontcolor=\"#59636e\", color=\"#7d8590\"];\n"
 

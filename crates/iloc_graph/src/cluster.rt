@@ -21,7 +21,7 @@ pub fn push_opening(text: &mut Vec<u8>) -> Result<(), NoMemory>
 {
     text.extend_from_slice(b"strict digraph blocks {\n")?;
     text.extend_from_slice(
-        b"    bgcolor=\"white\"; fontname=\"monospace\"; fontcolor=\"#59636e\"; color=\"#7d8590\";\n",
+        b"    bgcolor=\"transparent\"; fontname=\"monospace\"; fontcolor=\"#59636e\"; color=\"#7d8590\";\n",
     )?;
     text.extend_from_slice(
         b"    node [shape=box, style=\"filled,rounded\", fontname=\"monospace\", fontcolor=\"#0b0f14\", color=\"transparent\"];\n",

@@ -14,13 +14,12 @@ use Rattle.iloc_rules.specs.declared.heuristic.Heuristic.TheVariants.{Chain}
 use Rattle.iloc_rules.specs.Greedy.{IsGreedy}
 use Rattle.iloc_rules.specs.Least.{least}
 use Rattle.iloc_bound.proofs.LeastBound.{least_bound}
-use Rattle.iloc_judge.specs.declared.checked.Checked.{Checked}
-use Rattle.iloc_judge.specs.declared.task.CheckOptions.{CheckOptions}
+use Rattle.iloc_verdict.specs.declared.checked.Checked.{Checked}
+use Rattle.iloc_comparison.specs.declared.task.CheckOptions.{CheckOptions}
 use Rattle.iloc_row_commands.specs.Check.{IsCheckEntry, IsSaid, check_head, IsSmall}
 use Rattle.iloc_block_commands.specs.Optimize.{IsSoughtIf}
 use Rattle.iloc_driver.specs.Entries.{Adds}
-use Rattle.iloc_driver.proofs.Schedules.{the_greedy, cycles_few}
-use Rattle.iloc_driver.proofs.Schedules.{cycles_within}
+use Rattle.iloc_driver.proofs.Schedules.{the_greedy, cycles_few, cycles_within}
 
 -- its numbers are small
 small_found : (lat : Latencies) (block : List Op) (s : Table) (p : Proposed) (c : Checked)

@@ -9,13 +9,14 @@ use Rattle.iloc_timed.specs.Schedule.{Table}
 use Rattle.iloc_rows.specs.declared.proposal.Proposed.{Proposed}
 use Rattle.iloc_rows.specs.declared.proposal.unread.Unread.{Unread}
 use Rattle.iloc_rules.specs.declared.heuristic.Heuristic.TheVariants.{Chain}
-use Rattle.iloc_judge.specs.declared.checked.Checked.{Checked}
-use Rattle.iloc_judge.specs.declared.task.CheckOptions.{CheckOptions}
-use Rattle.iloc_judge.specs.declared.task.Form.{Form}
-use Rattle.iloc_judge.specs.declared.task.Form.TheVariants as forms
-use Rattle.iloc_judge.specs.Checked.{IsCheck, passes}
-use Rattle.iloc_judge.specs.Entry.Json.{quoted}
-use Rattle.iloc_judge.specs.Unread.{IsUnread}
+use Rattle.iloc_verdict.specs.declared.checked.Checked.{Checked}
+use Rattle.iloc_comparison.specs.declared.task.CheckOptions.{CheckOptions}
+use Rattle.iloc_comparison.specs.declared.task.Form.{Form}
+use Rattle.iloc_comparison.specs.declared.task.Form.TheVariants as forms
+use Rattle.iloc_judge.specs.Checked.{IsCheck}
+use Rattle.iloc_verdict.specs.Checked.{passes}
+use Rattle.iloc_verdict.specs.Entry.Json.{quoted}
+use Rattle.iloc_verdict.specs.Unread.{IsUnread}
 use Rattle.iloc_driver.specs.Limits.{most_cycles, most_proposed_cycles}
 use Rattle.iloc_driver.specs.Listing.{head_as}
 use Rattle.iloc_driver.specs.Listing.Rows.{ListsRows}

@@ -10,8 +10,8 @@ use Rattle.iloc_rows.specs.declared.proposal.Proposed.{Proposed}
 use Rattle.iloc_rows.specs.declared.proposal.unread.Unread.{Unread}
 use Rattle.iloc_rows.specs.EitherSlot.{placed}
 use Rattle.iloc_args.specs.declared.request.Request.{Request}
-use Rattle.iloc_judge.specs.Entry.Listing.{bad_row}
-use Rattle.iloc_judge.specs.Unread.{IsUnreadLine}
+use Rattle.iloc_verdict.specs.Entry.Listing.{bad_row}
+use Rattle.iloc_verdict.specs.Unread.{IsUnreadLine}
 use Rattle.iloc_trace.specs.Events.{events}
 use Rattle.iloc_trace.specs.Listing.{trace_lines}
 use Rattle.iloc_driver.specs.Command.{initial_memory}

@@ -11,8 +11,9 @@ use crate::totals::Totals;
 use iloc_args::Request;
 use iloc_block_commands::sought_if;
 use iloc_bound::least_of;
+use iloc_comparison::{CheckOptions, Form, Judging, Task};
 use iloc_driver::{Finding, RowLister, initial_memory, push_head};
-use iloc_judge::{CheckOptions, Checked, Form, Judging, Task, push_check, push_unread};
+use iloc_judge::push_check;
 use iloc_meaning::Memory;
 use iloc_ops::{Block, Name, NoMemory};
 use iloc_optimum::Optimizer;
@@ -20,6 +21,7 @@ use iloc_rows::Proposal;
 use iloc_rules::Heuristic;
 use iloc_sched::{Graph, Scheduler};
 use iloc_timed::MAX_ROWS;
+use iloc_verdict::{Checked, push_unread};
 use std::alloc::Global;
 
 /// What a table begins with.
@@ -141,7 +143,7 @@ fn push_judged(
 impl RowLister for CheckLister {
     ghost use Rattle.iloc_row_commands.specs.Check.{IsCheckEntry, check_ending, check_opening, form_of, options_of, IsSmall};
     ghost use Rattle.iloc_driver.specs.Command.{initial_memory};
-    ghost use Rattle.iloc_judge.specs.Checked.{passes};
+    ghost use Rattle.iloc_verdict.specs.Checked.{passes};
 
     type Found = Checked;
 

@@ -21,6 +21,7 @@ use std::alloc::Global;
 pub struct RowsExplainer {
     graph: Graph,
     scheduler: Scheduler,
+    blocks: usize,
 }
 
 /// The cycles of these together.
@@ -57,10 +58,11 @@ impl RowLister for RowsExplainer {
 
     ghost memory = { λ request _. initial_memory request };
 
-    fn new(alloc: Global, _request: &Request, _blocks: usize) -> Result<RowsExplainer, NoMemory> {
+    fn new(alloc: Global, _request: &Request, blocks: usize) -> Result<RowsExplainer, NoMemory> {
         Ok(RowsExplainer {
             graph: Graph::new(alloc),
             scheduler: Scheduler::new(alloc),
+            blocks,
         })
     }
 
@@ -88,6 +90,7 @@ impl RowLister for RowsExplainer {
             graph: &self.graph,
             ours: &ours,
             latencies,
+            blocks: self.blocks,
         };
         let found = push_rows_explanation(alloc, text, &known, proposal, priority)?;
         self.scheduler.take_back(ours);

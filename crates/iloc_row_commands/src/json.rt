@@ -4,8 +4,8 @@ ghost use Rattle.std.specs.Option.{option_copied};
 ghost use Rattle.iloc_row_commands.specs.Check as listed;
 
 use iloc_driver::push_numbered;
-use iloc_judge::push_quoted;
 use iloc_ops::{Name, NoMemory};
+use iloc_verdict::push_quoted;
 
 /// Appends the name of a block as a member of JSON.
 fn push_json_name(text: &mut Vec<u8>, name: &Name) -> Result<(), NoMemory>

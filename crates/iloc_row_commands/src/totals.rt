@@ -6,8 +6,8 @@ ghost use Rattle.iloc_row_commands.specs.Check as said;
 ghost use Rattle.iloc_row_commands.specs.Check.{IsSmall};
 ghost use Rattle.iloc_row_commands.specs.Steps.Checking.{sought_text, totals_of, totals_text};
 
-use iloc_judge::Checked;
 use iloc_ops::{NoMemory, push_number};
+use iloc_verdict::Checked;
 
 /// What was found of the proposals for some blocks.
 #[derive(Clone, Copy)]

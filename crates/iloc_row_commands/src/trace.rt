@@ -4,11 +4,11 @@ ghost use Rattle.iloc_row_commands.specs.Trace.{IsTraceOf};
 
 use iloc_args::Request;
 use iloc_driver::{Finding, RowLister, initial_memory, push_block_head};
-use iloc_judge::{push_bad_row, push_unread_line};
 use iloc_ops::{Block, NoMemory};
 use iloc_rows::Proposal;
 use iloc_timed::Latencies;
 use iloc_trace::Tracer;
+use iloc_verdict::{push_bad_row, push_unread_line};
 use std::alloc::Global;
 
 /// Runs what is proposed for each block, and lists what happens.

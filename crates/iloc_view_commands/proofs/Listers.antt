@@ -3,12 +3,11 @@ use Rattle.std.proofs.Common.{◌≡◌, ℕ, ℤ, List, ◌++◌, Option, refl,
 use Rattle.std.specs.Prelude.{codes}
 use Rattle.iloc_ops.specs.declared.file.Block.{Block}
 use Rattle.iloc_timed.specs.Schedule.{Table}
-use Rattle.iloc_explain.specs.Listing.{IsExplanation}
 use Rattle.iloc_graph.specs.Listing.{IsCluster}
 use Rattle.iloc_trace.specs.Events.{events}
 use Rattle.iloc_trace.specs.Listing.{trace_lines}
 use Rattle.iloc_args.specs.declared.request.Request.{Request}
-use Rattle.iloc_view_commands.specs.Explain.{IsExplainEntry}
+use Rattle.iloc_view_commands.specs.Explain.{IsExplainEntry, IsSaid}
 use Rattle.iloc_view_commands.specs.Graph.{IsGraphEntry, opening_at}
 use Rattle.iloc_driver.specs.Command.{initial_memory}
 use Rattle.iloc_view_commands.specs.Trace.{IsTraceEntry}
@@ -47,7 +46,7 @@ module _ (request : Request) (k : ℕ) (b : Block) (text more : List ℕ) (name 
         }
 
     module _ (cycles : ℕ) (counted : cycles ≡ cycles_of request.latencies s) where
-      pub explain_listed : (explanation : List ℕ) → IsExplanation request.priority request.latencies b.ops s.ops s.rows s.ops explanation
+      pub explain_listed : (explanation : List ℕ) → IsSaid request.by_cycle request.priority request.latencies b.ops s explanation
           → more ≡ ((text ++ block_head k name) ++ codes "\n") ++ explanation
           → Adds (IsExplainEntry request k b) text more cycles
       explain_listed explanation explains added = record {
@@ -56,7 +55,7 @@ module _ (request : Request) (k : ℕ) (b : Block) (text more : List ℕ) (name 
           schedule = s;
           greedy = the_greedy request.priority request.latencies b s greedy;
           text = explanation;
-          explains = explains;
+          said = explains;
           listed = refl;
           counted = counted;
         };

@@ -3,11 +3,12 @@ ghost use Rattle.std.specs.Prelude.{ℕ, ◌≡◌, ◌++◌, List, length, IfOk
 ghost use Rattle.iloc_rules.specs.Renaming.{renamed};
 ghost use Rattle.iloc_explain.specs.Listing.{IsExplanation};
 ghost use Rattle.iloc_explain.specs.Measures.{AreMeasures};
+ghost use Rattle.iloc_view_commands.specs.Explain.{IsSaid};
 
 use iloc_args::Request;
 use iloc_bound::least_of;
 use iloc_driver::{Lister, count_of, push_block_head, push_total_of};
-use iloc_explain::{Measures, push_explanation};
+use iloc_explain::{Measures, push_explanation, push_ready_list};
 use iloc_ops::{Block, NoMemory, Op};
 use iloc_rules::Heuristic;
 use iloc_sched::{Graph, Scheduler};
@@ -60,6 +61,29 @@ pub fn explain_by_graph(
     push_explanation(alloc, text, block, latencies, &measures, schedule, issued)
 }
 
+/// Appends what is said of a schedule of the block of this graph, ranked by a heuristic: cycle by cycle or operation by operation.
+fn push_said(
+    alloc: Global,
+    text: &mut Vec<u8>,
+    block: &Block,
+    graph: &Graph,
+    schedule: &Schedule,
+    heuristic: Heuristic,
+    by_cycle: bool,
+) -> Result<(), NoMemory>
+    requires graph { graph.now.ops ≡ renamed block.now.ops }
+    requires names { schedule.now.ops ≡ renamed block.now.ops }
+    ensures { OnOk result ((entry : List ℕ) × IsSaid by_cycle heuristic graph.now.latencies block.now.ops schedule.now entry
+        × (text.new.items ≡ text.old.items ++ entry)) }
+{
+    if !by_cycle {
+        let issued = schedule.ops();
+        return explain_by_graph(alloc, text, block, graph, schedule, issued, heuristic);
+    }
+    let measures = measure(alloc, graph, heuristic)?;
+    push_ready_list(alloc, text, block, graph.latencies(), &measures, schedule)
+}
+
 /// Schedules each block, and lists why its schedule takes its cycles.
 #[derive(Drop)]
 pub struct ExplainLister {
@@ -101,8 +125,16 @@ impl Lister for ExplainLister {
         let cycles = count_of(&schedule, latencies);
         push_block_head(text, number, block.name.as_ref())?;
         text.push(b'\n')?;
-        let issued = schedule.ops();
-        explain_by_graph(alloc, text, block, &self.graph, &schedule, issued, priority)?;
+        let by_cycle = request.by_cycle;
+        push_said(
+            alloc,
+            text,
+            block,
+            &self.graph,
+            &schedule,
+            priority,
+            by_cycle,
+        )?;
         self.scheduler.take_back(schedule);
         Ok(cycles)
     }

@@ -13,12 +13,12 @@ use Rattle.iloc_rules.specs.Renaming.{without_nops}
 use Rattle.iloc_validation.specs.ByTheBook.{IsByTheBook, IssueTheSame}
 use Rattle.iloc_validation.specs.OwnRows.{AreOwnRows}
 use Rattle.iloc_explain.specs.Listing.{IsExplanation}
-use Rattle.iloc_reasons.specs.declared.reasons.Reasons.{Reasons}
-use Rattle.iloc_reasons.specs.Reasons.{AreReasons}
+use Rattle.iloc_facts.specs.declared.fact.Reasons.{Reasons}
+use Rattle.iloc_facts.specs.Reasons.{AreReasons}
 use Rattle.iloc_row_commands.specs.declared.explain.explained.ExplainedRows.{ExplainedRows}
-use Rattle.iloc_judge.specs.Entry.Listing.{bad_row}
-use Rattle.iloc_judge.specs.Entry.Reasons.{reasons_told}
-use Rattle.iloc_judge.specs.Unread.{IsUnreadLine}
+use Rattle.iloc_verdict.specs.Entry.Listing.{bad_row}
+use Rattle.iloc_verdict.specs.Entry.Reasons.{reasons_told}
+use Rattle.iloc_verdict.specs.Unread.{IsUnreadLine}
 
 -- Rows by the book are explained by the block's own operations in their slots, beside which the lines show what is issued.
 pub record AreExplainedBy (heuristic : Heuristic) (lat : Latencies) (block ops : List Op) (rows : List Row) (text : List ℕ)

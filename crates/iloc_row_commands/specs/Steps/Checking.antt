@@ -1,7 +1,7 @@
 -- What was found of several proposals together.
 use Rattle.std.specs.Prelude.{List, [], ◌++◌, ℕ, Option, Some, None, codes, sum_by}
 use Rattle.std.specs.Fmt.{decimal}
-use Rattle.iloc_judge.specs.declared.checked.Checked.{Checked}
+use Rattle.iloc_verdict.specs.declared.checked.Checked.{Checked}
 use Rattle.iloc_row_commands.specs.declared.totals.Totals.{Totals}
 use Rattle.iloc_row_commands.specs.Check.{best_of, bound_of}
 

@@ -4,18 +4,19 @@ ghost use Rattle.iloc_timed.specs.Rows.{IsTable};
 ghost use Rattle.iloc_rules.specs.Lawful.{IsLawful};
 ghost use Rattle.iloc_sched.specs.Graph.GraphOf.{of_block};
 ghost use Rattle.iloc_validation.specs.ByTheBook.{IssueTheSame};
-ghost use Rattle.iloc_judge.specs.Entry.Listing.{bad_row};
-ghost use Rattle.iloc_judge.specs.Entry.Reasons.{reasons_told};
+ghost use Rattle.iloc_verdict.specs.Entry.Listing.{bad_row};
+ghost use Rattle.iloc_verdict.specs.Entry.Reasons.{reasons_told};
 ghost use Rattle.iloc_row_commands.specs.Explain.Explained.{not_lawful, IsRowsExplanation, IsSaidOf, HaveUnread};
 
-use iloc_judge::{push_bad_row, push_reasons, push_unread_line};
+use iloc_facts::Reasons;
 use iloc_ops::{Block, NoMemory, Op};
-use iloc_reasons::{Reasons, reasons_of};
+use iloc_reasons::reasons_of;
 use iloc_rows::{Proposal, Unread};
 use iloc_rules::Heuristic;
 use iloc_sched::Graph;
 use iloc_timed::{Latencies, MAX_ROWS, Row, Schedule, cycles_of};
 use iloc_validation::{Decision, decide, own_rows};
+use iloc_verdict::{push_bad_row, push_reasons, push_unread_line};
 use iloc_view_commands::explain_by_graph;
 use std::alloc::Global;
 
@@ -29,6 +30,8 @@ pub(crate) struct KnownBlock<'a> {
     pub(crate) ours: &'a Schedule,
     /// The latencies of the machine.
     pub(crate) latencies: &'a Latencies,
+    /// How many blocks there are.
+    pub(crate) blocks: usize,
     pub(crate) ghost lawful: { IsLawful latencies.now block.now.ops ours.now.ops ours.now.rows },
     pub(crate) ghost drawn: { graph.now ≡ of_block latencies.now block.now.ops },
 }
@@ -86,7 +89,7 @@ fn push_said(
         → is_lawful ≡ true) }
 {
     let (block, latencies) = (known.block, known.latencies);
-    match decide(alloc, block, known.ours, theirs, latencies)? {
+    match decide(alloc, block, known.ours, theirs, latencies, known.blocks)? {
         Decision::Lawful(pairing) => {
             let own = own_rows(alloc, block, theirs, known.ours.ops(), &pairing)?;
             let (schedule, issued) = (&own.schedule, &own.issued);

@@ -1,7 +1,7 @@
 use Rattle.std.proofs.Common.{◌∙◌, ap, rules, tests}
 use Rattle.std.proofs.lemmas.Iterator.{YieldsList-from_slice}
 use Rattle.std.proofs.lemmas.Iterator.Search.{all_from_yields_List}
-use Rattle.iloc_judge.specs.Checked.{passes}
+use Rattle.iloc_verdict.specs.Checked.{passes}
 use Rattle.iloc_driver.specs.Fault.{finding_of}
 use Rattle.iloc_row_commands.proofs.check.CheckListerRowLister.finding.Goals as goal
 

@@ -16,8 +16,7 @@ use Rattle.iloc_driver.specs.Schedules.{IsGreedyAs}
 use Rattle.iloc_driver.specs.Limits.{most_proposed_cycles}
 use Rattle.iloc_driver.specs.Entries.{Adds}
 use Rattle.iloc_driver.proofs.Entries.{parts_joined}
-use Rattle.iloc_driver.proofs.Schedules.{the_greedy}
-use Rattle.iloc_driver.proofs.Schedules.{cycles_within}
+use Rattle.iloc_driver.proofs.Schedules.{the_greedy, cycles_within}
 use Rattle.iloc_row_commands.proofs.explain.RowsExplainerRowLister.list.Goals as goal
 
 -- What explains proposals.

@@ -1,7 +1,7 @@
 use Rattle.std.proofs.Common.{ap, inl, inr, refl, subst}
 use Rattle.iloc_sched.specs.Graph.GraphOf.{GraphOf}
 use Rattle.iloc_explain.specs.Listing.{IsExplanation}
-use Rattle.iloc_judge.specs.Entry.Reasons.{reasons_told}
+use Rattle.iloc_verdict.specs.Entry.Reasons.{reasons_told}
 use Rattle.iloc_row_commands.specs.Explain.Explained.{not_lawful}
 use Rattle.iloc_row_commands.proofs.explain.explained.push_said.Goals as goal
 

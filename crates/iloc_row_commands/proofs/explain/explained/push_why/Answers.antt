@@ -1,7 +1,7 @@
 use Rattle.std.proofs.Common.{◌++◌, ◌∙◌, ap, append_assoc}
 use Rattle.std.specs.Prelude.{codes}
 use Rattle.std.proofs.lemmas.Result.{on_ok_weaker}
-use Rattle.iloc_judge.specs.Entry.Reasons.{reasons_told}
+use Rattle.iloc_verdict.specs.Entry.Reasons.{reasons_told}
 use Rattle.iloc_row_commands.proofs.explain.explained.push_why.Goals as goal
 
 pub returns : goal.returns

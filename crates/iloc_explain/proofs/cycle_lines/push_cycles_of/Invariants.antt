@@ -1,0 +1,14 @@
+use Rattle.std.proofs.Common.{◌≡◌, ◌++◌, ℕ, List}
+use Rattle.std.specs.List.{flat_map, range_with_len}
+use Rattle.iloc_explain.specs.CycleLines.{is_idle_before, line_from}
+use Rattle.iloc_explain.specs.Explained.{AreExplained}
+use Rattle.iloc_explain.specs.Steps.Queue.{IsKept}
+use Rattle.iloc_explain.proofs.cycle_lines.push_cycles_of.Given as goal
+
+abbrev pub invariant-loop-cycle : goal.invariant-loop-cycle
+invariant-loop-cycle l =
+    IsKept l.explained l.cycle l.list
+    × ((prios : List ℕ) → AreExplained prios l.latencies l.schedule.ops l.schedule.rows l.explained
+    → (l.was_idle ≡ is_idle_before prios l.latencies l.schedule.ops l.schedule.rows l.cycle)
+    × (l.text.items ≡ l.initial.text.items
+    ++ flat_map (line_from prios l.latencies l.schedule.ops l.schedule.rows) (range_with_len 0 l.cycle)))

@@ -1,0 +1,295 @@
+//! The ready list as it is listed, a line for each cycle.
+ghost use Rattle.std.specs.Prelude.{ℕ, ◌≡◌, ◌==◌, ◌&&◌, ◌++◌, ◌-◌, ◌<◌, List, length, codes, OnOk, IfSome};
+ghost use Rattle.std.specs.List.{flat_map};
+ghost use Rattle.std.specs.Fmt.{decimal};
+ghost use Rattle.iloc_rules.specs.Renaming.{renamed};
+ghost use Rattle.iloc_rules.specs.Steps.Members.{In};
+ghost use Rattle.iloc_explain.specs.CycleLines as listed;
+ghost use Rattle.iloc_explain.specs.CycleLines.{ready_listing};
+ghost use Rattle.iloc_explain.specs.Explained.{AreExplained};
+ghost use Rattle.iloc_explain.specs.Measures.{AreMeasures};
+ghost use Rattle.iloc_explain.specs.Steps.CycleParts.{front_by, last_by, taken_by};
+ghost use Rattle.iloc_explain.specs.Steps.Queue.{IsInOrder, IsKnown, Place};
+
+use crate::explanation::{Explained, explain};
+use crate::holding::{held_by, keeper};
+use crate::listing::{push_cycles, push_holder};
+use crate::measures::Measures;
+use crate::ready_list::{MOST_LISTED, ReadyList};
+use crate::under_way::under_way;
+use iloc_ops::{Block, NoMemory, Op, push_number};
+use iloc_timed::{Latencies, Row, Schedule, cycles};
+use std::alloc::Global;
+
+/// Appends a mark and a number.
+fn push_after(text: &mut Vec<u8>, mark: &[u8], number: usize) -> Result<(), NoMemory>
+    ensures { OnOk result (text.new.items ≡ text.old.items ++ mark.now ++ decimal number) }
+{
+    text.extend_from_slice(mark)?;
+    push_number(text, number)
+}
+
+/// Appends the cycles of a line, from the first to the last.
+fn push_span(text: &mut Vec<u8>, first: usize, last: usize) -> Result<(), NoMemory>
+    ensures { OnOk result (text.new.items ≡ text.old.items ++ codes "cycle " ++ listed.span_text first last) }
+{
+    push_after(text, b"cycle ", first)?;
+    if first == last {
+        return Ok(());
+    }
+    push_after(text, b"-", last)
+}
+
+/// Appends two numbers with a mark between them.
+fn push_pair(text: &mut Vec<u8>, mark: &[u8], pair: (usize, u64)) -> Result<(), NoMemory>
+    ensures { OnOk result (text.new.items ≡ text.old.items ++ listed.pair_text mark.now pair) }
+{
+    push_number(text, pair.0)?;
+    text.extend_from_slice(mark)?;
+    push_number(text, pair.1)
+}
+
+/// Appends pairs, each after a comma.
+fn push_more_pairs(text: &mut Vec<u8>, mark: &[u8], pairs: &[(usize, u64)]) -> Result<(), NoMemory>
+    ensures { OnOk result (text.new.items
+        ≡ text.old.items ++ flat_map (λ p. codes "," ++ listed.pair_text mark.now p) pairs.now) }
+{
+    for pair in pairs {
+        text.extend_from_slice(b",")?;
+        push_pair(text, mark, *pair)?;
+    }
+    Ok(())
+}
+
+/// Appends pairs with commas between them, `-` where there are none.
+fn push_pairs(text: &mut Vec<u8>, mark: &[u8], pairs: &[(usize, u64)]) -> Result<(), NoMemory>
+    ensures { OnOk result (text.new.items ≡ text.old.items ++ listed.pairs_text mark.now pairs.now) }
+{
+    match pairs {
+        [] => Ok(text.extend_from_slice(b"-")?),
+        [first, rest @ ..] => {
+            push_pair(text, mark, *first)?;
+            push_more_pairs(text, mark, rest)
+        }
+    }
+}
+
+/// Appends how many operations are ready beside those listed.
+fn push_more(text: &mut Vec<u8>, count: usize) -> Result<(), NoMemory>
+    ensures { OnOk result (text.new.items ≡ text.old.items ++ listed.more_text (count - MOST_LISTED)) }
+{
+    if count <= MOST_LISTED {
+        return Ok(());
+    }
+    push_after(text, b",+", count - MOST_LISTED)
+}
+
+/// Appends the number in a slot.
+fn push_slot(text: &mut Vec<u8>, slot: Option<usize>) -> Result<(), NoMemory>
+    ensures { OnOk result (text.new.items ≡ text.old.items ++ listed.slot_text slot) }
+{
+    match slot {
+        Some(i) => push_number(text, i),
+        None => Ok(text.extend_from_slice(b"-")?),
+    }
+}
+
+/// Appends what a row takes.
+fn push_taken(text: &mut Vec<u8>, row: Row) -> Result<(), NoMemory>
+    ensures { OnOk result (text.new.items
+        ≡ text.old.items ++ codes " takes " ++ listed.slot_text row.zero ++ codes " ; " ++ listed.slot_text row.one) }
+{
+    text.extend_from_slice(b" takes ")?;
+    push_slot(text, row.zero)?;
+    text.extend_from_slice(b" ; ")?;
+    push_slot(text, row.one)
+}
+
+/// Appends what is ready next, after the cycle at which it is.
+fn push_coming(text: &mut Vec<u8>, coming: Option<(usize, usize)>) -> Result<(), NoMemory>
+    ensures { OnOk result (text.new.items ≡ text.old.items ++ listed.coming_text coming) }
+{
+    let Some((cycle, j)) = coming else {
+        return Ok(text.extend_from_slice(b"-")?);
+    };
+    push_number(text, j)?;
+    push_after(text, b" at ", cycle)
+}
+
+/// Appends what is left out of a row, with what keeps it out; where nothing is, what is ready next.
+fn push_next(
+    text: &mut Vec<u8>,
+    ops: &[Op],
+    row: Row,
+    left_out: Option<usize>,
+    coming: Option<(usize, usize)>,
+) -> Result<(), NoMemory>
+    requires zero { IfSome row.zero (λ i. i < length ops.now) }
+    requires one { IfSome row.one (λ i. i < length ops.now) }
+    requires known { IfSome left_out (λ j. j < length ops.now) }
+    ensures { OnOk result (text.new.items ≡ text.old.items ++ listed.next_text ops.now row left_out coming) }
+{
+    let Some(j) = left_out else {
+        return push_coming(text, coming);
+    };
+    push_number(text, j)?;
+    text.extend_from_slice(b" held ")?;
+    push_holder(text, held_by(keeper(ops, row, j)))
+}
+
+/// The last cycle of the line that begins with this one.
+fn last_cycle(list: &ReadyList, cycle: usize, rows: usize) -> usize
+    ensures { result ≡ last_by cycle rows list.now }
+{
+    if list.len() > 0 {
+        return cycle;
+    }
+    match list.next() {
+        Some((busy, _)) => busy.saturating_sub(1),
+        None => rows.saturating_sub(1),
+    }
+}
+
+/// Appends the first part of a line: its cycles, and what is ready.
+fn push_front(
+    alloc: Global,
+    text: &mut Vec<u8>,
+    list: &ReadyList,
+    cycle: usize,
+    rows: usize,
+) -> Result<(), NoMemory>
+    ensures { OnOk result (text.new.items ≡ text.old.items ++ front_by cycle rows list.now) }
+{
+    push_span(text, cycle, last_cycle(list, cycle, rows))?;
+    text.extend_from_slice(b" ready ")?;
+    push_pairs(text, b":", &list.first_ranked(alloc)?)?;
+    push_more(text, list.len())
+}
+
+/// Appends the second part: what the row takes, and what is left out of it.
+fn push_taken_from(
+    text: &mut Vec<u8>,
+    list: &ReadyList,
+    ops: &[Op],
+    row: Row,
+) -> Result<(), NoMemory>
+    requires zero { IfSome row.zero (λ i. i < length ops.now) }
+    requires one { IfSome row.one (λ i. i < length ops.now) }
+    requires known { (p : Place) → In list.now.ready.keys p → p.1 < length ops.now }
+    ensures { OnOk result (text.new.items ≡ text.old.items ++ taken_by ops.now row list.now) }
+{
+    push_taken(text, row)?;
+    text.extend_from_slice(b" next ")?;
+    push_next(text, ops, row, list.left_out(row), list.next())
+}
+
+/// Appends the line that begins with a cycle.
+fn push_cycle(
+    alloc: Global,
+    text: &mut Vec<u8>,
+    list: &ReadyList,
+    schedule: &Schedule,
+    latencies: &Latencies,
+    cycle: usize,
+) -> Result<(), NoMemory>
+    requires order { IsInOrder list.now }
+    requires within { cycle < length schedule.now.rows }
+    requires known { (prios : List ℕ) × IsKnown prios latencies.now schedule.now.ops schedule.now.rows cycle list.now }
+    ensures { OnOk result ((prios : List ℕ)
+        → IsKnown prios latencies.now schedule.now.ops schedule.now.rows cycle list.now → text.new.items
+        ≡ text.old.items ++ listed.cycle_line prios latencies.now schedule.now.ops schedule.now.rows cycle) }
+{
+    let (ops, rows) = (schedule.ops(), schedule.rows());
+    push_front(alloc, text, list, cycle, rows.len())?;
+    push_taken_from(text, list, ops, rows[cycle])?;
+    text.extend_from_slice(b" active ")?;
+    push_pairs(text, b"@", &under_way(alloc, schedule, latencies, cycle)?)?;
+    Ok(text.extend_from_slice(b"\n")?)
+}
+
+/// Whether no line begins with a cycle, since nothing is ready then, as in the cycle before.
+fn is_skipped(list: &ReadyList, was_idle: bool) -> bool
+    ensures skipped { result ≡ (was_idle && (length list.now.ready.keys == 0)) }
+    ensures order { IsInOrder list.now }
+{
+    let is_idle = list.len() == 0;
+    was_idle && is_idle
+}
+
+/// Appends the line that begins with a cycle, if one does: where nothing is ready, as in the cycle before, none does.
+fn push_line_from(
+    alloc: Global,
+    text: &mut Vec<u8>,
+    list: &ReadyList,
+    schedule: &Schedule,
+    latencies: &Latencies,
+    cycle: usize,
+    was_idle: bool,
+) -> Result<(), NoMemory>
+    requires within { cycle < length schedule.now.rows }
+    requires known { (prios : List ℕ) × IsKnown prios latencies.now schedule.now.ops schedule.now.rows cycle list.now }
+    ensures { OnOk result ((prios : List ℕ)
+        → IsKnown prios latencies.now schedule.now.ops schedule.now.rows cycle list.now
+        → was_idle ≡ listed.is_idle_before prios latencies.now schedule.now.ops schedule.now.rows cycle
+        → text.new.items
+        ≡ text.old.items ++ listed.line_from prios latencies.now schedule.now.ops schedule.now.rows cycle) }
+{
+    if is_skipped(list, was_idle) {
+        return Ok(());
+    }
+    push_cycle(alloc, text, list, schedule, latencies, cycle)
+}
+
+/// Appends the lines of all cycles of a schedule, of which this is explained.
+fn push_cycles_of(
+    alloc: Global,
+    text: &mut Vec<u8>,
+    schedule: &Schedule,
+    latencies: &Latencies,
+    explained: &[Explained],
+) -> Result<(), NoMemory>
+    requires { (prios : List ℕ) × AreExplained prios latencies.now schedule.now.ops schedule.now.rows explained.now }
+    ensures { OnOk result ((prios : List ℕ)
+        → AreExplained prios latencies.now schedule.now.ops schedule.now.rows explained.now → text.new.items
+        ≡ text.old.items ++ listed.cycle_lines prios latencies.now schedule.now.ops schedule.now.rows) }
+{
+    // Whose numbers are those of operations.
+    let _ops = schedule.ops();
+    let mut list = ReadyList::new(alloc, explained)?;
+    let mut was_idle = false;
+    for (cycle, row) in schedule.rows().iter().enumerate() {
+        list.release(cycle)?;
+        push_line_from(alloc, text, &list, schedule, latencies, cycle, was_idle)?;
+        was_idle = list.len() == 0;
+        list.issue(explained, *row);
+    }
+    Ok(())
+}
+
+/// Appends the ready list of a schedule of the block: for each cycle what is ready, by rank, what the row takes, what keeps the next
+/// one out, and what is under way; then the cycles with their lower bound (`least`).
+///
+/// Promise: Just that is appended.
+pub fn push_ready_list(
+    alloc: Global,
+    text: &mut Vec<u8>,
+    block: &Block,
+    latencies: &Latencies,
+    measures: &Measures,
+    schedule: &Schedule,
+) -> Result<(), NoMemory>
+    requires names { schedule.now.ops ≡ renamed block.now.ops }
+    requires measured { AreMeasures latencies.now schedule.now.ops measures.now }
+    ensures { OnOk result (text.new.items ≡ text.old.items
+        ++ ready_listing measures.now.heuristic latencies.now block.now.ops schedule.now.ops schedule.now.rows) }
+{
+    let Measures {
+        chains,
+        starts,
+        ranks,
+        ..
+    } = measures;
+    let explained = explain(alloc, schedule, latencies, ranks, chains, starts)?;
+    push_cycles_of(alloc, text, schedule, latencies, &explained)?;
+    push_cycles(text, cycles(schedule, latencies), measures.least)
+}
