@@ -38,6 +38,7 @@ pub record IsFit (rules : List Rule) : Type 0 where
   pub outputs : Takes vp.Bool (codes "outputs") rules
   pub either_slot : Takes vp.Bool (codes "either-slot") rules
   pub fault_place : Takes vp.Bool (codes "where") rules
+  pub by_cycle : Takes vp.Bool (codes "cycles") rules
 
 -- ---- the test
 
@@ -73,9 +74,12 @@ takes_latencies rules =
     takes_in 1 LONGEST_LATENCY (codes "load") rules
     && (takes_in 1 LONGEST_LATENCY (codes "store") rules && takes_in 1 LONGEST_LATENCY (codes "mult") rules)
 
+abbrev takes_more_flags : List Rule → Bool
+takes_more_flags rules = takes is_flag_parser (codes "outputs") rules && takes is_flag_parser (codes "cycles") rules
+
 abbrev takes_last_flags : List Rule → Bool
 takes_last_flags rules =
-    takes is_flag_parser (codes "outputs") rules
+    takes_more_flags rules
     && (takes is_flag_parser (codes "either-slot") rules && takes is_flag_parser (codes "where") rules)
 
 abbrev takes_passing_flags : List Rule → Bool
@@ -158,8 +162,10 @@ fits rules e =
     let rest = and_parts (takes_passing_flags rules) (takes_last_flags rules) listing.1 in
     let passing = and_parts (takes is_flag_parser (codes "lawful") rules)
     (takes is_flag_parser (codes "operations") rules) rest.0 in
-    let flags = and_parts (takes is_flag_parser (codes "outputs") rules)
+    let flags = and_parts (takes_more_flags rules)
     (takes is_flag_parser (codes "either-slot") rules && takes is_flag_parser (codes "where") rules) rest.1 in
+    let more = and_parts (takes is_flag_parser (codes "outputs") rules) (takes is_flag_parser (codes "cycles") rules)
+    flags.0 in
     let last = and_parts (takes is_flag_parser (codes "either-slot") rules) (takes is_flag_parser (codes "where") rules)
     flags.1 in
     let number : (low high : ℕ) (id : Text) → takes_in low high id rules ≡ true → TakesIn low high id rules =
@@ -180,7 +186,8 @@ fits rules e =
       json = flag (codes "json") forms.1;
       lawful = flag (codes "lawful") passing.0;
       operations = flag (codes "operations") passing.1;
-      outputs = flag (codes "outputs") flags.0;
+      outputs = flag (codes "outputs") more.0;
       either_slot = flag (codes "either-slot") last.0;
       fault_place = flag (codes "where") last.1;
+      by_cycle = flag (codes "cycles") more.1;
     }

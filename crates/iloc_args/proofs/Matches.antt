@@ -109,6 +109,7 @@ leaf_holds s words fit e =
       outputs = flag (codes "outputs") fit.outputs;
       either_slot = flag (codes "either-slot") fit.either_slot;
       fault_place = flag (codes "where") fit.fault_place;
+      by_cycle = flag (codes "cycles") fit.by_cycle;
     }
 
 every_fits : (es : List Subcommand) → list_all (λ (e : Subcommand). is_fit (built_of e).rules) es ≡ true

@@ -20,6 +20,7 @@ pub record Asked : Type 0 where
   pub store : ℕ
   pub mult : ℕ
   pub priority : Text
+  pub priorities_file : Option Text
   pub nodes : Option ℕ
   pub csv : Bool
   pub json : Bool
@@ -29,6 +30,7 @@ pub record Asked : Type 0 where
   pub outputs : Bool
   pub either_slot : Bool
   pub fault_place : Bool
+  pub by_cycle : Bool
 
 -- what a request asks for
 abbrev pub asked_in : Request → Asked
@@ -41,6 +43,7 @@ asked_in r = record {
   store = r.latencies.store;
   mult = r.latencies.mult;
   priority = priority_word r.priority;
+  priorities_file = option_map string_bytes r.priorities_file;
   nodes = r.nodes;
   csv = r.csv;
   json = r.json;
@@ -50,6 +53,7 @@ asked_in r = record {
   outputs = r.outputs;
   either_slot = r.either_slot;
   fault_place = r.fault_place;
+  by_cycle = r.by_cycle;
 }
 
 -- the number that a text of digits writes, where a plus may stand first
@@ -87,6 +91,7 @@ asked_as task rows = record {
   store = number_or 5 (codes "store") rows;
   mult = number_or 3 (codes "mult") rows;
   priority = text_or (codes "chain") (codes "priority") rows;
+  priorities_file = first_of (codes "priorities") rows;
   nodes = number_if (codes "nodes") rows;
   csv = flag_in (codes "csv") rows;
   json = flag_in (codes "json") rows;
@@ -96,6 +101,7 @@ asked_as task rows = record {
   outputs = flag_in (codes "outputs") rows;
   either_slot = flag_in (codes "either-slot") rows;
   fault_place = flag_in (codes "where") rows;
+  by_cycle = flag_in (codes "cycles") rows;
 }
 
 -- the task of the first of these commands that has this name

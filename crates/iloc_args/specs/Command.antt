@@ -69,6 +69,10 @@ text_rule name = record (new_rule name) { long = Some name; value_names = 1 }
 abbrev pub priority_rule : Rule
 priority_rule = record (text_rule (codes "priority")) { defaults = codes "chain" ∷ [] }
 
+-- `--priorities FILE`
+abbrev pub priorities_rule : Rule
+priorities_rule = text_rule (codes "priorities")
+
 -- `--csv`
 abbrev pub csv_rule : Rule
 csv_rule = flag_rule (codes "csv")
@@ -96,6 +100,10 @@ outputs_rule = flag_rule (codes "outputs")
 -- `--where`
 abbrev pub where_rule : Rule
 where_rule = flag_rule (codes "where")
+
+-- `--cycles`
+abbrev pub cycles_rule : Rule
+cycles_rule = flag_rule (codes "cycles")
 
 -- `--either-slot`
 abbrev pub either_slot_rule : Rule
@@ -127,20 +135,20 @@ trace_entry = record {
   rules = at_rule ∷ words_rule ∷ latency_rules ++ priority_rule ∷ task_rule ∷ either_slot_rule ∷ [];
 }
 
--- `schedule [--workers N] [--load N] [--store N] [--mult N] [--priority NAME]`
+-- `schedule [--workers N] [--load N] [--store N] [--mult N] [--priority NAME] [--priorities FILE]`
 abbrev pub schedule_entry : Subcommand
 schedule_entry = record {
   name = codes "schedule";
   task = Schedule;
-  rules = workers_rule ∷ latency_rules ++ priority_rule ∷ [];
+  rules = workers_rule ∷ latency_rules ++ priority_rule ∷ priorities_rule ∷ [];
 }
 
--- `counts [--workers N] [--load N] [--store N] [--mult N] [--priority NAME] [--csv]`
+-- `counts [--workers N] [--load N] [--store N] [--mult N] [--priority NAME] [--priorities FILE] [--csv]`
 abbrev pub counts_entry : Subcommand
 counts_entry = record {
   name = codes "counts";
   task = Counts;
-  rules = workers_rule ∷ latency_rules ++ priority_rule ∷ csv_rule ∷ [];
+  rules = workers_rule ∷ latency_rules ++ priority_rule ∷ priorities_rule ∷ csv_rule ∷ [];
 }
 
 -- `compare [--nodes N] [--workers N] [--load N] [--store N] [--mult N] [--csv]`
@@ -159,12 +167,12 @@ optimize_entry = record {
   rules = nodes_rule ∷ workers_rule ∷ latency_rules;
 }
 
--- `explain [--load N] [--store N] [--mult N] [--priority NAME] [--task FILE] [--either-slot]`
+-- `explain [--load N] [--store N] [--mult N] [--priority NAME] [--task FILE] [--either-slot] [--cycles]`
 abbrev pub explain_entry : Subcommand
 explain_entry = record {
   name = codes "explain";
   task = Explain;
-  rules = latency_rules ++ priority_rule ∷ task_rule ∷ either_slot_rule ∷ [];
+  rules = latency_rules ++ priority_rule ∷ task_rule ∷ either_slot_rule ∷ cycles_rule ∷ [];
 }
 
 -- `check [--at N] [WORD].. [--load N] [--store N] [--mult N] [--nodes N] [--task FILE] [--either-slot] [--lawful] [--operations] [--outputs] [--csv] [--json]`

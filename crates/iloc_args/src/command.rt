@@ -6,7 +6,7 @@ ghost use Rattle.std.specs.Str.{bytes_eq};
 ghost use Rattle.iloc_args.specs.declared.command.Entry.{Entry as entry_value};
 ghost use Rattle.iloc_args.specs.Asked.{task_among, task_named};
 ghost use Rattle.iloc_args.specs.Command.{at_rule, farm_app, flag_rule, latency_rule, nodes_rule, priority_rule, search_rule};
-ghost use Rattle.iloc_args.specs.Command.{task_rule, text_rule, top_shape, words_rule, workers_rule};
+ghost use Rattle.iloc_args.specs.Command.{text_rule, top_shape, words_rule, workers_rule};
 ghost use Rattle.iloc_args.specs.Steps.Building.{HasApp, HasRule, alone, default_rule, option_rule, rule_for, app_for, app_with, subcommand_for};
 
 use crate::priority::HELP;
@@ -25,10 +25,11 @@ const VERSION: &str = "1.0.0 (unreleased)";
 const MANUAL: &str = "\
 Limits:
   16777216 bytes, 65535 blocks, 10000 operations in a block, numbers up to 2147483647
+  The machine is fixed but for --load, --store and --mult; docs/CHANGING.md says where its rules are
 
 Exit status:
   0  done; a block that faults is listed as fault
-  1  the text is refused
+  1  the text is refused; ilocfarm lint says what is wrong in it
   2  a mistake in the command line
   3  no memory, or a worker could not be started
   4  reading or writing failed
@@ -177,18 +178,6 @@ fn search_arg<'a>(alloc: Global) -> Arg<'a>
     )
 }
 
-/// `--task FILE`
-fn task_arg<'a>(alloc: Global) -> Arg<'a>
-    ensures { HasRule task_rule result }
-{
-    text_arg(
-        alloc,
-        "task",
-        "FILE",
-        "Read the blocks from FILE, and only rows from standard input",
-    )
-}
-
 /// An argument of a command.
 #[derive(Clone, Copy)]
 enum Argument {
@@ -201,7 +190,8 @@ enum Argument {
     Nodes,
     /// `--nodes` of a command that searches only where it is given.
     NodesIfGiven,
-    Task,
+    /// An option that names a file, and its help.
+    File(&'static str, &'static str),
     /// A flag and its help.
     Flag(&'static str, &'static str),
 }
@@ -215,6 +205,16 @@ const STORE: Argument = Argument::Latency(
 );
 
 const MULT: Argument = Argument::Latency("mult", "Cycles that mult and multI take, 1 to 16", "3");
+
+const PRIORITIES: Argument = Argument::File(
+    "priorities",
+    "Rank operations by the numbers in FILE, a line for each block, instead of --priority",
+);
+
+const TASK: Argument = Argument::File(
+    "task",
+    "Read the blocks from FILE, and only rows from standard input",
+);
 
 const CSV: Argument = Argument::Flag(
     "csv",
@@ -241,6 +241,11 @@ const OUTPUTS: Argument = Argument::Flag(
 const WHERE: Argument = Argument::Flag(
     "where",
     "Print which operation faults, and the address that it reaches",
+);
+
+const CYCLES: Argument = Argument::Flag(
+    "cycles",
+    "Print for each cycle what is ready, what is taken, and what is under way",
 );
 
 const EITHER_SLOT: Argument = Argument::Flag(
@@ -299,7 +304,7 @@ const COMMANDS: [Entry; 11] = [
             STORE,
             MULT,
             Argument::Priority,
-            Argument::Task,
+            TASK,
             EITHER_SLOT_WITH_TASK,
         ],
     },
@@ -308,7 +313,14 @@ const COMMANDS: [Entry; 11] = [
         name: "schedule",
         about: "Schedule each block, and print the schedule",
         usage: "ilocfarm schedule [OPTIONS] < BLOCKS",
-        arguments: &[Argument::Workers, LOAD, STORE, MULT, Argument::Priority],
+        arguments: &[
+            Argument::Workers,
+            LOAD,
+            STORE,
+            MULT,
+            Argument::Priority,
+            PRIORITIES,
+        ],
     },
     Entry {
         task: Task::Counts,
@@ -321,6 +333,7 @@ const COMMANDS: [Entry; 11] = [
             STORE,
             MULT,
             Argument::Priority,
+            PRIORITIES,
             CSV,
         ],
     },
@@ -355,8 +368,9 @@ const COMMANDS: [Entry; 11] = [
             STORE,
             MULT,
             Argument::Priority,
-            Argument::Task,
+            TASK,
             EITHER_SLOT_WITH_TASK,
+            CYCLES,
         ],
     },
     Entry {
@@ -371,7 +385,7 @@ const COMMANDS: [Entry; 11] = [
             STORE,
             MULT,
             Argument::NodesIfGiven,
-            Argument::Task,
+            TASK,
             EITHER_SLOT,
             LAWFUL,
             OPERATIONS,
@@ -409,7 +423,7 @@ impl Argument {
             Argument::Priority => priority_arg(alloc),
             Argument::Nodes => nodes_arg(alloc),
             Argument::NodesIfGiven => search_arg(alloc),
-            Argument::Task => task_arg(alloc),
+            Argument::File(name, help) => text_arg(alloc, name, "FILE", help),
             Argument::Flag(name, help) => flag_arg(alloc, name, help),
         }
     }

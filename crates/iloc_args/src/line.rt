@@ -102,15 +102,17 @@ fn request_in(alloc: Global, task: Task, given: &ArgMatches<'_>) -> Result<Reque
         words,
         latencies: latencies_in(given),
         priority,
+        priorities_file: file_in(alloc, given, "priorities")?,
         nodes: nodes_in(given),
         csv,
         json,
-        task_file: task_file_in(alloc, given)?,
+        task_file: file_in(alloc, given, "task")?,
         lawful: flag_in(given, "lawful"),
         operations: flag_in(given, "operations"),
         outputs: flag_in(given, "outputs"),
         either_slot: flag_in(given, "either-slot"),
         fault_place: flag_in(given, "where"),
+        by_cycle: flag_in(given, "cycles"),
     })
 }
 
@@ -205,12 +207,16 @@ fn flag_in(given: &ArgMatches<'_>, flag: &str) -> bool
     given.get_flag(flag)
 }
 
-/// The name of the file that holds the blocks, if they are apart from the rows.
-fn task_file_in(alloc: Global, given: &ArgMatches<'_>) -> Result<Option<String>, AllocError>
+/// The name of the file that an option names, if it is given.
+fn file_in(
+    alloc: Global,
+    given: &ArgMatches<'_>,
+    option: &str,
+) -> Result<Option<String>, AllocError>
     ensures { IfOk result (λ name.
-        option_map string_bytes name ≡ first_of (codes "task") (rows_of (found_of given.now))) }
+        option_map string_bytes name ≡ first_of option.now (rows_of (found_of given.now))) }
 {
-    match given.get_str("task") {
+    match given.get_str(option) {
         Some(name) => Ok(Some(String::from_str(alloc, name)?)),
         None => Ok(None),
     }

@@ -48,6 +48,8 @@ pub struct Request {
     pub latencies: Latencies,
     /// By what the ready operations are ranked.
     pub priority: Heuristic,
+    /// The name of the file that holds the numbers by which they are ranked instead.
+    pub priorities_file: Option<String>,
     /// How many nodes a search for the best schedule has for each number of cycles that is tried, if there is a search.
     pub nodes: Option<u32>,
     /// Whether the listing is a table of comma-separated values.
@@ -66,6 +68,8 @@ pub struct Request {
     pub either_slot: bool,
     /// Whether it is listed where a block faults.
     pub fault_place: bool,
+    /// Whether a schedule is explained cycle by cycle.
+    pub by_cycle: bool,
     ghost some_worker: { 1 ≤ workers },
     ghost few_workers: { workers ≤ 8 },
     ghost aligned: { at % 4 ≡ 0 },

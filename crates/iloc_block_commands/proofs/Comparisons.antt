@@ -1,12 +1,12 @@
 -- What is found of a block by each heuristic.
 use Rattle.std.proofs.Common.{◌≡◌, ◌==◌, ◌<◌, ◌≤◌, ℕ, Bool, true, List, [], ◌∷◌, ◌++◌, ◌+◌, take, get_or, append_assoc, append-nil, inl, inr, None, length, refl, sym, ap, ap₂, subst, ◌∙◌, arith}
-use Rattle.std.proofs.lemmas.Bool.{and_parts, eqb-true}
-use Rattle.std.proofs.lemmas.List.{ext_get_or, get_or_default, take_more}
+use Rattle.std.proofs.lemmas.Bool.{and_parts, cases_lt, eqb-true}
+use Rattle.std.proofs.lemmas.List.{ext_get_or, get_or-set_other, get_or-set_same, get_or_default, take_more}
 use Rattle.std.proofs.lemmas.Grind.{flat_map-append}
 use Rattle.std.specs.List.{list_all, range_with_len}
 use Rattle.iloc_rules.specs.Steps.Members.{In}
 use Rattle.iloc_rules.proofs.Basics.Members.{in_range_from}
-use Rattle.std.specs.Prelude.{slice_index}
+use Rattle.std.specs.Prelude.{slice_index, slice_set}
 use Rattle.iloc_ops.specs.Limits.{MAX_OPS}
 use Rattle.iloc_ops.specs.declared.file.Block.{Block}
 use Rattle.iloc_timed.specs.declared.latencies.Latencies.{Latencies}
@@ -86,6 +86,25 @@ columns_more csv number before text next i n d within so_far is more =
     ∙ ap (λ xs. before ++ xs) (ap (λ xs. columns csv number (take i heuristics) ++ xs) (sym (append-nil (f h)))
     ∙ sym (flat_map-append f (take i heuristics) (h ∷ []))
     ∙ ap (columns csv number) (sym (take_more heuristics i d within)))
+
+-- one count more
+pub counts_more : (lat : Latencies) (b : Block) (cycles : List ℕ) (n m : ℕ) (d : Heuristic) → length cycles ≡ length heuristics
+    → n < length heuristics
+    → ((i : ℕ) → i < n → IsCount (get_or heuristics i Chain) lat b (slice_index cycles i))
+    → IsCount (get_or heuristics n d) lat b m
+    → (i : ℕ) → i < n + 1 → IsCount (get_or heuristics i Chain) lat b (slice_index (slice_set cycles n m) i)
+counts_more lat b cycles n m d size within each count i below =
+    let P : ℕ → Heuristic → Type 0 = λ c h. IsCount h lat b c in
+    elim (cases_lt i n) [
+      | inl before ↦
+          subst (λ c. P c (get_or heuristics i Chain)) (sym (get_or-set_other cycles n i m 0 (λ same. omega (arith, same, before))))
+          (each i before)
+      | inr after ↦
+          let same : n ≡ i = omega (arith, below, after) in
+          subst (λ k. P (slice_index (slice_set cycles n m) k) (get_or heuristics k Chain)) same
+          (subst (λ c. P c (get_or heuristics n Chain)) (sym (get_or-set_same cycles n m 0 (omega (arith, size, within))))
+          (subst (P m) (get_or_default heuristics n d Chain within) count))
+    ]
 
 -- the counts by all of them
 pub all_counted : (lat : Latencies) (b : Block) (cycles : List ℕ) → length cycles ≡ length heuristics

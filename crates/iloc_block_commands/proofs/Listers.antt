@@ -1,7 +1,7 @@
 -- What the commands list of a block.
 use Rattle.std.proofs.Common.{◌≡◌, ℕ, ◌+◌, ◌≤◌, ℤ, false, List, [], ◌++◌, drop, length, Option, Some, refl, ap, ap₂, sym, ◌∙◌, append-nil, ◌&&◌, Bool, arith}
 use Rattle.std.proofs.lemmas.List.{drop_all}
-use Rattle.std.specs.Prelude.{is_none}
+use Rattle.std.specs.Prelude.{is_none, None, IfSome}
 use Rattle.iloc_ops.specs.declared.file.Block.{Block}
 use Rattle.iloc_ops.specs.declared.op.Op.{Op}
 use Rattle.iloc_fault.proofs.Places.{one_place}
@@ -23,11 +23,18 @@ use Rattle.iloc_block_commands.specs.Run.{IsRunEntry, IsShownOf}
 use Rattle.iloc_driver.specs.Command.{initial_memory}
 use Rattle.iloc_block_commands.specs.Schedule.{IsScheduleEntry}
 use Rattle.iloc_block_commands.specs.Simulate.{IsSimulateEntry}
-use Rattle.iloc_driver.specs.Schedules.{IsCount, IsGreedyAs}
+use Rattle.iloc_driver.specs.Priorities.{Own, own_of}
+use Rattle.iloc_driver.specs.Schedules.{IsCount, IsCountBy, IsGreedyAs, ranks}
+use Rattle.iloc_driver.specs.Work.{by_own}
+use Rattle.iloc_rules.specs.Greedy.{IsGreedyBy}
+use Rattle.iloc_rules.specs.Renaming.{numbering, without_nops}
+use Rattle.iloc_rules.proofs.Renamed.MentionedSources.{length-renamed_by}
+use Rattle.iloc_sched.specs.Graph.GraphOf.{GraphOf, of_block}
+use Rattle.iloc_rules.specs.Heuristics.{priorities_by}
 use Rattle.iloc_driver.specs.Entries.{AreListed, Adds}
 use Rattle.iloc_block_commands.specs.declared.compare.ComparedCycles.{ComparedCycles}
 use Rattle.iloc_driver.proofs.Entries.{lined_listing}
-use Rattle.iloc_driver.proofs.Schedules.{the_greedy}
+use Rattle.iloc_driver.proofs.Schedules.{the_greedy, the_greedy_by}
 
 -- the words, or that there is a fault, are what is shown, unless the place of the fault is asked for
 pub shown_plainly : (asked : Bool) (ops : List Op) (memory : List ℤ) (came : Outcome) (words : Option (List ℤ))
@@ -63,13 +70,21 @@ module _ (request : Request) (k : ℕ) (b : Block) (text more : List ℕ) (name 
       added = added ∙ ap₂ (λ n w. text ++ shown_entry k n w) named are;
     }
 
+-- each operation of the graph has a number of the block's own
+pub each_ranked : (own : Option (List ℕ)) (lat : Latencies) (b : Block) (g : GraphOf) → g ≡ of_block lat b.ops
+    → IfSome own (λ numbers. length numbers ≡ length (without_nops b.ops)) → IfSome own (λ numbers. length numbers ≡ length g.ops)
+each_ranked None lat b g is each = tt
+each_ranked (Some numbers) lat b g is each =
+    each ∙ (sym (length-renamed_by (without_nops b.ops) (numbering (without_nops b.ops))) ∙ ap (λ (x : GraphOf). length x.ops) (sym is))
+
 -- what was made of the greedy schedule is the entry
-pub schedule_is : (request : Request) (k : ℕ) (b : Block) (s : Table) → IsGreedyAs request.priority request.latencies b.ops s
+pub schedule_is : (request : Request) (own : Option (List ℕ)) (k : ℕ) (b : Block) (s : Table)
+    → IsGreedyBy (ranks request.priority request.latencies own s.ops) request.latencies b.ops s.ops s.rows
     → (entry : List ℕ) (cycles : ℕ) → entry ≡ schedule_entry request.latencies k b.name s ++ []
-    → cycles ≡ cycles_of request.latencies s → IsScheduleEntry request k b entry cycles
-schedule_is request k b s greedy entry cycles listed counted = record {
+    → cycles ≡ cycles_of request.latencies s → IsScheduleEntry request own k b entry cycles
+schedule_is request own k b s greedy entry cycles listed counted = record {
   schedule = s;
-  greedy = the_greedy request.priority request.latencies b s greedy;
+  greedy = the_greedy_by (ranks request.priority request.latencies own) request.latencies b s greedy;
   listed = listed ∙ append-nil (schedule_entry request.latencies k b.name s);
   counted = counted;
 }
@@ -81,13 +96,17 @@ pub optimum_is : (lat : Latencies) (k : ℕ) (b : Block) (best : Optimum) → Is
 optimum_is lat k b best found entry cycles listed counted = grind arith
 
 -- the cycles that were found are those of the greedy schedule
-pub is_count : (heuristic : Heuristic) (lat : Latencies) (b : Block) (s : Table) → IsGreedyAs heuristic lat b.ops s
-    → (cycles : ℕ) → cycles ≡ cycles_of lat s → IsCount heuristic lat b cycles
-is_count heuristic lat b s greedy cycles counted = record {
+pub is_count_by : (prios : List Op → List ℕ) (lat : Latencies) (b : Block) (s : Table)
+    → IsGreedyBy (prios s.ops) lat b.ops s.ops s.rows → (cycles : ℕ) → cycles ≡ cycles_of lat s → IsCountBy prios lat b cycles
+is_count_by prios lat b s greedy cycles counted = record {
   schedule = s;
-  greedy = the_greedy heuristic lat b s greedy;
+  greedy = the_greedy_by prios lat b s greedy;
   counted = counted;
 }
+
+pub is_count : (heuristic : Heuristic) (lat : Latencies) (b : Block) (s : Table) → IsGreedyAs heuristic lat b.ops s
+    → (cycles : ℕ) → cycles ≡ cycles_of lat s → IsCount heuristic lat b cycles
+is_count heuristic lat b s greedy cycles counted = is_count_by (priorities_by heuristic lat) lat b s greedy cycles counted
 
 -- what a loop has appended that went over all blocks
 pub gone_over : {X : Type 0} (entry : ℕ → Option (List ℕ) → X → List ℕ) (opening text : List ℕ) (i : ℕ)
@@ -100,13 +119,15 @@ gone_over entry opening text i blocks blocks' found all same so_far =
     ∙ (so_far ∙ ap (λ bs. opening ++ entries entry 1 bs found) same))
 
 -- the listing of the cycles that were found
-pub counted_listing : (request : Request) (blocks : List Block) (found : List ℕ) (text : List ℕ)
-    → AreListed (λ k b c. IsCount request.priority request.latencies b c) blocks found
+pub counted_listing : (request : Request) (own : Own) (blocks : List Block) (found : List ℕ) (text : List ℕ)
+    → AreListed (by_own (λ own k b c. IsCountBy (ranks request.priority request.latencies own) request.latencies b c) own) blocks
+    found
     → text ≡ (opening_as request.csv count_header ++ entries (count_line request.csv) 1 blocks found)
     ++ count_ending request.csv found
-    → IsCountListing request blocks text
-counted_listing request blocks found text are whole =
-    lined_listing (IsCountEntry request) (IsCount request.priority request.latencies) (count_line request.csv)
+    → IsCountListing request own blocks text
+counted_listing request own blocks found text are whole =
+    lined_listing (λ k. IsCountEntry request (own_of own k) k)
+    (λ k. IsCountBy (ranks request.priority request.latencies (own_of own k)) request.latencies) (count_line request.csv)
     (λ k b c count. record {
       schedule = count.schedule;
       greedy = count.greedy;
@@ -115,13 +136,13 @@ counted_listing request blocks found text are whole =
     }) (opening_as request.csv count_header) (count_ending request.csv) blocks found text are whole
 
 -- and of what was compared
-pub compared_listing : (request : Request) (blocks : List Block) (found : List ComparedCycles) (text : List ℕ)
-    → AreListed (λ k b c. IsComparedCycles request.latencies request.nodes b c) blocks found
+pub compared_listing : (request : Request) (own : Own) (blocks : List Block) (found : List ComparedCycles) (text : List ℕ)
+    → AreListed (by_own (λ own k b c. IsComparedCycles request.latencies request.nodes b c) own) blocks found
     → text ≡ (opening_as request.csv (compare_header request.nodes) ++ entries (compare_line request.csv) 1 blocks found)
     ++ compare_ending request.csv request.nodes found
-    → IsCompareListing request blocks text
-compared_listing request blocks found text are whole =
-    lined_listing (IsCompareEntry request) (IsComparedCycles request.latencies request.nodes) (compare_line request.csv)
+    → IsCompareListing request own blocks text
+compared_listing request own blocks found text are whole =
+    lined_listing (IsCompareEntry request) (λ k. IsComparedCycles request.latencies request.nodes) (compare_line request.csv)
     (λ k b c compares. record { compares = compares; listed = refl })
     (opening_as request.csv (compare_header request.nodes)) (compare_ending request.csv request.nodes) blocks found text are
     whole

@@ -17,7 +17,8 @@ use Rattle.iloc_block_commands.specs.declared.compare.ComparedCycles.{ComparedCy
 use Rattle.iloc_driver.specs.Entries.{IsListingAfter}
 use Rattle.iloc_driver.specs.Listing.{entries, field, head_as, opening_as}
 use Rattle.iloc_driver.specs.Schedules.{IsCount}
-use Rattle.iloc_driver.specs.Command.{Command, Shared, of_files}
+use Rattle.iloc_driver.specs.Command.{Command, shared_by}
+use Rattle.iloc_driver.specs.Priorities.{Own}
 use Rattle.iloc_block_commands.specs.Optimize.{IsSoughtIf}
 
 -- the place of a heuristic among them, by its word
@@ -134,8 +135,8 @@ compare_ending true nodes found = []
 compare_ending false nodes found = compare_totals nodes found
 
 -- the listing of these blocks for the request
-abbrev pub IsCompareListing : Request → List Block → List ℕ → Type 0
-IsCompareListing request blocks text =
+abbrev pub IsCompareListing : Request → Own → List Block → List ℕ → Type 0
+IsCompareListing request own blocks text =
     IsListingAfter (IsCompareEntry request) (opening_as request.csv (compare_header request.nodes))
     (compare_ending request.csv request.nodes) blocks text
 
@@ -147,7 +148,6 @@ listing_of_compared request blocks found =
 
 -- workers hand back all that is compared
 abbrev pub compare_command : Command
-compare_command = record (of_files IsCompareListing) {
-  listers = Shared ComparedCycles (λ request k b c. IsComparedCycles request.latencies request.nodes b c) (cycles_by Chain)
-      listing_of_compared;
-}
+compare_command =
+    shared_by (λ request own k b c. IsComparedCycles request.latencies request.nodes b c) (cycles_by Chain) listing_of_compared
+    IsCompareListing

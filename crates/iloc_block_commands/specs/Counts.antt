@@ -1,17 +1,20 @@
 -- `counts` lists how many cycles each block's schedule takes.
-use Rattle.std.specs.Prelude.{◌≡◌, ◌++◌, ℕ, Bool, true, false, List, [], codes}
+use Rattle.std.specs.Prelude.{◌≡◌, ◌++◌, ℕ, Bool, true, false, List, [], Option, codes}
 use Rattle.iloc_ops.specs.declared.file.Block.{Block}
 use Rattle.iloc_timed.specs.Schedule.{Table}
 use Rattle.iloc_args.specs.declared.request.Request.{Request}
 use Rattle.iloc_driver.specs.Entries.{IsListingAfter}
 use Rattle.iloc_driver.specs.Listing.{count_line, cycles_of, entries, opening_as, total_of_all}
-use Rattle.iloc_driver.specs.Schedules.{IsCount, IsTheGreedy}
-use Rattle.iloc_driver.specs.Command.{Command, Shared, of_files}
+use Rattle.iloc_driver.specs.Schedules.{IsCountBy, IsTheGreedyBy, ranks}
+use Rattle.iloc_driver.specs.Command.{Command, shared_by}
+use Rattle.iloc_driver.specs.Priorities.{Own, own_of}
 
--- the entry of block k: the cycles of its schedule, greedy by what the request ranks by, which are found
-pub record IsCountEntry (request : Request) (k : ℕ) (b : Block) (entry : List ℕ) (cycles : ℕ) : Type 0 where
+-- the entry of block k: the cycles of its schedule, greedy by its own priorities if it has some or else as the request ranks,
+-- which are found
+pub record IsCountEntry (request : Request) (own : Option (List ℕ)) (k : ℕ) (b : Block) (entry : List ℕ) (cycles : ℕ)
+    : Type 0 where
   pub schedule : Table
-  pub greedy : IsTheGreedy request.priority request.latencies b schedule
+  pub greedy : IsTheGreedyBy (ranks request.priority request.latencies own) request.latencies b schedule
   pub listed : entry ≡ count_line request.csv k b.name (cycles_of request.latencies schedule)
   pub counted : cycles ≡ cycles_of request.latencies schedule
 
@@ -24,10 +27,11 @@ abbrev pub count_ending : Bool → List ℕ → List ℕ
 count_ending true cycles = []
 count_ending false cycles = total_of_all cycles
 
--- the listing of these blocks for the request
-abbrev pub IsCountListing : Request → List Block → List ℕ → Type 0
-IsCountListing request blocks text =
-    IsListingAfter (IsCountEntry request) (opening_as request.csv count_header) (count_ending request.csv) blocks text
+-- the listing of these blocks for the request, with their own priorities if there are some
+abbrev pub IsCountListing : Request → Own → List Block → List ℕ → Type 0
+IsCountListing request own blocks text =
+    IsListingAfter (λ k. IsCountEntry request (own_of own k) k) (opening_as request.csv count_header)
+    (count_ending request.csv) blocks text
 
 -- that of blocks of which these are the cycles
 abbrev pub listing_of_counts : Bool → List Block → List ℕ → List ℕ
@@ -36,7 +40,6 @@ listing_of_counts csv blocks cycles =
 
 -- workers hand back the cycles
 abbrev pub counts_command : Command
-counts_command = record (of_files IsCountListing) {
-  listers = Shared ℕ (λ request k b c. IsCount request.priority request.latencies b c) (λ c. c)
-      (λ request. listing_of_counts request.csv);
-}
+counts_command =
+    shared_by (λ request own k b c. IsCountBy (ranks request.priority request.latencies own) request.latencies b c) (λ c. c)
+    (λ request. listing_of_counts request.csv) IsCountListing

@@ -7,7 +7,9 @@ use Rattle.iloc_optimum.specs.declared.optimizer.Optimum.{Optimum}
 use Rattle.iloc_rules.specs.declared.sought.Sought.{Sought}
 use Rattle.iloc_optimum.specs.Optimum.{IsOptimumOf, IsSought}
 use Rattle.iloc_driver.specs.Listing.{bound_comment, cycles_of, schedule_entry, total_of_all}
-use Rattle.iloc_driver.specs.Command.{Command, Shared, of_files}
+use Rattle.iloc_args.specs.declared.request.Request.{Request}
+use Rattle.iloc_driver.specs.Command.{Command, shared_by}
+use Rattle.iloc_driver.specs.Priorities.{Own}
 use Rattle.iloc_driver.specs.Entries.{IsListingOf}
 use Rattle.iloc_block_commands.specs.Schedule.{listing_of_entries}
 use Rattle.iloc_driver.specs.declared.listing.text.ScheduleEntry.{ScheduleEntry}
@@ -25,9 +27,12 @@ abbrev pub IsSoughtIf : Option ℕ → Latencies → List Op → Option Sought �
 IsSoughtIf None lat block sought = sought ≡ None
 IsSoughtIf (Some nodes) lat block sought = MatchOption sought ⊥ (IsSought lat block)
 
+-- the listing of these blocks for the request
+abbrev pub IsOptimizeListing : Request → Own → List Block → List ℕ → Type 0
+IsOptimizeListing request own blocks text = IsListingOf (IsOptimizeEntry request.latencies) total_of_all blocks text
+
 -- workers hand back the entries
 abbrev pub optimize_command : Command
-optimize_command = record (of_files (λ request. IsListingOf (IsOptimizeEntry request.latencies) total_of_all)) {
-  listers = Shared ScheduleEntry (λ request k b e. IsOptimizeEntry request.latencies k b e.text e.cycles) (λ e. e.cycles)
-      (λ request blocks entries. listing_of_entries entries);
-}
+optimize_command =
+    shared_by (λ request own k b (e : ScheduleEntry). IsOptimizeEntry request.latencies k b e.text e.cycles) (λ e. e.cycles)
+    (λ request blocks entries. listing_of_entries entries) IsOptimizeListing

@@ -1,21 +1,28 @@
 -- `schedule` lists each block's schedule.
-use Rattle.std.specs.Prelude.{◌≡◌, ◌++◌, ℕ, List, map}
+use Rattle.std.specs.Prelude.{◌≡◌, ◌++◌, ℕ, List, Option, map}
 use Rattle.std.specs.List.{flat_map}
 use Rattle.iloc_ops.specs.declared.file.Block.{Block}
 use Rattle.iloc_timed.specs.Schedule.{Table}
 use Rattle.iloc_args.specs.declared.request.Request.{Request}
 use Rattle.iloc_driver.specs.Listing.{cycles_of, schedule_entry, total_of_all}
-use Rattle.iloc_driver.specs.Schedules.{IsTheGreedy}
-use Rattle.iloc_driver.specs.Command.{Command, Shared, of_files}
+use Rattle.iloc_driver.specs.Schedules.{IsTheGreedyBy, ranks}
+use Rattle.iloc_driver.specs.Command.{Command, shared_by}
+use Rattle.iloc_driver.specs.Priorities.{Own, own_of}
 use Rattle.iloc_driver.specs.Entries.{IsListingOf}
 use Rattle.iloc_driver.specs.declared.listing.text.ScheduleEntry.{ScheduleEntry}
 
--- the entry of block k: its greedy schedule, a line for each row, and its cycles, which are found
-pub record IsScheduleEntry (request : Request) (k : ℕ) (b : Block) (entry : List ℕ) (cycles : ℕ) : Type 0 where
+-- the entry of block k: its schedule, greedy by its own priorities if it has some or else as the request ranks, a line for each
+-- row, and its cycles, which are found
+pub record IsScheduleEntry (request : Request) (own : Option (List ℕ)) (k : ℕ) (b : Block) (entry : List ℕ) (cycles : ℕ)
+    : Type 0 where
   pub schedule : Table
-  pub greedy : IsTheGreedy request.priority request.latencies b schedule
+  pub greedy : IsTheGreedyBy (ranks request.priority request.latencies own) request.latencies b schedule
   pub listed : entry ≡ schedule_entry request.latencies k b.name schedule
   pub counted : cycles ≡ cycles_of request.latencies schedule
+
+-- the listing of these blocks for the request, with their own priorities if there are some
+abbrev pub IsScheduleListing : Request → Own → List Block → List ℕ → Type 0
+IsScheduleListing request own blocks text = IsListingOf (λ k. IsScheduleEntry request (own_of own k) k) total_of_all blocks text
 
 -- these entries, and the cycles of all
 abbrev pub listing_of_entries : List ScheduleEntry → List ℕ
@@ -23,7 +30,6 @@ listing_of_entries entries = flat_map (λ e. e.text) entries ++ total_of_all (ma
 
 -- workers hand back the entries
 abbrev pub schedule_command : Command
-schedule_command = record (of_files (λ request. IsListingOf (IsScheduleEntry request) total_of_all)) {
-  listers = Shared ScheduleEntry (λ request k b e. IsScheduleEntry request k b e.text e.cycles) (λ e. e.cycles)
-      (λ request blocks entries. listing_of_entries entries);
-}
+schedule_command =
+    shared_by (λ request own k b (e : ScheduleEntry). IsScheduleEntry request own k b e.text e.cycles) (λ e. e.cycles)
+    (λ request blocks entries. listing_of_entries entries) IsScheduleListing

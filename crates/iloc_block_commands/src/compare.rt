@@ -365,16 +365,18 @@ impl FarmedLister for CompareLister {
     ghost use Rattle.iloc_rules.specs.declared.heuristic.Heuristic.TheVariants.{Chain};
     ghost use Rattle.iloc_block_commands.specs.Compare.{IsCompareListing, IsComparedCycles, cycles_by, listing_of_compared};
     ghost use Rattle.iloc_driver.specs.Entries.{AreListed};
+    ghost use Rattle.iloc_driver.specs.Priorities.{Own};
+    ghost use Rattle.iloc_driver.specs.Work.{by_own};
 
     type Answer = ComparedCycles;
 
-    ghost answers = { λ request _ block found. IsComparedCycles request.latencies request.nodes block found };
+    ghost answers = { λ request _ _ block found. IsComparedCycles request.latencies request.nodes block found };
 
     ghost cycles_in = { λ found. cycles_by Chain found };
 
     ghost made_of = { listing_of_compared };
 
-    ghost lists = { λ request. IsCompareListing request };
+    ghost lists = { IsCompareListing };
 
     fn new(alloc: Global) -> CompareLister {
         CompareLister {
@@ -388,6 +390,7 @@ impl FarmedLister for CompareLister {
         &mut self,
         alloc: Global,
         request: &Request,
+        _own: Option<&[u32]>,
         _number: usize,
         block: &Block,
     ) -> Result<ComparedCycles, NoMemory> {
@@ -413,10 +416,11 @@ impl FarmedLister for CompareLister {
         found: Vec<ComparedCycles>,
     ) -> Result<Listing, NoMemory>
         requires few { length blocks ≤ MAX_BLOCKS }
-        requires right { AreListed
-            (λ _ block each. IsComparedCycles request.now.latencies request.now.nodes block each) blocks found.items }
+        requires many { length found.items ≡ length blocks }
         ensures made { IfOk result (λ text. text ≡ listing_of_compared request.now blocks found.items) }
-        ensures right { IfOk result (IsCompareListing request.now blocks) }
+        ensures right { IfOk result (λ text. (own : Own)
+            → AreListed (by_own (λ _ _ block each. IsComparedCycles request.now.latencies request.now.nodes block each) own)
+            blocks found.items → IsCompareListing request.now own blocks text) }
     {
         let mut text = Vec::new(alloc);
         push_opening(&mut text, request.csv, request.nodes)?;

@@ -3,6 +3,7 @@ ghost use Rattle.std.specs.Prelude.{◌≡◌, ◌≤◌, ◌<◌, ◌++◌, len
 ghost use Rattle.iloc_ops.specs.Limits.{MAX_BLOCKS};
 ghost use Rattle.iloc_block_commands.specs.Counts.{count_ending};
 
+use crate::schedule::lend;
 use iloc_args::Request;
 use iloc_driver::{FarmedLister, Listing, count_of, push_count, push_opening, push_total_of};
 use iloc_ops::{Block, Blocks, NoMemory};
@@ -33,17 +34,20 @@ pub struct CountLister {
 impl FarmedLister for CountLister {
     ghost use Rattle.iloc_block_commands.specs.Counts.{IsCountListing, listing_of_counts};
     ghost use Rattle.iloc_driver.specs.Entries.{AreListed};
-    ghost use Rattle.iloc_driver.specs.Schedules.{IsCount};
+    ghost use Rattle.iloc_driver.specs.Priorities.{Own};
+    ghost use Rattle.iloc_driver.specs.Schedules.{IsCountBy, ranks};
+    ghost use Rattle.iloc_driver.specs.Work.{by_own};
 
     type Answer = u32;
 
-    ghost answers = { λ request _ block cycles. IsCount request.priority request.latencies block cycles };
+    ghost answers = { λ request own _ block cycles.
+        IsCountBy (ranks request.priority request.latencies own) request.latencies block cycles };
 
     ghost cycles_in = { λ cycles. cycles };
 
     ghost made_of = { λ request. listing_of_counts request.csv };
 
-    ghost lists = { λ request. IsCountListing request };
+    ghost lists = { IsCountListing };
 
     fn new(alloc: Global) -> CountLister {
         CountLister {
@@ -56,11 +60,12 @@ impl FarmedLister for CountLister {
         &mut self,
         _alloc: Global,
         request: &Request,
+        own: Option<&[u32]>,
         _number: usize,
         block: &Block,
     ) -> Result<u32, NoMemory> {
         self.graph.refill(block, &request.latencies)?;
-        let schedule = self.scheduler.lend_as(&self.graph, request.priority)?;
+        let schedule = lend(&mut self.scheduler, &self.graph, own, request.priority)?;
         let cycles = count_of(&schedule, &request.latencies);
         self.scheduler.take_back(schedule);
         Ok(cycles)
@@ -77,10 +82,11 @@ impl FarmedLister for CountLister {
         cycles: Vec<u32>,
     ) -> Result<Listing, NoMemory>
         requires few { length blocks ≤ MAX_BLOCKS }
-        requires right { AreListed (λ _ block count. IsCount request.now.priority request.now.latencies block count)
-            blocks cycles.items }
+        requires many { length cycles.items ≡ length blocks }
         ensures made { IfOk result (λ text. text ≡ listing_of_counts request.now.csv blocks cycles.items) }
-        ensures right { IfOk result (IsCountListing request.now blocks) }
+        ensures right { IfOk result (λ text. (own : Own)
+            → AreListed (by_own (λ own _ block count. IsCountBy (ranks request.now.priority request.now.latencies own)
+            request.now.latencies block count) own) blocks cycles.items → IsCountListing request.now own blocks text) }
     {
         let mut text = Vec::new(alloc);
         push_opening(&mut text, request.csv, HEADER)?;

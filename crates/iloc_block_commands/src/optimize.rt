@@ -37,20 +37,21 @@ pub struct OptimizeLister {
 }
 
 impl FarmedLister for OptimizeLister {
-    ghost use Rattle.iloc_block_commands.specs.Optimize.{IsOptimizeEntry};
+    ghost use Rattle.iloc_block_commands.specs.Optimize.{IsOptimizeEntry, IsOptimizeListing};
     ghost use Rattle.iloc_block_commands.specs.Schedule.{listing_of_entries};
-    ghost use Rattle.iloc_driver.specs.Entries.{AreListed, IsListingOf};
-    ghost use Rattle.iloc_driver.specs.Listing.{total_of_all};
+    ghost use Rattle.iloc_driver.specs.Entries.{AreListed};
+    ghost use Rattle.iloc_driver.specs.Priorities.{Own};
+    ghost use Rattle.iloc_driver.specs.Work.{by_own};
 
     type Answer = ScheduleEntry;
 
-    ghost answers = { λ request k block entry. IsOptimizeEntry request.latencies k block entry.text entry.cycles };
+    ghost answers = { λ request _ k block entry. IsOptimizeEntry request.latencies k block entry.text entry.cycles };
 
     ghost cycles_in = { λ entry. entry.cycles };
 
     ghost made_of = { λ _ _ entries. listing_of_entries entries };
 
-    ghost lists = { λ request. IsListingOf (IsOptimizeEntry request.latencies) total_of_all };
+    ghost lists = { IsOptimizeListing };
 
     fn new(alloc: Global) -> OptimizeLister {
         OptimizeLister {
@@ -64,6 +65,7 @@ impl FarmedLister for OptimizeLister {
         &mut self,
         _alloc: Global,
         request: &Request,
+        _own: Option<&[u32]>,
         number: usize,
         block: &Block,
     ) -> Result<ScheduleEntry, NoMemory> {
@@ -90,10 +92,11 @@ impl FarmedLister for OptimizeLister {
         entries: Vec<ScheduleEntry>,
     ) -> Result<Listing, NoMemory>
         requires few { length blocks ≤ MAX_BLOCKS }
-        requires right { AreListed (λ k block entry.
-            IsOptimizeEntry _request.now.latencies k block entry.text entry.cycles) blocks entries.items }
+        requires many { length entries.items ≡ length blocks }
         ensures made { IfOk result (λ text. text ≡ listing_of_entries entries.items) }
-        ensures right { IfOk result (IsListingOf (IsOptimizeEntry _request.now.latencies) total_of_all blocks) }
+        ensures right { IfOk result (λ text. (own : Own)
+            → AreListed (by_own (λ _ k block entry. IsOptimizeEntry _request.now.latencies k block entry.text entry.cycles) own)
+            blocks entries.items → IsOptimizeListing _request.now own blocks text) }
     {
         drop(blocks);
         with_total(alloc, entries)

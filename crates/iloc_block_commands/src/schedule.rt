@@ -1,12 +1,36 @@
 //! `schedule`: blocks' schedules, a line a row.
-ghost use Rattle.std.specs.Prelude.{◌≡◌, ◌≤◌, length, IfOk};
+ghost use Rattle.std.specs.Prelude.{◌≡◌, ◌≤◌, List, length, option_copied, IfOk, IfSome};
 ghost use Rattle.iloc_ops.specs.Limits.{MAX_BLOCKS};
+ghost use Rattle.iloc_ops.specs.declared.op.Op.{Op};
+ghost use Rattle.iloc_timed.specs.declared.latencies.Latencies.{Latencies as latencies_value};
+ghost use Rattle.iloc_sched.specs.Graph.GraphOf.{of_block};
+ghost use Rattle.iloc_sched.specs.Scheduled.{IsTheSchedule};
+ghost use Rattle.iloc_driver.specs.Schedules.{ranks};
 
 use iloc_args::Request;
 use iloc_driver::{EntryMaker, FarmedLister, Listing, ScheduleEntry, with_total};
 use iloc_ops::{Block, Blocks, NoMemory};
+use iloc_rules::Heuristic;
 use iloc_sched::{Graph, Scheduler};
+use iloc_timed::Schedule;
 use std::alloc::Global;
+
+/// The schedule of this graph's block that is greedy by these numbers, if it has some of its own, or else by this heuristic.
+pub(crate) fn lend(
+    scheduler: &mut Scheduler,
+    graph: &Graph,
+    own: Option<&[u32]>,
+    heuristic: Heuristic,
+) -> Result<Schedule, NoMemory>
+    requires { IfSome (option_copied own) (λ numbers. length numbers ≡ length graph.now.ops) }
+    ensures { IfOk result (λ s. (lat : latencies_value) (block : List Op) → graph.now ≡ of_block lat block
+        → IsTheSchedule (ranks heuristic lat (option_copied own.entry)) lat block s) }
+{
+    match own {
+        Some(numbers) => scheduler.lend(graph, numbers),
+        None => scheduler.lend_as(graph, heuristic),
+    }
+}
 
 /// Schedules each block, and lists its schedule.
 #[derive(Drop)]
@@ -17,19 +41,20 @@ pub struct ScheduleLister {
 }
 
 impl FarmedLister for ScheduleLister {
-    ghost use Rattle.iloc_block_commands.specs.Schedule.{IsScheduleEntry, listing_of_entries};
-    ghost use Rattle.iloc_driver.specs.Entries.{AreListed, IsListingOf};
-    ghost use Rattle.iloc_driver.specs.Listing.{total_of_all};
+    ghost use Rattle.iloc_block_commands.specs.Schedule.{IsScheduleEntry, IsScheduleListing, listing_of_entries};
+    ghost use Rattle.iloc_driver.specs.Entries.{AreListed};
+    ghost use Rattle.iloc_driver.specs.Priorities.{Own};
+    ghost use Rattle.iloc_driver.specs.Work.{by_own};
 
     type Answer = ScheduleEntry;
 
-    ghost answers = { λ request k block entry. IsScheduleEntry request k block entry.text entry.cycles };
+    ghost answers = { λ request own k block entry. IsScheduleEntry request own k block entry.text entry.cycles };
 
     ghost cycles_in = { λ entry. entry.cycles };
 
     ghost made_of = { λ _ _ entries. listing_of_entries entries };
 
-    ghost lists = { λ request. IsListingOf (IsScheduleEntry request) total_of_all };
+    ghost lists = { IsScheduleListing };
 
     fn new(alloc: Global) -> ScheduleLister {
         ScheduleLister {
@@ -43,12 +68,13 @@ impl FarmedLister for ScheduleLister {
         &mut self,
         _alloc: Global,
         request: &Request,
+        own: Option<&[u32]>,
         number: usize,
         block: &Block,
     ) -> Result<ScheduleEntry, NoMemory> {
         let latencies = &request.latencies;
         self.graph.refill(block, latencies)?;
-        let schedule = self.scheduler.lend_as(&self.graph, request.priority)?;
+        let schedule = lend(&mut self.scheduler, &self.graph, own, request.priority)?;
         let entry = self
             .entries
             .entry(latencies, number, block, &schedule, None)?;
@@ -67,10 +93,11 @@ impl FarmedLister for ScheduleLister {
         entries: Vec<ScheduleEntry>,
     ) -> Result<Listing, NoMemory>
         requires few { length blocks ≤ MAX_BLOCKS }
-        requires right { AreListed (λ k block entry. IsScheduleEntry _request.now k block entry.text entry.cycles)
-            blocks entries.items }
+        requires many { length entries.items ≡ length blocks }
         ensures made { IfOk result (λ text. text ≡ listing_of_entries entries.items) }
-        ensures right { IfOk result (IsListingOf (IsScheduleEntry _request.now) total_of_all blocks) }
+        ensures right { IfOk result (λ text. (own : Own)
+            → AreListed (by_own (λ own k block entry. IsScheduleEntry _request.now own k block entry.text entry.cycles) own)
+            blocks entries.items → IsScheduleListing _request.now own blocks text) }
     {
         drop(blocks);
         with_total(alloc, entries)

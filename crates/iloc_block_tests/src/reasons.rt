@@ -2,9 +2,9 @@
 
 use crate::asserted::assert_list;
 use crate::written::{Issue as Slots, USUAL, block_of, build, latencies};
+use iloc_facts::{Added, Fact, Issue, LeftOut, MOST_FACTS, Reasons};
 use iloc_ops::{Block, Op, Ops, Reg};
-use iloc_reasons::{Fact, MOST_FACTS, Reasons, reasons_of};
-use iloc_validation::{Added, Issue, LeftOut};
+use iloc_reasons::reasons_of;
 use std::alloc::Global;
 use std::process::Abort;
 use std::test::Fail;
@@ -215,17 +215,12 @@ const SEE: Case = (
     b"loadI 1 => r1\nloadI 1 => r2\nadd r1, r2 => r3\n",
     &[ONE, ONE_IN_SECOND, DOUBLED],
     &[(0, Some(0), Some(1)), (1, Some(2), None)],
-    &[
-        Fact::See {
-            issue: Issue { cycle: 0, op: ONE },
+    &[Fact::See {
+        issue: Issue {
+            cycle: 1,
+            op: DOUBLED,
         },
-        Fact::See {
-            issue: Issue {
-                cycle: 0,
-                op: ONE_IN_SECOND,
-            },
-        },
-    ],
+    }],
 );
 
 /// Why these rows aren't issued as their block asks for.

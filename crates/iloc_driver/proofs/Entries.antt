@@ -120,12 +120,12 @@ module _ {F : Type 0} (lists lists' : ℕ → Block → List ℕ → F → Type 
   listing_also ending blocks text is = listing_after_also [] ending blocks text is
 
 -- the listing of what was found of each block, where a line says it
-module _ {X : Type 0} (lists : ℕ → Block → List ℕ → X → Type 0) (Finds : Block → X → Type 0)
+module _ {X : Type 0} (lists : ℕ → Block → List ℕ → X → Type 0) (Finds : ℕ → Block → X → Type 0)
     (line : ℕ → Option (List ℕ) → X → List ℕ)
-    (entry : (k : ℕ) (b : Block) (x : X) → Finds b x → lists k b (line k b.name x) x) where
+    (entry : (k : ℕ) (b : Block) (x : X) → Finds k b x → lists k b (line k b.name x) x) where
   lines_of : (k : ℕ) (blocks : List Block) (found : List X) → length found ≡ length blocks
       → ((i : ℕ) (x : X) → slice_get found i ≡ Some x
-      → MatchOption (slice_get blocks i) ⊥ (λ (b : Block). Finds b x))
+      → MatchOption (slice_get blocks i) ⊥ (λ (b : Block). Finds (i + k) b x))
       → AreEntries lists k blocks found (entries line k blocks found)
   lines_of k [] [] long each = refl
   lines_of k [] (x ∷ found) long each = absurd (omega arith)
@@ -133,14 +133,16 @@ module _ {X : Type 0} (lists : ℕ → Block → List ℕ → X → Type 0) (Fin
   lines_of k (b ∷ blocks) (x ∷ found) long each = (
     line k b.name x,
     entries line (k + 1) blocks found,
-    entry k b x (each 0 x refl),
-    lines_of (k + 1) blocks found (omega arith) (λ i y at. each (suc i) y at),
+    entry k b x (let P : ℕ → Type 0 = λ n. Finds n b x in subst P (omega arith) (each 0 x refl)),
+    lines_of (k + 1) blocks found (omega arith) (λ i y at.
+        let Q : ℕ → Type 0 = λ n. MatchOption (slice_get blocks i) ⊥ (λ (block : Block). Finds n block y) in
+        subst Q (omega arith) (each (suc i) y at)),
     refl,
   )
 
   pub lined_listing : (opening : List ℕ) (ending : List X → List ℕ) (blocks : List Block) (found : List X)
       (text : List ℕ)
-      → AreListed (λ k b x. Finds b x) blocks found
+      → AreListed Finds blocks found
       → text ≡ (opening ++ entries line 1 blocks found) ++ ending found
       → IsListingAfter lists opening ending blocks text
   lined_listing opening ending blocks found text are whole = grind (arith, lines_of)

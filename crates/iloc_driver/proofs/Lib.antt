@@ -8,6 +8,7 @@ pub mod RowListing
 pub mod Tasks
 pub mod Gathered
 pub mod Schedules
+pub mod Priorities
 pub mod Entries
 pub mod Receipts
 pub mod Unfolded

@@ -2,7 +2,7 @@
 use Rattle.std.proofs.Common.{◌≡◌, ℕ, suc, ◌+◌, ◌*◌, ◌^◌, ◌<◌, ◌≤◌, List, [], ◌∷◌, length, sum_by, Some, refl, arith}
 use Rattle.std.specs.Prelude.{slice_get}
 use Rattle.std.specs.List.{AllByRecursion}
-use Rattle.std.proofs.lemmas.List.Sums.{sum_by-cons}
+use Rattle.std.proofs.lemmas.List.Sums.{sum_by-cons, length-filter, count_by-le-length}
 use Rattle.iloc_ops.specs.Limits.{MAX_OPS}
 use Rattle.iloc_ops.specs.declared.op.Op.{Op}
 use Rattle.iloc_ops.specs.declared.file.Block.{Block}
@@ -20,7 +20,7 @@ use Rattle.iloc_rules.specs.Greedy.{IsGreedy, IsGreedyBy}
 use Rattle.iloc_rules.specs.Heuristics.{priorities_by}
 use Rattle.iloc_rules.specs.Priority.{priorities}
 use Rattle.iloc_rules.proofs.Renamed.MentionedSources.{length-renamed_by}
-use Rattle.iloc_rules.specs.Renaming.{renamed, without_nops}
+use Rattle.iloc_rules.specs.Renaming.{renamed}
 use Rattle.iloc_rules.proofs.Basics.IssueCycles.{issue_cycle_within}
 use Rattle.iloc_rules.proofs.Basics.Maxima.{fold_max_reached}
 use Rattle.iloc_rules.proofs.Basics.Members.{from_map}
@@ -28,7 +28,7 @@ use Rattle.iloc_rules.proofs.Bounds.BusyCycles.{busy_bound_by}
 use Rattle.iloc_rules.proofs.Choice.OneGreedy.{greedy_same_as}
 use Rattle.iloc_rules.proofs.Outcome.LawfulOutcomes.{lawful_same_outcome}
 use Rattle.iloc_driver.specs.Listing.{cycles_of, total_cycles}
-use Rattle.iloc_driver.specs.Schedules.{AreGreedyAs, IsGreedyAs, IsScheduleOf, IsTheGreedy, KeepOutcomes}
+use Rattle.iloc_driver.specs.Schedules.{AreGreedyAs, IsGreedyAs, IsScheduleOf, IsTheGreedy, IsTheGreedyBy, KeepOutcomes}
 use Rattle.iloc_driver.specs.Limits.{most_cycles}
 
 -- One list
@@ -48,13 +48,19 @@ one_schedule heuristic lat block s t greedy other =
     greedy_same_as (priorities_by heuristic lat) lat block t.ops s.ops t.rows s.rows other greedy in
     table_same t s same.0 same.1
 
--- so the schedule that was found is it
+-- so the schedule that was found is it, by whatever priorities
+pub the_greedy_by : (prios : List Op → List ℕ) (lat : Latencies) (b : Block) (s : Table)
+    → IsGreedyBy (prios s.ops) lat b.ops s.ops s.rows → IsTheGreedyBy prios lat b s
+the_greedy_by prios lat b s greedy = record {
+  greedy = greedy;
+  only = λ t other.
+      let same : (t.ops ≡ s.ops) × (t.rows ≡ s.rows) = greedy_same_as prios lat b.ops t.ops s.ops t.rows s.rows other greedy in
+      table_same t s same.0 same.1;
+}
+
 pub the_greedy : (heuristic : Heuristic) (lat : Latencies) (b : Block) (s : Table) → IsGreedyAs heuristic lat b.ops s
     → IsTheGreedy heuristic lat b s
-the_greedy heuristic lat b s greedy = record {
-  greedy = greedy;
-  only = λ t other. one_schedule heuristic lat b.ops s t greedy other;
-}
+the_greedy heuristic lat b s greedy = the_greedy_by (priorities_by heuristic lat) lat b s greedy
 
 pub greedy_all_same_as : (heuristic : Heuristic) (lat : Latencies) (blocks : List Block) (schedules others : List Table)
     → AreGreedyAs heuristic lat blocks schedules → AreGreedyAs heuristic lat blocks others → others ≡ schedules
@@ -90,13 +96,9 @@ latencies_at_most lat (op ∷ ops) =
     let tail : sum_by (latency lat) ops ≤ LONGEST_DELAY * length ops = latencies_at_most lat ops in
     rw (sum_by-cons (latency lat) op ops) (omega arith)
 
-shorter : (block : List Op) → length (without_nops block) ≤ length block
-shorter [] = omega arith
-shorter (op ∷ rest) = grind (arith, shorter rest)
-
 -- renaming adds no operation
 renamed_fits : (block : List Op) → length (renamed block) ≤ length block
-renamed_fits block = grind (arith, length-renamed_by, shorter)
+renamed_fits block = grind (arith, length-renamed_by, length-filter, count_by-le-length)
 
 pub cycles_few_by : (prios : List ℕ) (lat : Latencies) (block : List Op) (s : Table)
     → IsGreedyBy prios lat block s.ops s.rows → length block ≤ MAX_OPS → cycles_of lat s ≤ most_cycles

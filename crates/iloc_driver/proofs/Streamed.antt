@@ -1,11 +1,23 @@
 -- What was read from a stream as it came.
-use Rattle.std.proofs.Common.{ℕ, List, Option, arith}
+use Rattle.std.proofs.Common.{◌≡◌, ◌≢◌, ℕ, List, Option, Some, None, Err, arith}
+use Rattle.std.specs.String.{string_bytes}
+use Rattle.std.specs.declared.alloc.Global.{Global}
+use Rattle.std.specs.declared.string.String.{String}
+use Rattle.iloc_ops.specs.declared.file.Block.{Block}
+use Rattle.iloc_text.specs.Files.{Denotes}
 use Rattle.iloc_text.specs.declared.fault.ReadFault.{ReadFault}
 use Rattle.iloc_text.specs.declared.fault.StreamFault.{StreamFault}
 use Rattle.iloc_text.specs.Files.{IsRefused}
 use Rattle.iloc_text.specs.Streams.{ReadsText, EndsStream}
-use Rattle.iloc_driver.specs.Fault.{fault_of_stream}
-use Rattle.iloc_driver.specs.Run.Causes.{IsCaused, Refuses, of_file}
+use Rattle.iloc_driver.specs.Fault.{fault_of_numbers, fault_of_stream}
+use Rattle.iloc_driver.specs.Priorities.{priorities_in}
+use Rattle.iloc_driver.specs.Run.Apart.{Held, Holds}
+use Rattle.iloc_driver.specs.Run.Causes.{HasNoneFor, IsCaused, ReadsFile, Refuses, of_file, of_ranked_file, of_shared_file}
+use Rattle.iloc_driver.specs.declared.fault.FarmFault.TheVariants as farm
+use Rattle.iloc_driver.specs.declared.fault.NumbersFault.{NumbersFault}
+use Rattle.iloc_driver.specs.declared.fault.NumbersFault.TheVariants as numbers
+use Rattle.iloc_driver.specs.declared.fault.RunFault.{RunFault}
+use Rattle.iloc_driver.specs.declared.fault.RunFault.TheVariants.{ReadFailed, Text, Rows, Task, Priorities, Farm, WriteFailed}
 
 refuses : (old new : Option (List ℕ)) (fault : ReadFault)
     → (text : List ℕ) × ReadsText old new text × IsRefused text fault → Refuses IsRefused old new fault
@@ -14,3 +26,53 @@ refuses old new fault h = record { input = h.0; read = h.1; refused = h.2 }
 pub ends_file : (old new : Option (List ℕ)) (fault : StreamFault) → EndsStream old new fault
     → IsCaused (of_file old new) (fault_of_stream fault)
 ends_file old new fault h = grind (arith, refuses)
+
+-- what ends the reading of a file ends it where priorities are read too
+pub ranked_causes : (file : Option (String Global)) (held : Held) (old new : Option (List ℕ)) (fault : RunFault)
+    → IsCaused (of_file old new) fault → IsCaused (of_ranked_file file held old new) fault
+ranked_causes None held old new fault is = is
+ranked_causes (Some name) held old new (Priorities fault) is = absurd is
+ranked_causes (Some name) held old new ReadFailed is = is
+ranked_causes (Some name) held old new (Text fault) is = is
+ranked_causes (Some name) held old new (Rows fault) is = is
+ranked_causes (Some name) held old new (Task fault) is = is
+ranked_causes (Some name) held old new (Farm farm.NoThread) is = is
+ranked_causes (Some name) held old new (Farm farm.NoMemory) is = is
+ranked_causes (Some name) held old new WriteFailed is = is
+
+-- and where workers list it
+pub shared_causes : (file : Option (String Global)) (held : Held) (old new : Option (List ℕ)) (fault : RunFault)
+    → IsCaused (of_ranked_file file held old new) fault → IsCaused (of_shared_file file held old new) fault
+shared_causes None held old new (Farm farm.NoThread) is = absurd is
+shared_causes (Some name) held old new (Farm farm.NoThread) is = absurd is
+shared_causes file held old new (Farm farm.NoMemory) is = is
+shared_causes file held old new ReadFailed is = is
+shared_causes file held old new (Text fault) is = is
+shared_causes file held old new (Rows fault) is = is
+shared_causes file held old new (Task fault) is = is
+shared_causes file held old new (Priorities fault) is = is
+shared_causes file held old new WriteFailed is = is
+
+none_for : (known old new : Option (List ℕ)) (text : List ℕ) (fault : NumbersFault) → Holds known text
+    → (file : ReadsFile old new) → priorities_in text file.blocks ≡ Err fault → HasNoneFor known old new fault
+none_for known old new text fault holds file refused = record { text = text; held = holds; file = file; refused = refused }
+
+-- so does a text that has no priorities of the file that was read
+pub none_caused : (name : String Global) (held : Held) (old new : Option (List ℕ)) (input : List ℕ) (blocks : List Block)
+    (text : List ℕ) (fault : NumbersFault)
+    → Holds (held (string_bytes name)) text → ReadsText old new input → Denotes input blocks
+    → (fault ≢ numbers.NoMemory → priorities_in text blocks ≡ Err fault)
+    → IsCaused (of_ranked_file (Some name) held old new) (fault_of_numbers fault)
+none_caused name held old new input blocks text numbers.NoMemory holds read denotes refused = tt
+none_caused name held old new input blocks text numbers.TooLong holds read denotes refused =
+    none_for (held (string_bytes name)) old new text _ holds
+    (record { input = input; read = read; blocks = blocks; denoted = denotes }) (refused (λ e. cc))
+none_caused name held old new input blocks text (numbers.NoNumber k j) holds read denotes refused =
+    none_for (held (string_bytes name)) old new text _ holds
+    (record { input = input; read = read; blocks = blocks; denoted = denotes }) (refused (λ e. cc))
+none_caused name held old new input blocks text (numbers.NotANumber k j) holds read denotes refused =
+    none_for (held (string_bytes name)) old new text _ holds
+    (record { input = input; read = read; blocks = blocks; denoted = denotes }) (refused (λ e. cc))
+none_caused name held old new input blocks text (numbers.NoOperation k j) holds read denotes refused =
+    none_for (held (string_bytes name)) old new text _ holds
+    (record { input = input; read = read; blocks = blocks; denoted = denotes }) (refused (λ e. cc))

@@ -18,7 +18,7 @@ use Rattle.iloc_driver.specs.Run.Apart.{Held}
 use Rattle.iloc_driver.specs.Program.{Args, AskFor, IsHelp, IsStopped, MakeNone}
 use Rattle.iloc_driver.specs.Run.{EndsRun}
 use Rattle.iloc_driver.specs.declared.fault.RunFault.{RunFault}
-use Rattle.iloc_driver.specs.declared.fault.RunFault.TheVariants.{ReadFailed, Text, Rows, Task as of_task, Farm, WriteFailed}
+use Rattle.iloc_driver.specs.declared.fault.RunFault.TheVariants.{ReadFailed, Text, Rows, Task as of_task, Priorities, Farm, WriteFailed}
 use Rattle.iloc_driver.specs.declared.program.Fault.TheVariants.{Run}
 
 -- what the words behind the name ask for is what the words do
@@ -48,6 +48,8 @@ run_stopped command_of held words request read_old read_new written_old written_
 run_stopped command_of held words request read_old read_new written_old written_new (Rows fault) asked ended =
     record { request = request; asked = asked; ended = ended }
 run_stopped command_of held words request read_old read_new written_old written_new (of_task fault) asked ended =
+    record { request = request; asked = asked; ended = ended }
+run_stopped command_of held words request read_old read_new written_old written_new (Priorities fault) asked ended =
     record { request = request; asked = asked; ended = ended }
 run_stopped command_of held words request read_old read_new written_old written_new (Farm fault) asked ended =
     record { request = request; asked = asked; ended = ended }

@@ -1,9 +1,12 @@
 -- What a command is: what it reads, what it lists of that, and whether workers share it.
-use Rattle.std.specs.Prelude.{ℕ, ℤ, Bool, true, false, List}
+use Rattle.std.specs.Prelude.{ℕ, ℤ, Bool, true, false, List, Option, None}
+use Rattle.std.specs.declared.alloc.Global.{Global}
+use Rattle.std.specs.declared.string.String.{String}
 use Rattle.iloc_ops.specs.declared.file.Block.{Block}
 use Rattle.iloc_meaning.specs.Memory.{words_from}
 use Rattle.iloc_rows.specs.declared.proposal.Proposed.{Proposed}
 use Rattle.iloc_args.specs.declared.request.Request.{Request}
+use Rattle.iloc_driver.specs.Priorities.{Own}
 use Rattle.iloc_driver.specs.declared.commands.Finding.{Finding}
 
 -- the memory that a request has each block start with
@@ -20,11 +23,18 @@ abbrev pub is_of_rows : Input → Bool
 is_of_rows OfRows = true
 is_of_rows _ = false
 
--- Who lists the blocks of a file: one thread, or the workers, of whom each hands back for a block with its number such an
--- answer, with the cycles of the block's schedule in it. The listing is made of the blocks and of all answers.
+-- Who lists the blocks of a file: one thread, or the workers, of whom each hands back for a block with its number, and its own
+-- priorities if there are some, such an answer, with the cycles of the block's schedule in it. The listing is made of the blocks
+-- and of all answers.
 pub data Listers : Type 1 where
   Alone : Listers
-  Shared : (A : Type 0) → (Request → ℕ → Block → A → Type 0) → (A → ℕ) → (Request → List Block → List A → List ℕ) → Listers
+  Shared : (A : Type 0) → (Request → Option (List ℕ) → ℕ → Block → A → Type 0) → (A → ℕ)
+      → (Request → List Block → List A → List ℕ) → Listers
+
+-- the file of priorities that is read for a request: where workers list the blocks
+abbrev pub priorities_file : Listers → Request → Option (String Global)
+priorities_file Alone request = None
+priorities_file (Shared A answers cycles_in made_of) request = request.priorities_file
 
 pub record Command : Type 1 where
   -- what it reads
@@ -32,8 +42,8 @@ pub record Command : Type 1 where
   -- whether, where a request names a file, that file has the blocks and rows for them are read
   pub takes_task : Bool
   pub listers : Listers
-  -- what it lists of a file's blocks
-  pub lists : Request → List Block → List ℕ → Type 0
+  -- what it lists of a file's blocks, with their own priorities if there are some
+  pub lists : Request → Own → List Block → List ℕ → Type 0
   -- what it says of what is proposed for blocks, and finds
   pub says : Request → List Block → List Proposed → Finding → List ℕ → Type 0
   -- what it reports of a text, and finds
@@ -45,7 +55,7 @@ of_files lists = record {
   input = OfFile;
   takes_task = false;
   listers = Alone;
-  lists = lists;
+  lists = λ request own. lists request;
   says = λ _ _ _ _ _. ⊥;
   reports = λ _ _ _. ⊥;
 }
@@ -53,6 +63,12 @@ of_files lists = record {
 -- one that lists no file
 abbrev pub of_no_file : Command
 of_no_file = of_files (λ _ _ _. ⊥)
+
+-- one whose blocks workers share, and that does no more
+abbrev pub shared_by : {A : Type 0} → (Request → Option (List ℕ) → ℕ → Block → A → Type 0) → (A → ℕ)
+    → (Request → List Block → List A → List ℕ) → (Request → Own → List Block → List ℕ → Type 0) → Command
+shared_by {A} answers cycles_in made_of lists =
+    record of_no_file { listers = Shared A answers cycles_in made_of; lists = lists }
 
 -- one that says this of rows: for the input's blocks or, where a request names a file, for that file's
 abbrev pub of_rows : (Request → List Block → List Proposed → Finding → List ℕ → Type 0) → Command

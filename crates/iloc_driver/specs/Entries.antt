@@ -3,6 +3,7 @@ use Rattle.std.specs.Prelude.{◌≡◌, ℕ, ◌+◌, List, [], ◌∷◌, ◌+
 use Rattle.iloc_ops.specs.declared.file.Block.{Block}
 use Rattle.iloc_text.specs.Files.{Denotes}
 use Rattle.iloc_text.specs.Streams.{ReadsText}
+use Rattle.iloc_driver.specs.Priorities.{Own}
 
 -- `lists k b entry f` says that this is the entry of the block b, or of what else is listed, with the number k, of which f is
 -- found
@@ -38,14 +39,16 @@ pub record Adds {F : Type 0} (is : List ℕ → F → Type 0) (text more : List 
 abbrev pub no_ending : List (Unit {0}) → List ℕ
 no_ending found = []
 
--- the bytes that were read denote a file, of whose blocks the text is the listing
-pub record ListsRead (is_listing : List Block → List ℕ → Type 0) (old new : Option (List ℕ)) (text : List ℕ)
-    : Type 0 where
+-- the bytes that were read denote a file, of whose blocks the text is the listing, with these priorities of their own
+pub record ListsRead (is_listing : Own → List Block → List ℕ → Type 0) (are_own : List Block → Own → Type 0)
+    (old new : Option (List ℕ)) (text : List ℕ) : Type 0 where
   pub input : List ℕ
   pub read : ReadsText old new input
   pub blocks : List Block
   pub denoted : Denotes input blocks
-  pub listed : is_listing blocks text
+  pub own : Own
+  pub ranked : are_own blocks own
+  pub listed : is_listing own blocks text
 
 -- `lists k b x` says that x is listed of the block b with the number k, counted from 1
 module _ {A : Type 0} (lists : ℕ → Block → A → Type 0) where

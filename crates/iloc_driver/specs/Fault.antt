@@ -1,5 +1,6 @@
 -- How a run ends: what it finds or what stops it, what is said of a fault, and the exit status.
 use Rattle.std.specs.Prelude.{◌≡◌, ℕ, Bool, true, false, List, [], ◌++◌, codes}
+use Rattle.std.specs.Fmt.{decimal}
 use Rattle.iloc_text.specs.Fault.{fault_text}
 use Rattle.iloc_text.specs.declared.fault.ReadFault.{ReadFault}
 use Rattle.iloc_text.specs.declared.fault.ReadFault.TheVariants as text
@@ -16,7 +17,13 @@ use Rattle.iloc_driver.specs.declared.commands.Finding.TheVariants.{Passed, Fail
 use Rattle.iloc_driver.specs.declared.fault.FarmFault.{FarmFault}
 use Rattle.iloc_driver.specs.declared.fault.FarmFault.TheVariants as farm
 use Rattle.iloc_driver.specs.declared.fault.RunFault.{RunFault}
-use Rattle.iloc_driver.specs.declared.fault.RunFault.TheVariants.{ReadFailed, Text, Rows, Task, Farm, WriteFailed}
+use Rattle.iloc_driver.specs.declared.fault.RunFault.TheVariants.{ReadFailed, Text, Rows, Task, Priorities, Farm, WriteFailed}
+use Rattle.iloc_driver.specs.declared.fault.FileFault.{FileFault}
+use Rattle.iloc_driver.specs.declared.fault.FileFault.TheVariants as file
+use Rattle.iloc_driver.specs.declared.fault.PrioritiesFault.{PrioritiesFault}
+use Rattle.iloc_driver.specs.declared.fault.PrioritiesFault.TheVariants as of_priorities
+use Rattle.iloc_driver.specs.declared.fault.NumbersFault.{NumbersFault}
+use Rattle.iloc_driver.specs.declared.fault.NumbersFault.TheVariants as numbers
 use Rattle.iloc_driver.specs.declared.fault.TaskFault.{TaskFault}
 use Rattle.iloc_driver.specs.declared.fault.TaskFault.TheVariants as of_task
 
@@ -51,12 +58,29 @@ rows_status (rows.Read fault) = text_status fault
 rows_status rows.NoBlocks = 1
 rows_status (rows.NoSuchBlock n) = 1
 
--- 1 for a fault in the text of a task, 4 where it could not be had
+-- 4 for a file that could not be had
+abbrev pub file_status : FileFault → ℕ
+file_status file.NoFile = 4
+file_status file.NotOpened = 4
+file_status file.ReadFailed = 4
+file_status file.NoMemory = 3
+
+-- 1 for a fault in the text of a task
 abbrev pub task_status : TaskFault → ℕ
-task_status of_task.NoFile = 4
-task_status of_task.NotOpened = 4
-task_status of_task.ReadFailed = 4
+task_status (of_task.Unread fault) = file_status fault
 task_status (of_task.Text fault) = rows_status fault
+
+-- and of numbers that rank operations
+abbrev pub numbers_status : NumbersFault → ℕ
+numbers_status numbers.TooLong = 1
+numbers_status (numbers.NoNumber k j) = 1
+numbers_status (numbers.NotANumber k j) = 1
+numbers_status (numbers.NoOperation k j) = 1
+numbers_status numbers.NoMemory = 3
+
+abbrev pub priorities_status : PrioritiesFault → ℕ
+priorities_status (of_priorities.Unread fault) = file_status fault
+priorities_status (of_priorities.Text fault) = numbers_status fault
 
 -- 1 for a fault in the text, 3 for want of memory or of a thread, 4 for a device that failed
 abbrev pub run_status_of : RunFault → ℕ
@@ -64,6 +88,7 @@ run_status_of ReadFailed = 4
 run_status_of (Text fault) = text_status fault
 run_status_of (Rows fault) = rows_status fault
 run_status_of (Task fault) = task_status fault
+run_status_of (Priorities fault) = priorities_status fault
 run_status_of (Farm fault) = 3
 run_status_of WriteFailed = 4
 
@@ -72,12 +97,34 @@ abbrev pub farm_text : FarmFault → List ℕ
 farm_text farm.NoThread = codes "a worker could not be started"
 farm_text farm.NoMemory = codes "out of memory"
 
+-- what is said of a file that was not read
+abbrev pub file_text : FileFault → List ℕ
+file_text file.NoFile = codes "no such file"
+file_text file.NotOpened = codes "opening failed"
+file_text file.ReadFailed = codes "reading failed"
+file_text file.NoMemory = codes "out of memory"
+
 -- what is said of a task that there isn't: of its own text, and so that it is told apart from the other
 abbrev pub task_text : TaskFault → List ℕ
-task_text of_task.NoFile = codes "task: no such file"
-task_text of_task.NotOpened = codes "task: opening failed"
-task_text of_task.ReadFailed = codes "task: reading failed"
+task_text (of_task.Unread fault) = codes "task: " ++ file_text fault
 task_text (of_task.Text fault) = codes "task: " ++ rows_fault_text fault
+
+-- `block K operation J: `, and what is wrong there
+abbrev pub of_operation : ℕ → ℕ → List ℕ → List ℕ
+of_operation k j what = codes "block " ++ (decimal k ++ (codes " operation " ++ (decimal j ++ what)))
+
+-- what is said of numbers that are refused
+abbrev pub numbers_text : NumbersFault → List ℕ
+numbers_text numbers.TooLong = codes "input longer than 16777216 bytes"
+numbers_text (numbers.NoNumber k j) = of_operation k j (codes ": no number")
+numbers_text (numbers.NotANumber k j) = of_operation k j (codes ": no number from 0 to 4294967295")
+numbers_text (numbers.NoOperation k j) = of_operation k j (codes ": no such operation")
+numbers_text numbers.NoMemory = codes "out of memory"
+
+-- what is said of priorities that there aren't
+abbrev pub priorities_text : PrioritiesFault → List ℕ
+priorities_text (of_priorities.Unread fault) = codes "priorities: " ++ file_text fault
+priorities_text (of_priorities.Text fault) = codes "priorities: " ++ numbers_text fault
 
 -- what is said of a fault of a run
 abbrev pub run_text : RunFault → List ℕ
@@ -85,6 +132,7 @@ run_text ReadFailed = codes "reading failed"
 run_text (Text fault) = fault_text fault
 run_text (Rows fault) = rows_fault_text fault
 run_text (Task fault) = task_text fault
+run_text (Priorities fault) = priorities_text fault
 run_text (Farm fault) = farm_text fault
 run_text WriteFailed = codes "writing failed"
 
@@ -121,6 +169,14 @@ fault_of_rows (rows.Read (text.TooManyOperations n)) = Rows (rows.Read (text.Too
 fault_of_rows (rows.Read text.NoMemory) = no_memory
 fault_of_rows rows.NoBlocks = Rows rows.NoBlocks
 fault_of_rows (rows.NoSuchBlock n) = Rows (rows.NoSuchBlock n)
+
+-- the fault of a run that has no priorities
+abbrev pub fault_of_numbers : NumbersFault → RunFault
+fault_of_numbers numbers.TooLong = Priorities (of_priorities.Text numbers.TooLong)
+fault_of_numbers (numbers.NoNumber k j) = Priorities (of_priorities.Text (numbers.NoNumber k j))
+fault_of_numbers (numbers.NotANumber k j) = Priorities (of_priorities.Text (numbers.NotANumber k j))
+fault_of_numbers (numbers.NoOperation k j) = Priorities (of_priorities.Text (numbers.NoOperation k j))
+fault_of_numbers numbers.NoMemory = no_memory
 
 -- What holds where so many workers were to do the jobs of a board, for which so many passes were made and these journals
 -- gathered, and it ended with this fault. No thread is started before all passes are made, and one that can't be started is

@@ -4,6 +4,7 @@ pub mod Entries
 pub mod Fault
 pub mod Limits
 pub mod Listing
+pub mod Priorities
 pub mod Program
 pub mod Schedules
 pub mod Run

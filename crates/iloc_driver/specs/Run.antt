@@ -16,7 +16,8 @@ use Rattle.iloc_driver.specs.declared.commands.Finding.{Finding}
 use Rattle.iloc_driver.specs.declared.commands.Finding.TheVariants.{Passed}
 use Rattle.iloc_driver.specs.Run.Apart.{Held, ReadsApart}
 use Rattle.iloc_driver.specs.Run.Causes.{IsCaused, causes_of}
-use Rattle.iloc_driver.specs.Command.{Command, Input, OfFile, OfRows, OfText, is_of_rows}
+use Rattle.iloc_driver.specs.Command.{Command, Input, OfFile, OfRows, OfText, is_of_rows, priorities_file}
+use Rattle.iloc_driver.specs.Priorities.{AreIn, Own}
 use Rattle.iloc_driver.specs.Run.Device.{WritesFront}
 use Rattle.iloc_driver.specs.Entries.{ListsRead}
 pub mod Apart
@@ -51,12 +52,16 @@ pub record ListsApart (says : List Block → List Proposed → Finding → List 
   pub read : ReadsApart known old new blocks proposals
   pub said : says blocks proposals finding text
 
+-- the priorities are those that the command has for the request
+abbrev pub AreOwn : Command → Held → Request → List Block → Own → Type 0
+AreOwn command held request blocks own = AreIn (priorities_file command.listers request) held blocks own
+
 -- The command lists this text of what was read, with this finding: of a file it judges nothing; rows have blocks in the same
 -- input, or in the file that is named.
 abbrev pub ListsBy : Command → Input → Option (String Global) → Held → Request → Option (List ℕ) → Option (List ℕ)
     → Finding → List ℕ → Type 0
 ListsBy command OfFile file held request old new finding text =
-    ListsRead (command.lists request) old new text × (finding ≡ Passed)
+    ListsRead (command.lists request) (AreOwn command held request) old new text × (finding ≡ Passed)
 ListsBy command OfRows None held request old new finding text =
     Lists (ListsSubmission (command.says request)) old new finding text
 ListsBy command OfRows (Some name) held request old new finding text =
@@ -65,13 +70,13 @@ ListsBy command OfText file held request old new finding text = Lists command.re
 
 -- where these are the commands
 module _ (command_of : Task → Command) where
-  -- the text is what a request with this task lists of a file's blocks
-  abbrev pub IsListingFor : Task → Request → List Block → List ℕ → Type 0
-  IsListingFor t request blocks text = (command_of t).lists request blocks text
+  -- the text is what a request with this task lists of a file's blocks, with these priorities of their own
+  abbrev pub IsListingFor : Task → Request → Own → List Block → List ℕ → Type 0
+  IsListingFor t request own blocks text = (command_of t).lists request own blocks text
 
   -- the text is what the request lists of the blocks, and that does not depend on its workers
-  abbrev pub IsListing : Request → List Block → List ℕ → Type 0
-  IsListing request blocks text = IsListingFor request.task request blocks text
+  abbrev pub IsListing : Request → Own → List Block → List ℕ → Type 0
+  IsListing request own blocks text = IsListingFor request.task request own blocks text
 
   -- whether a request with this task reads rows
   abbrev pub takes_rows : Task → Option (String Global) → Bool
@@ -90,7 +95,7 @@ module _ (command_of : Task → Command) where
   abbrev pub EndsReading : Held → Request → Option (List ℕ) → Option (List ℕ) → RunFault → Type 0
   EndsReading held request old new fault =
       let command : Command = command_of request.task in
-      IsCaused (causes_of command (input_of command request.task_file) request.task_file held old new) fault
+      IsCaused (causes_of command (input_of command request.task_file) request.task_file held request old new) fault
 
   -- and where one ends with this fault: a write fails at a prefix of the listing, and after any other fault nothing is written
   abbrev pub EndsRun : Held → Request → Option (List ℕ) → Option (List ℕ) → Option (List ℕ) → Option (List ℕ) → RunFault

@@ -1,5 +1,5 @@
 -- The schedules of a file's blocks.
-use Rattle.std.specs.Prelude.{◌≡◌, ℕ, ℤ, List, [], ◌∷◌, map, slice_get, IfSome}
+use Rattle.std.specs.Prelude.{◌≡◌, ℕ, ℤ, List, [], ◌∷◌, map, slice_get, Option, Some, None, IfSome}
 use Rattle.iloc_ops.specs.declared.op.Op.{Op}
 use Rattle.iloc_ops.specs.declared.file.Block.{Block}
 use Rattle.iloc_meaning.specs.declared.outcome.Outcome.{Outcome}
@@ -28,16 +28,29 @@ AreGreedyAs heuristic lat (b ∷ blocks) (s ∷ schedules) =
 abbrev pub IsScheduleOf : Heuristic → Latencies → List Block → ℕ → Table → Type 0
 IsScheduleOf heuristic lat blocks i s = IfSome (slice_get blocks i) (λ (b : Block). IsGreedyAs heuristic lat b.ops s)
 
--- the schedule is that of the block, greedy by this heuristic, and there is no other
-pub record IsTheGreedy (heuristic : Heuristic) (lat : Latencies) (b : Block) (s : Table) : Type 0 where
-  pub greedy : IsGreedyAs heuristic lat b.ops s
-  pub only : (t : Table) → IsGreedyAs heuristic lat b.ops t → t ≡ s
+-- the schedule is that of the block, greedy by these priorities of its renamed operations, and there is no other
+pub record IsTheGreedyBy (prios : List Op → List ℕ) (lat : Latencies) (b : Block) (s : Table) : Type 0 where
+  pub greedy : IsGreedyBy (prios s.ops) lat b.ops s.ops s.rows
+  pub only : (t : Table) → IsGreedyBy (prios t.ops) lat b.ops t.ops t.rows → t ≡ s
 
--- these are the cycles of the block's schedule that is greedy by this heuristic
-pub record IsCount (heuristic : Heuristic) (lat : Latencies) (b : Block) (cycles : ℕ) : Type 0 where
+-- by those of this heuristic
+abbrev pub IsTheGreedy : Heuristic → Latencies → Block → Table → Type 0
+IsTheGreedy heuristic lat b s = IsTheGreedyBy (priorities_by heuristic lat) lat b s
+
+-- what ranks a block's renamed operations: numbers of its own if there are some, else this heuristic
+abbrev pub ranks : Heuristic → Latencies → Option (List ℕ) → List Op → List ℕ
+ranks heuristic lat None ops = priorities_by heuristic lat ops
+ranks heuristic lat (Some numbers) ops = numbers
+
+-- these are the cycles of the block's schedule that is greedy by these priorities
+pub record IsCountBy (prios : List Op → List ℕ) (lat : Latencies) (b : Block) (cycles : ℕ) : Type 0 where
   pub schedule : Table
-  pub greedy : IsTheGreedy heuristic lat b schedule
+  pub greedy : IsTheGreedyBy prios lat b schedule
   pub counted : cycles ≡ cycles_of lat schedule
+
+-- by those of this heuristic
+abbrev pub IsCount : Heuristic → Latencies → Block → ℕ → Type 0
+IsCount heuristic lat b cycles = IsCountBy (priorities_by heuristic lat) lat b cycles
 
 -- no other list of schedules has that property
 abbrev pub AreTheOnlyGreedyAs : Heuristic → Latencies → List Block → List Table → Type 0

@@ -2,3 +2,4 @@
 pub mod Text
 pub mod Joined
 pub mod Listed
+pub mod Ranked

@@ -10,7 +10,9 @@ use Rattle.iloc_args.specs.declared.request.Request.{Request}
 use Rattle.iloc_args.specs.declared.request.Task.{Task}
 use Rattle.iloc_driver.specs.Command.{Alone, Command, Listers, Shared}
 use Rattle.iloc_driver.specs.Entries.{ListsRead, OfBlock}
-use Rattle.iloc_driver.specs.Run.{IsListingFor}
+use Rattle.iloc_driver.specs.Priorities.{Own, own_of}
+use Rattle.iloc_driver.specs.Run.{AreOwn, IsListingFor}
+use Rattle.iloc_driver.specs.Run.Apart.{Held}
 
 -- So many workers did all jobs. The receipt has one journal of each, in order, and each was told that no job is left. By these
 -- journals, what they did is one legal history of a board of one thread, in which each job is taken once and handed back once.
@@ -22,25 +24,32 @@ pub record AreFarmed {A : Type 0} (count : ℕ) (fits : ℕ → A → Type 0) (p
   pub told : All IsDone receipt.gathered
   pub done : IsDoneBy count fits price receipt answers
 
+-- what is listed of block k, by its own priorities if it has some
+abbrev pub by_own : {A : Type 0} → (Option (List ℕ) → ℕ → Block → A → Type 0) → Own → ℕ → Block → A → Type 0
+by_own lists own k b x = lists (own_of own k) k b x
+
 -- The bytes that were read denote a file, and the text is the listing of its blocks. It is made of what workers handed back for
 -- these very blocks, at their cycles.
-pub record ListsFarmed {A : Type 0} (lists : ℕ → Block → A → Type 0) (cycles_in : A → ℕ)
-    (made_of : List Block → List A → List ℕ) (is_listing : List Block → List ℕ → Type 0) (workers : ℕ)
-    (old new : Option (List ℕ)) (text : List ℕ) (receipt : ReceiptView) : Type 0 where
-  pub read : ListsRead is_listing old new text
+pub record ListsFarmed {A : Type 0} (lists : Option (List ℕ) → ℕ → Block → A → Type 0) (cycles_in : A → ℕ)
+    (made_of : List Block → List A → List ℕ) (is_listing : Own → List Block → List ℕ → Type 0)
+    (are_own : List Block → Own → Type 0) (workers : ℕ) (old new : Option (List ℕ)) (text : List ℕ) (receipt : ReceiptView)
+    : Type 0 where
+  pub read : ListsRead is_listing are_own old new text
   pub answers : List A
-  pub farmed : AreFarmed (length read.blocks) (OfBlock lists read.blocks) cycles_in workers receipt answers
+  pub farmed : AreFarmed (length read.blocks) (OfBlock (by_own lists read.own) read.blocks) cycles_in workers receipt answers
   pub made : text ≡ made_of read.blocks answers
 
 -- Where workers share what the command lists, this is the receipt for what the request's workers listed of the file that was
 -- read: of each block its entry, or the cycles of its schedule, or all that is compared. Else there is none.
-abbrev pub HasReceiptFrom : Listers → (List Block → List ℕ → Type 0) → Request → Option (List ℕ) → Option (List ℕ) → List ℕ
-    → Option ReceiptView → Type 0
-HasReceiptFrom Alone is_listing request old new text receipt = receipt ≡ None
-HasReceiptFrom (Shared A answers cycles_in made_of) is_listing request old new text receipt =
-    IsSomeAnd receipt (ListsFarmed (answers request) cycles_in (made_of request) is_listing request.workers old new text)
+abbrev pub HasReceiptFrom : Listers → (Own → List Block → List ℕ → Type 0) → (List Block → Own → Type 0) → Request
+    → Option (List ℕ) → Option (List ℕ) → List ℕ → Option ReceiptView → Type 0
+HasReceiptFrom Alone is_listing are_own request old new text receipt = receipt ≡ None
+HasReceiptFrom (Shared A answers cycles_in made_of) is_listing are_own request old new text receipt =
+    IsSomeAnd receipt
+    (ListsFarmed (answers request) cycles_in (made_of request) is_listing are_own request.workers old new text)
 
-abbrev pub HasReceipt : (Task → Command) → Task → Request → Option (List ℕ) → Option (List ℕ) → List ℕ → Option ReceiptView
-    → Type 0
-HasReceipt command_of t request old new text receipt =
-    HasReceiptFrom (command_of t).listers (IsListingFor command_of t request) request old new text receipt
+abbrev pub HasReceipt : (Task → Command) → Task → Held → Request → Option (List ℕ) → Option (List ℕ) → List ℕ
+    → Option ReceiptView → Type 0
+HasReceipt command_of t held request old new text receipt =
+    HasReceiptFrom (command_of t).listers (IsListingFor command_of t request) (AreOwn (command_of t) held request) request old new
+    text receipt

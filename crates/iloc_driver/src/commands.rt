@@ -3,7 +3,7 @@ ghost use Rattle.std.specs.Prelude.{◌≡◌};
 ghost use Rattle.iloc_driver.specs.Run.Apart.{Held};
 ghost use Rattle.std.specs.Thread.{IsSync};
 ghost use Rattle.iloc_args.specs.declared.request.Task.{Task as task_value};
-ghost use Rattle.iloc_driver.specs.Command.{Command as command_value, Shared, of_files, of_files_or_rows, of_rows};
+ghost use Rattle.iloc_driver.specs.Command.{Command as command_value, of_files, of_files_or_rows, of_rows, shared_by};
 ghost use Rattle.iloc_driver.specs.Entries.{IsListingOf};
 ghost use Rattle.iloc_driver.specs.Fault.{finding_of, finding_of_text, status_of_finding};
 ghost use Rattle.iloc_driver.specs.Listing.Rows.{ListsProposed};
@@ -119,19 +119,21 @@ pub fn alone<L: Lister, R: Read>(
     Ok((Listed::of_file(text), None))
 }
 
-/// What a command whose blocks workers share lists of the file that the reader gives, and the receipt for their work.
-pub fn shared<L: FarmedLister + Send + Sync, H: Threads + Wait + Sync, R: Read>(
+/// What a command whose blocks workers share lists of the file that the reader gives, with the priorities in the file that the
+/// request may name, and the receipt for their work.
+pub fn shared<L: FarmedLister + Send + Sync, H: Threads + Wait + Sync, T: Texts, R: Read>(
     rt: &H,
     alloc: Global,
+    texts: &T,
     reader: &mut R,
     request: &Request,
 ) -> Result<(Listed, Option<Receipt>), RunFault>
 where
     L::Answer: Send,
-    ensures { (held : Held) → ComesTo (record (of_files L.lists) { listers = Shared L.Answer L.answers L.cycles_in L.made_of })
-        held request.now (R.remaining reader.old) (R.remaining reader.new) result }
+    ensures { ComesTo (shared_by L.answers L.cycles_in L.made_of L.lists) (T.held texts.now) request.now
+        (R.remaining reader.old) (R.remaining reader.new) result }
 {
-    let (text, receipt) = listed_by_workers::<L, H, R>(rt, alloc, reader, request)?;
+    let (text, receipt) = listed_by_workers::<L, H, T, R>(rt, alloc, texts, reader, request)?;
     Ok((Listed::of_file(text), Some(receipt)))
 }
 

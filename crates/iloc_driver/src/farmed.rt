@@ -1,16 +1,20 @@
 //! What a command lists of a file whose blocks several workers share.
-ghost use Rattle.std.specs.Prelude.{◌≡◌, ℕ, ◌≤◌, ◌<◌, ◌^◌, List, length, IfErr, IfOk};
+ghost use Rattle.std.specs.Prelude.{◌≡◌, ℕ, ◌≤◌, ◌<◌, ◌^◌, List, Option, length, option_copied, IfErr, IfOk, IfSome};
 ghost use Rattle.iloc_ops.specs.Limits.{MAX_BLOCKS, MAX_OPS};
 ghost use Rattle.iloc_ops.specs.declared.file.Block.{Block as block_value};
 ghost use Rattle.iloc_args.specs.declared.request.Request.{Request as request_value};
 ghost use Rattle.iloc_text.specs.Files.{AreWithinLimits};
 ghost use Rattle.iloc_driver.specs.Entries.{AreListed, OfBlock};
 ghost use Rattle.iloc_driver.specs.Run.Causes.{IsCaused, of_shared_file};
-ghost use Rattle.iloc_driver.specs.Work.{AreFarmed, ListsFarmed};
+ghost use Rattle.iloc_driver.specs.Work.{AreFarmed, ListsFarmed, by_own};
+ghost use Rattle.iloc_driver.specs.Priorities.{AreFor, AreIn, Own};
+ghost use Rattle.iloc_rules.specs.Renaming.{without_nops};
 
 use crate::fault::{FarmFault, RunFault};
 use crate::listing::text::Listing;
-use crate::reading::read_blocks;
+use crate::reading::priorities::Priorities;
+use crate::reading::read_ranked;
+use crate::reading::texts::Texts;
 use crate::workers::farm_out;
 use iloc_args::Request;
 use iloc_board::{AtDesk, FreeGate, Jobs, NoMemory, Receipt};
@@ -27,8 +31,8 @@ pub trait FarmedLister: Drop {
     /// What is to be listed of a block.
     type Answer: Drop;
 
-    // for the request, this is the answer for the block with this number, counted from 1
-    ghost answers: { request_value → ℕ → block_value → Self.Answer → Type 0 };
+    // for the request, with its own priorities if it has some, this is the answer for the block with this number, counted from 1
+    ghost answers: { request_value → Option (List ℕ) → ℕ → block_value → Self.Answer → Type 0 };
 
     // the cycles of the block's schedule
     ghost cycles_in: { Self.Answer → ℕ };
@@ -36,23 +40,26 @@ pub trait FarmedLister: Drop {
     // for the request, what is made of these blocks and these answers
     ghost made_of: { request_value → List block_value → List Self.Answer → List ℕ };
 
-    // for the request, this is the listing of these blocks
-    ghost lists: { request_value → List block_value → List ℕ → Type 0 };
+    // for the request, this is the listing of these blocks, with their own priorities if there are some
+    ghost lists: { request_value → Own → List block_value → List ℕ → Type 0 };
 
     /// A lister.
     fn new(alloc: Global) -> Self;
 
-    /// The answer for the block with this number, counted from 1.
+    /// The answer for the block with this number, counted from 1, whose operations these numbers rank if it has some of its own.
     fn answer(
         &mut self,
         alloc: Global,
         request: &Request,
+        own: Option<&[u32]>,
         number: usize,
         block: &Block,
     ) -> Result<Self::Answer, NoText>
         requires short { length block.now.ops ≤ MAX_OPS }
         requires number { number < 2 ^ 63 }
-        ensures { IfOk result (answers request.now number block.now) };
+        requires each { IfSome (option_copied own)
+            (λ numbers. length numbers ≡ length (without_nops block.now.ops)) }
+        ensures { IfOk result (answers request.now (option_copied own.entry) number block.now) };
 
     /// The cycles of the block's schedule.
     fn cycles(answer: &Self::Answer) -> u32
@@ -66,9 +73,10 @@ pub trait FarmedLister: Drop {
         found: Vec<Self::Answer>,
     ) -> Result<Listing, NoText>
         requires few { length blocks ≤ MAX_BLOCKS }
-        requires right { AreListed (answers request.now) blocks found.items }
+        requires many { length found.items ≡ length blocks }
         ensures made { IfOk result (λ text. text ≡ made_of request.now blocks found.items) }
-        ensures right { IfOk result (lists request.now blocks) };
+        ensures right { IfOk result (λ text. (own : Own) → AreListed (by_own (answers request.now) own) blocks found.items
+            → lists request.now own blocks text) };
 }
 
 /// Blocks that are to be listed for a request. The answer to job i is what is to be listed of block i, and costs the cycles
@@ -77,6 +85,7 @@ pub trait FarmedLister: Drop {
 pub struct ListedJobs<'f, L: FarmedLister> {
     blocks: &'f [Block],
     request: &'f Request,
+    priorities: &'f Priorities,
     lister: PhantomData<L>,
 }
 
@@ -84,25 +93,37 @@ impl<'f, L: FarmedLister> Model for ListedJobs<'f, L> {
     ghost use Rattle.std.specs.Prelude.{◌≤◌, length};
     ghost use Rattle.std.specs.List.{All};
     ghost use Rattle.iloc_ops.specs.Limits.{MAX_BLOCKS, MAX_OPS};
+    ghost use Rattle.iloc_driver.specs.Priorities.{AreFor};
     ghost use Rattle.iloc_driver.specs.Steps.Listed.{ToList};
 
     ghost Value = { ToList };
 
-    ghost view = { λ jobs. record { blocks = jobs.blocks.now; request = jobs.request.now } };
+    ghost view = { λ jobs. record {
+      blocks = jobs.blocks.now;
+      request = jobs.request.now;
+      own = jobs.priorities.now;
+    } };
 
     ghost invariant = { λ jobs. (length jobs.blocks.now ≤ MAX_BLOCKS)
-        × All (λ b. length b.ops ≤ MAX_OPS) jobs.blocks.now };
+        × All (λ b. length b.ops ≤ MAX_OPS) jobs.blocks.now
+        × AreFor jobs.priorities.now jobs.blocks.now };
 }
 
 impl<'f, L: FarmedLister> ListedJobs<'f, L> {
     /// These blocks, for this request.
-    fn new(blocks: &'f [Block], request: &'f Request) -> ListedJobs<'f, L>
-        requires { AreWithinLimits blocks.now }
-        ensures { result ≡ record { blocks = blocks.now; request = request.now } }
+    fn new(
+        blocks: &'f [Block],
+        request: &'f Request,
+        priorities: &'f Priorities,
+    ) -> ListedJobs<'f, L>
+        requires few { AreWithinLimits blocks.now }
+        requires each { AreFor priorities.now blocks.now }
+        ensures { result ≡ record { blocks = blocks.now; request = request.now; own = priorities.now } }
     {
         ListedJobs {
             blocks,
             request,
+            priorities,
             lister: PhantomData,
         }
     }
@@ -111,12 +132,13 @@ impl<'f, L: FarmedLister> ListedJobs<'f, L> {
 impl<'f, L: FarmedLister> Jobs for ListedJobs<'f, L> {
     ghost use Rattle.std.specs.Prelude.{length};
     ghost use Rattle.iloc_driver.specs.Entries.{OfBlock};
+    ghost use Rattle.iloc_driver.specs.Work.{by_own};
 
     type Answer = L::Answer;
 
     ghost number = { λ jobs. length jobs.blocks };
 
-    ghost fits = { λ jobs i answer. OfBlock (L.answers jobs.request) jobs.blocks i answer };
+    ghost fits = { λ jobs i answer. OfBlock (by_own (L.answers jobs.request) jobs.own) jobs.blocks i answer };
 
     ghost price = { λ _ answer. L.cycles_in answer };
 
@@ -137,7 +159,9 @@ impl<'f, L: FarmedLister> Jobs for ListedJobs<'f, L> {
 impl<'f, L: FarmedLister> AtDesk<L> for ListedJobs<'f, L> {
     fn answer_at(&self, desk: &mut L, alloc: Global, i: u32) -> Result<L::Answer, NoMemory> {
         let block = &self.blocks[i as usize];
-        desk.answer(alloc, self.request, i as usize + 1, block)
+        let number = i as usize + 1;
+        let own = self.priorities.of(number);
+        desk.answer(alloc, self.request, own, number, block)
             .map_err(|_| NoMemory)
     }
 }
@@ -159,14 +183,16 @@ fn answers_of<H: Threads + Wait + Sync, L: FarmedLister + Send + Sync>(
     alloc: Global,
     blocks: &[Block],
     request: &Request,
+    priorities: &Priorities,
 ) -> Result<(Vec<L::Answer>, Receipt), FarmFault>
 where
     L::Answer: Send,
-    requires { AreWithinLimits blocks.now }
-    ensures { IfOk result (λ done. AreFarmed (length blocks.now) (OfBlock (L.answers request.now) blocks.now) L.cycles_in
-        request.now.workers done.1 done.0.items) }
+    requires few { AreWithinLimits blocks.now }
+    requires each { AreFor priorities.now blocks.now }
+    ensures { IfOk result (λ done. AreFarmed (length blocks.now)
+        (OfBlock (by_own (L.answers request.now) priorities.now) blocks.now) L.cycles_in request.now.workers done.1 done.0.items) }
 {
-    let jobs = ListedJobs::<L>::new(blocks, request);
+    let jobs = ListedJobs::<L>::new(blocks, request, priorities);
     let desks = desks::<L>(alloc, request)?;
     let (answers, receipt) = farm_out(rt, alloc, &jobs, desks, &FreeGate)?.into_parts();
     Ok((answers, receipt))
@@ -174,21 +200,36 @@ where
 
 /// The listing of the file that the reader gives, for whose blocks the request's workers make the answers, and the receipt for
 /// their work.
-pub(crate) fn listed_by_workers<L: FarmedLister + Send + Sync, H: Threads + Wait + Sync, R: Read>(
+#[tactic(auto, using(crate::proofs::Streamed::shared_causes))]
+pub(crate) fn listed_by_workers<
+    L: FarmedLister + Send + Sync,
+    H: Threads + Wait + Sync,
+    T: Texts,
+    R: Read,
+>(
     rt: &H,
     alloc: Global,
+    texts: &T,
     reader: &mut R,
     request: &Request,
 ) -> Result<(Listing, Receipt), RunFault>
 where
     L::Answer: Send,
     ensures ok { IfOk result (λ listed.
-        ListsFarmed (L.answers request.now) L.cycles_in (L.made_of request.now) (L.lists request.now) request.now.workers
+        ListsFarmed (L.answers request.now) L.cycles_in (L.made_of request.now) (L.lists request.now)
+        (AreIn request.now.priorities_file (T.held texts.now)) request.now.workers
         (R.remaining reader.old) (R.remaining reader.new) listed.0 listed.1) }
-    ensures err { IfErr result (IsCaused (of_shared_file (R.remaining reader.old) (R.remaining reader.new))) }
+    ensures err { IfErr result (IsCaused
+        (of_shared_file request.now.priorities_file (T.held texts.now) (R.remaining reader.old) (R.remaining reader.new))) }
 {
-    let blocks = read_blocks(rt, alloc, reader, request)?;
-    let (answers, receipt) = answers_of::<H, L>(rt, alloc, blocks.as_slice(), request)?;
+    let (blocks, priorities) = read_ranked(rt, alloc, texts, reader, request)?;
+    let (answers, receipt) = answers_of::<H, L>(
+        rt,
+        alloc,
+        blocks.as_slice(),
+        request,
+        &priorities,
+    )?;
     let text = L::listing(alloc, request, blocks, answers)?;
     Ok((text, receipt))
 }

@@ -35,15 +35,42 @@ impl Display for FarmFault {
 
 impl Error for FarmFault {}
 
-/// Why there is no task, whose blocks are in a text of their own.
+/// Why a file that the words name was not read.
 #[derive(Clone, Copy, Debug, Drop, PartialEq, Eq)]
-pub enum TaskFault {
-    /// There is no text of that name.
+pub enum FileFault {
+    /// There is no file of that name.
     NoFile,
     /// It could not be opened.
     NotOpened,
     /// A read of it failed, as of a folder.
     ReadFailed,
+    /// The growth of its text was refused.
+    NoMemory,
+}
+
+impl Display for FileFault {
+    ghost use Rattle.std.specs.Prelude.{Some};
+    ghost use Rattle.iloc_driver.specs.Fault.{file_text};
+
+    ghost output = { λ fault. Some (file_text fault) };
+
+    fn fmt<W: fmt::Write>(&self, f: &mut Formatter<W>) -> fmt::Result {
+        match self {
+            FileFault::NoFile => f.write_str("no such file"),
+            FileFault::NotOpened => f.write_str("opening failed"),
+            FileFault::ReadFailed => f.write_str("reading failed"),
+            FileFault::NoMemory => f.write_str("out of memory"),
+        }
+    }
+}
+
+impl Error for FileFault {}
+
+/// Why there is no task, whose blocks are in a text of their own.
+#[derive(Clone, Copy, Debug, Drop, PartialEq, Eq)]
+pub enum TaskFault {
+    /// Its file was not read. Want of memory is never told here.
+    Unread(FileFault),
     /// It is refused; its lines are counted by themselves. Want of memory is never told here.
     Text(RowsFault),
 }
@@ -56,15 +83,80 @@ impl Display for TaskFault {
 
     fn fmt<W: fmt::Write>(&self, f: &mut Formatter<W>) -> fmt::Result {
         match self {
-            TaskFault::NoFile => f.write_str("task: no such file"),
-            TaskFault::NotOpened => f.write_str("task: opening failed"),
-            TaskFault::ReadFailed => f.write_str("task: reading failed"),
+            TaskFault::Unread(fault) => write!(f, "task: {fault}"),
             TaskFault::Text(fault) => write!(f, "task: {fault}"),
         }
     }
 }
 
 impl Error for TaskFault {}
+
+/// Why a text has no numbers for the operations of a file's blocks. Blocks are counted from 1, and the operations of each from 0,
+/// `nop`s left out.
+#[derive(Clone, Copy, Debug, Drop, PartialEq, Eq)]
+pub enum NumbersFault {
+    /// The text has more than `MAX_INPUT` bytes.
+    TooLong,
+    /// The block's line ends before the operation has a number.
+    NoNumber { block: u32, operation: u32 },
+    /// What is written for the operation is no number, or one above 4,294,967,295.
+    NotANumber { block: u32, operation: u32 },
+    /// There is more on the line than the block has operations, or there is no such block.
+    NoOperation { block: u32, operation: u32 },
+    /// The growth of a list was refused.
+    NoMemory,
+}
+
+impl Display for NumbersFault {
+    ghost use Rattle.std.specs.Prelude.{Some};
+    ghost use Rattle.iloc_driver.specs.Fault.{numbers_text};
+
+    ghost output = { λ fault. Some (numbers_text fault) };
+
+    fn fmt<W: fmt::Write>(&self, f: &mut Formatter<W>) -> fmt::Result {
+        match self {
+            NumbersFault::TooLong => f.write_str("input longer than 16777216 bytes"),
+            NumbersFault::NoNumber { block, operation } => {
+                write!(f, "block {block} operation {operation}: no number")
+            }
+            NumbersFault::NotANumber { block, operation } => write!(
+                f,
+                "block {block} operation {operation}: no number from 0 to 4294967295"
+            ),
+            NumbersFault::NoOperation { block, operation } => {
+                write!(f, "block {block} operation {operation}: no such operation")
+            }
+            NumbersFault::NoMemory => f.write_str("out of memory"),
+        }
+    }
+}
+
+impl Error for NumbersFault {}
+
+/// Why there are no numbers of somebody's own for the operations of a file's blocks.
+#[derive(Clone, Copy, Debug, Drop, PartialEq, Eq)]
+pub enum PrioritiesFault {
+    /// Their file was not read. Want of memory is never told here.
+    Unread(FileFault),
+    /// It is refused. Want of memory is never told here.
+    Text(NumbersFault),
+}
+
+impl Display for PrioritiesFault {
+    ghost use Rattle.std.specs.Prelude.{Some};
+    ghost use Rattle.iloc_driver.specs.Fault.{priorities_text};
+
+    ghost output = { λ fault. Some (priorities_text fault) };
+
+    fn fmt<W: fmt::Write>(&self, f: &mut Formatter<W>) -> fmt::Result {
+        match self {
+            PrioritiesFault::Unread(fault) => write!(f, "priorities: {fault}"),
+            PrioritiesFault::Text(fault) => write!(f, "priorities: {fault}"),
+        }
+    }
+}
+
+impl Error for PrioritiesFault {}
 
 /// Why a run of a request failed.
 #[derive(Clone, Copy, Debug, Drop, PartialEq, Eq)]
@@ -77,6 +169,8 @@ pub enum RunFault {
     Rows(RowsFault),
     /// The task is none, or it could not be read.
     Task(TaskFault),
+    /// There are no numbers that rank the operations, or they could not be read.
+    Priorities(PrioritiesFault),
     /// The work failed, or memory was wanting, also while the input was read.
     Farm(FarmFault),
     /// A write or the flush failed.
@@ -95,6 +189,7 @@ impl Display for RunFault {
             RunFault::Text(fault) => write!(f, "{fault}"),
             RunFault::Rows(fault) => write!(f, "{fault}"),
             RunFault::Task(fault) => write!(f, "{fault}"),
+            RunFault::Priorities(fault) => write!(f, "{fault}"),
             RunFault::Farm(fault) => write!(f, "{fault}"),
             RunFault::WriteFailed => f.write_str("writing failed"),
         }
@@ -113,9 +208,15 @@ pub fn run_status(fault: &RunFault) -> u8
         RunFault::Farm(_)
         | RunFault::Text(ReadFault::NoMemory)
         | RunFault::Rows(RowsFault::Read(ReadFault::NoMemory))
-        | RunFault::Task(TaskFault::Text(RowsFault::Read(ReadFault::NoMemory))) => 3,
-        RunFault::Text(_) | RunFault::Rows(_) | RunFault::Task(TaskFault::Text(_)) => 1,
-        RunFault::Task(_) | RunFault::ReadFailed | RunFault::WriteFailed => 4,
+        | RunFault::Task(TaskFault::Text(RowsFault::Read(ReadFault::NoMemory)))
+        | RunFault::Task(TaskFault::Unread(FileFault::NoMemory))
+        | RunFault::Priorities(PrioritiesFault::Unread(FileFault::NoMemory))
+        | RunFault::Priorities(PrioritiesFault::Text(NumbersFault::NoMemory)) => 3,
+        RunFault::Task(TaskFault::Unread(_))
+        | RunFault::Priorities(PrioritiesFault::Unread(_))
+        | RunFault::ReadFailed
+        | RunFault::WriteFailed => 4,
+        RunFault::Text(_) | RunFault::Rows(_) | RunFault::Task(_) | RunFault::Priorities(_) => 1,
     }
 }
 
@@ -168,6 +269,29 @@ impl From<RowsFault> for RunFault {
             RowsFault::Read(ReadFault::NoMemory) => RunFault::Farm(FarmFault::NoMemory),
             fault => RunFault::Rows(fault),
         }
+    }
+}
+
+impl From<NumbersFault> for RunFault {
+    ghost use Rattle.iloc_driver.specs.Fault.{fault_of_numbers};
+
+    ghost from_gives = { λ fault given. given ≡ fault_of_numbers fault };
+
+    fn from(fault: NumbersFault) -> RunFault {
+        match fault {
+            NumbersFault::NoMemory => RunFault::Farm(FarmFault::NoMemory),
+            fault => RunFault::Priorities(PrioritiesFault::Text(fault)),
+        }
+    }
+}
+
+impl<T: Drop> From<AllocFailed<T>> for NumbersFault {
+    ghost use Rattle.iloc_driver.specs.declared.fault.NumbersFault.TheVariants.{NoMemory as no_memory};
+
+    ghost from_gives = { λ _ given. given ≡ no_memory };
+
+    fn from(_: AllocFailed<T>) -> NumbersFault {
+        NumbersFault::NoMemory
     }
 }
 

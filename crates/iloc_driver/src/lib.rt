@@ -13,7 +13,9 @@ mod workers;
 
 pub use commands::{Commands, Finding, Listed, alone, of_file_or_rows, of_rows, shared};
 pub use farmed::FarmedLister;
-pub use fault::{FarmFault, RunFault, TaskFault, run_status};
+pub use fault::{
+    FarmFault, FileFault, NumbersFault, PrioritiesFault, RunFault, TaskFault, run_status,
+};
 pub use lister::{Lister, initial_memory};
 pub use listing::scheduled::{EntryMaker, with_total};
 pub use listing::table::{push_count, push_field, push_head, push_opening};

@@ -1,5 +1,5 @@
 //! What a command lists of a file, block by block as the file is read.
-ghost use Rattle.std.specs.Prelude.{◌≡◌, ℕ, ◌≤◌, ◌<◌, ◌^◌, ◌++◌, List, length, ℤ, IfErr, IfOk, OnOk};
+ghost use Rattle.std.specs.Prelude.{◌≡◌, ℕ, ◌≤◌, ◌<◌, ◌^◌, ◌++◌, List, None, length, ℤ, IfErr, IfOk, OnOk};
 ghost use Rattle.iloc_ops.specs.Limits.{MAX_BLOCKS, MAX_OPS};
 ghost use Rattle.iloc_ops.specs.declared.file.Block.{Block as block_value};
 ghost use Rattle.iloc_args.specs.declared.request.Request.{Request as request_value};
@@ -111,7 +111,8 @@ pub(crate) fn listed_as_read<L: Lister, R: Read>(
     request: &Request,
 ) -> Result<Listing, RunFault>
     ensures ok { IfOk result
-        (ListsRead (IsListingOf (L.lists request.now) L.ending) (R.remaining reader.old) (R.remaining reader.new)) }
+        (ListsRead (λ own. IsListingOf (L.lists request.now) L.ending) (λ _ own. own ≡ None)
+        (R.remaining reader.old) (R.remaining reader.new)) }
     ensures err { IfErr result (IsCaused (of_file (R.remaining reader.old) (R.remaining reader.new))) }
 {
     files_are_within_limits();

@@ -135,7 +135,7 @@ pub fn run_with_receipt<C: Commands, H: Threads + Wait + Sync, T: Texts, R: Read
 ) -> Result<(Finding, Option<Receipt>), RunFault>
     ensures ok { IfOk result (λ done. (text : List ℕ) ×
         ListsFrom C.command_of (T.held texts.now) request.now (R.remaining reader.old) (R.remaining reader.new) done.0 text ×
-        HasReceipt C.command_of request.now.task request.now (R.remaining reader.old) (R.remaining reader.new) text done.1 ×
+        HasReceipt C.command_of request.now.task (T.held texts.now) request.now (R.remaining reader.old) (R.remaining reader.new) text done.1 ×
         Appends (W.contents writer.old) (W.contents writer.new) text) }
     ensures err { IfErr result (EndsRun C.command_of (T.held texts.now) request.now
         (R.remaining reader.old) (R.remaining reader.new)

@@ -9,11 +9,12 @@ use Rattle.iloc_timed.specs.Schedule.{Table}
 use Rattle.iloc_timed.specs.declared.latencies.Latencies.{Latencies}
 use Rattle.iloc_rows.specs.declared.proposal.Proposed.{Proposed}
 use Rattle.iloc_rows.specs.declared.proposal.unread.Unread.{Unread}
-use Rattle.iloc_judge.specs.Checked.{DoTheSame, MayPass, passes}
-use Rattle.iloc_judge.specs.Unread.{IsUnread}
-use Rattle.iloc_judge.specs.declared.checked.Checked.{Checked}
-use Rattle.iloc_judge.specs.declared.task.CheckOptions.{CheckOptions}
-use Rattle.iloc_judge.specs.declared.task.Form.{Form}
+use Rattle.iloc_judge.specs.Checked.{DoTheSame, MayPass}
+use Rattle.iloc_verdict.specs.Checked.{passes}
+use Rattle.iloc_verdict.specs.Unread.{IsUnread}
+use Rattle.iloc_verdict.specs.declared.checked.Checked.{Checked}
+use Rattle.iloc_comparison.specs.declared.task.CheckOptions.{CheckOptions}
+use Rattle.iloc_comparison.specs.declared.task.Form.{Form}
 use Rattle.iloc_judge.proofs.Sameness.{passed_is_same, passed_rows_may_pass, same_rows_do_the_same}
 use Rattle.iloc_row_commands.specs.Check.{IsCheckEntry, IsSaid, ListsChecked}
 use Rattle.iloc_driver.specs.Entries.{AreEntries}

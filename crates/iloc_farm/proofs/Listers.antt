@@ -1,10 +1,12 @@
 -- Requests that ask alike list one text.
-use Rattle.std.proofs.Common.{◌≡◌, ℕ, false, List, ◌++◌, Option, Some, None, refl, sym, ap, ap₂, ◌∙◌, arith}
+use Rattle.std.proofs.Common.{◌≡◌, ℕ, Bool, true, false, List, ◌++◌, Option, Some, None, refl, sym, ap, ap₂, ◌∙◌, arith}
 use Rattle.std.proofs.Math.Path.{transport}
 use Rattle.std.specs.Prelude.{codes}
 use Rattle.iloc_ops.specs.declared.file.Block.{Block}
+use Rattle.iloc_ops.specs.declared.op.Op.{Op}
 use Rattle.iloc_timed.specs.Schedule.{Table}
-use Rattle.iloc_explain.specs.Listing.{IsExplanation}
+use Rattle.iloc_timed.specs.declared.latencies.Latencies.{Latencies}
+use Rattle.iloc_rules.specs.declared.heuristic.Heuristic.{Heuristic}
 use Rattle.iloc_explain.proofs.OneText.{one_explanation}
 use Rattle.iloc_graph.specs.Listing.{IsCluster}
 use Rattle.iloc_graph.proofs.OneText.{one_cluster}
@@ -15,7 +17,7 @@ use Rattle.iloc_args.specs.declared.request.Task.{Task}
 use Rattle.iloc_args.specs.declared.request.Task.TheVariants as task
 use Rattle.iloc_block_commands.specs.Compare.{IsCompareEntry, compare_ending, compare_header}
 use Rattle.iloc_block_commands.specs.Counts.{IsCountEntry, count_ending, count_header}
-use Rattle.iloc_view_commands.specs.Explain.{IsExplainEntry}
+use Rattle.iloc_view_commands.specs.Explain.{IsExplainEntry, IsSaid}
 use Rattle.iloc_view_commands.specs.Graph.{IsGraphEntry, drawing_end, opening_at}
 use Rattle.iloc_block_commands.specs.Run.{IsRunEntry}
 use Rattle.iloc_driver.specs.Command.{initial_memory}
@@ -27,7 +29,9 @@ use Rattle.iloc_farm.specs.Commands.{command_of}
 use Rattle.iloc_farm.specs.Laws.{AskAlike, SimulatingListsRuns, searches}
 use Rattle.iloc_driver.specs.Listing.{block_head, cycles_of, opening_as, outcome_entry, total_of_all}
 use Rattle.iloc_driver.specs.Run.{IsListingFor}
-use Rattle.iloc_driver.specs.Schedules.{IsTheGreedy}
+use Rattle.iloc_driver.specs.Priorities.{Own, own_of}
+use Rattle.iloc_driver.specs.Schedules.{IsTheGreedy, IsTheGreedyBy, ranks}
+use Rattle.iloc_rules.specs.Greedy.{IsGreedyBy}
 use Rattle.iloc_block_commands.specs.declared.compare.ComparedCycles.{ComparedCycles}
 use Rattle.iloc_block_commands.proofs.Comparisons.{one_comparison}
 use Rattle.iloc_driver.proofs.Entries.{listing_also, one_listing, one_listing_after}
@@ -35,6 +39,13 @@ use Rattle.iloc_block_commands.proofs.Listers.{one_shown, shown_plainly}
 
 pub one_memory : (r q : Request) → AskAlike r q → initial_memory r ≡ initial_memory q
 one_memory r q alike = ap (λ at. words_from at r.words.items) alike.at ∙ ap (λ ws. words_from q.at ws) alike.words
+
+-- one text is said of a schedule
+one_said : (by_cycle : Bool) (heuristic : Heuristic) (lat : Latencies) (block : List Op) (s : Table) (text text' : List ℕ)
+    → IsSaid by_cycle heuristic lat block s text → IsSaid by_cycle heuristic lat block s text' → text ≡ text'
+one_said true heuristic lat block s text text' said said' = said ∙ sym said'
+one_said false heuristic lat block s text text' said said' =
+    one_explanation heuristic lat block s.ops s.rows s.ops text text' said said'
 
 module _ (r q : Request) (alike : AskAlike r q) (k : ℕ) (b : Block) where
   run_same : (e e' : List ℕ) (f f' : Unit {0}) → IsRunEntry r k b e f → IsRunEntry q k b e' f' → (e ≡ e') × (f ≡ f')
@@ -50,16 +61,25 @@ module _ (r q : Request) (alike : AskAlike r q) (k : ℕ) (b : Block) where
       → s ≡ s'
   same_schedule s s' is is' = grind (arith, transport)
 
+  -- also by numbers of the block's own
+  same_ranked : (own : Option (List ℕ)) (s s' : Table)
+      → IsTheGreedyBy (ranks r.priority r.latencies own) r.latencies b s
+      → IsTheGreedyBy (ranks q.priority q.latencies own) q.latencies b s' → s ≡ s'
+  same_ranked own s s' is is' =
+      is'.only s (transport (λ i. IsGreedyBy (ranks (alike.priority i) (alike.latencies i) own s.ops) (alike.latencies i) b.ops
+      s.ops s.rows) is.greedy)
+
   cycles_same : (s s' : Table) (c c' : ℕ) → s ≡ s' → c ≡ cycles_of r.latencies s → c' ≡ cycles_of q.latencies s' → c ≡ c'
   cycles_same s s' c c' same is is' =
       is ∙ (ap (λ lat. cycles_of lat s) alike.latencies ∙ (ap (cycles_of q.latencies) same ∙ sym is'))
 
-  schedule_same : (e e' : List ℕ) (c c' : ℕ) → IsScheduleEntry r k b e c → IsScheduleEntry q k b e' c'
-      → (e ≡ e') × (c ≡ c')
-  schedule_same e e' c c' is is' = grind (arith, cycles_same, same_schedule)
+  schedule_same : (own : Option (List ℕ)) (e e' : List ℕ) (c c' : ℕ) → IsScheduleEntry r own k b e c
+      → IsScheduleEntry q own k b e' c' → (e ≡ e') × (c ≡ c')
+  schedule_same own e e' c c' is is' = grind (arith, cycles_same, same_ranked)
 
-  count_same : (e e' : List ℕ) (c c' : ℕ) → IsCountEntry r k b e c → IsCountEntry q k b e' c' → (e ≡ e') × (c ≡ c')
-  count_same e e' c c' is is' = grind (arith, cycles_same, same_schedule)
+  count_same : (own : Option (List ℕ)) (e e' : List ℕ) (c c' : ℕ) → IsCountEntry r own k b e c → IsCountEntry q own k b e' c'
+      → (e ≡ e') × (c ≡ c')
+  count_same own e e' c c' is is' = grind (arith, cycles_same, same_ranked)
 
   compare_same : r.nodes ≡ None → (e e' : List ℕ) (c c' : ComparedCycles) → IsCompareEntry r k b e c
       → IsCompareEntry q k b e' c' → (e ≡ e') × (c ≡ c')
@@ -70,9 +90,8 @@ module _ (r q : Request) (alike : AskAlike r q) (k : ℕ) (b : Block) where
   explain_same e e' c c' is is' =
       let same = same_schedule is.schedule is'.schedule is.greedy is'.greedy in
       let text : is.text ≡ is'.text =
-      one_explanation q.priority q.latencies b.ops is'.schedule.ops is'.schedule.rows is'.schedule.ops is.text is'.text
-      (transport (λ i. let s : Table = same i in
-      IsExplanation (alike.priority i) (alike.latencies i) b.ops s.ops s.rows s.ops is.text) is.explains) is'.explains in (
+      one_said q.by_cycle q.priority q.latencies b.ops is'.schedule is.text is'.text
+      (transport (λ i. IsSaid (alike.by_cycle i) (alike.priority i) (alike.latencies i) b.ops (same i) is.text) is.said) is'.said in (
         is.listed ∙ (ap (λ t. block_head k b.name ++ codes "\n" ++ t) text ∙ sym is'.listed),
         cycles_same is.schedule is'.schedule c c' same is.counted is'.counted,
       )
@@ -94,34 +113,35 @@ without_nodes None e = refl
 without_nodes (Some n) e = cc
 
 pub of_one_task : (t : Task) (r q : Request) → AskAlike r q → searches t r.nodes ≡ false
-    → (blocks : List Block) (text text' : List ℕ)
-    → IsListingFor command_of t r blocks text → IsListingFor command_of t q blocks text' → text ≡ text'
-of_one_task task.Run r q alike settled blocks text text' lists lists' =
+    → (own : Own) (blocks : List Block) (text text' : List ℕ)
+    → IsListingFor command_of t r own blocks text → IsListingFor command_of t q own blocks text' → text ≡ text'
+of_one_task task.Run r q alike settled own blocks text text' lists lists' =
     one_listing (IsRunEntry r) (IsRunEntry q) (run_same r q alike) no_ending blocks text text' lists lists'
-of_one_task task.Simulate r q alike settled blocks text text' lists lists' =
+of_one_task task.Simulate r q alike settled own blocks text text' lists lists' =
     one_listing (IsSimulateEntry r) (IsSimulateEntry q) (simulate_same r q alike) no_ending blocks text text' lists lists'
-of_one_task task.Trace r q alike settled blocks text text' lists lists' =
+of_one_task task.Trace r q alike settled own blocks text text' lists lists' =
     one_listing (IsTraceEntry r) (IsTraceEntry q) (trace_same r q alike) no_ending blocks text text' lists lists'
-of_one_task task.Schedule r q alike settled blocks text text' lists lists' =
-    one_listing (IsScheduleEntry r) (IsScheduleEntry q) (schedule_same r q alike) total_of_all blocks text text'
-    lists lists'
-of_one_task task.Counts r q alike settled blocks text text' lists lists' =
-    one_listing_after (IsCountEntry r) (IsCountEntry q) (count_same r q alike) (opening_as r.csv count_header)
+of_one_task task.Schedule r q alike settled own blocks text text' lists lists' =
+    one_listing (λ k. IsScheduleEntry r (own_of own k) k) (λ k. IsScheduleEntry q (own_of own k) k)
+    (λ k b. schedule_same r q alike k b (own_of own k)) total_of_all blocks text text' lists lists'
+of_one_task task.Counts r q alike settled own blocks text text' lists lists' =
+    one_listing_after (λ k. IsCountEntry r (own_of own k) k) (λ k. IsCountEntry q (own_of own k) k)
+    (λ k b. count_same r q alike k b (own_of own k)) (opening_as r.csv count_header)
     (opening_as q.csv count_header) (count_ending r.csv) (count_ending q.csv) blocks text text'
     (ap (λ csv. opening_as csv count_header) alike.csv) (ap count_ending alike.csv) lists lists'
-of_one_task task.Compare r q alike settled blocks text text' lists lists' =
+of_one_task task.Compare r q alike settled own blocks text text' lists lists' =
     one_listing_after (IsCompareEntry r) (IsCompareEntry q)
     (λ k b. compare_same r q alike k b (without_nodes r.nodes settled)) (opening_as r.csv (compare_header r.nodes))
     (opening_as q.csv (compare_header q.nodes)) (compare_ending r.csv r.nodes) (compare_ending q.csv q.nodes) blocks text text'
     (ap₂ (λ csv nodes. opening_as csv (compare_header nodes)) alike.csv alike.nodes) (ap₂ compare_ending alike.csv alike.nodes)
     lists lists'
-of_one_task task.Optimize r q alike settled blocks text text' lists lists' = absurd cc
-of_one_task task.Explain r q alike settled blocks text text' lists lists' =
+of_one_task task.Optimize r q alike settled own blocks text text' lists lists' = absurd cc
+of_one_task task.Explain r q alike settled own blocks text text' lists lists' =
     one_listing (IsExplainEntry r) (IsExplainEntry q) (explain_same r q alike) total_of_all blocks text text' lists lists'
-of_one_task task.Graph r q alike settled blocks text text' lists lists' =
+of_one_task task.Graph r q alike settled own blocks text text' lists lists' =
     one_listing (IsGraphEntry r) (IsGraphEntry q) (graph_same r q alike) drawing_end blocks text text' lists lists'
-of_one_task task.Check r q alike settled blocks text text' lists lists' = absurd lists
-of_one_task task.Lint r q alike settled blocks text text' lists lists' = absurd lists
+of_one_task task.Check r q alike settled own blocks text text' lists lists' = absurd lists
+of_one_task task.Lint r q alike settled own blocks text text' lists lists' = absurd lists
 
 pub simulating_lists_runs : SimulatingListsRuns
 simulating_lists_runs = grind (arith, listing_also, shown_plainly)

@@ -23,11 +23,11 @@ use Rattle.iloc_farm.proofs.Listers.{of_one_task, one_memory}
 use Rattle.iloc_driver.proofs.Schedules.{greedy_long, total_small}
 
 pub ignore_workers : ListingsIgnoreWorkers
-ignore_workers r q alike settled input blocks blocks' denotes denotes' text text' lists lists' =
+ignore_workers r q alike settled input blocks blocks' denotes denotes' own text text' lists lists' =
     let same : blocks' ≡ blocks = sym (one_answer.file input blocks blocks' denotes denotes') in
     let one_task : q.task ≡ r.task = sym alike.task in
-    of_one_task r.task r q alike settled blocks text text' lists
-    (transport (λ i. IsListingFor command_of (one_task i) q (same i) text') lists')
+    of_one_task r.task r q alike settled own blocks text text' lists
+    (transport (λ i. IsListingFor command_of (one_task i) q own (same i) text') lists')
 
 -- a comparison of the one request is one of the other
 compares_alike : (r q : Request) → AskAlike r q → (k : ℕ) (b : Block) (entry : List ℕ) (found : ComparedCycles)

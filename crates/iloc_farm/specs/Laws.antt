@@ -17,7 +17,7 @@ use Rattle.iloc_optimum.specs.Bound.{IsOptimal}
 use Rattle.iloc_rows.specs.declared.proposal.Proposed.{Proposed}
 use Rattle.iloc_validation.specs.ByTheBook.{IsByTheBook}
 use Rattle.iloc_judge.specs.Checked.{DoTheSame, MayPass}
-use Rattle.iloc_judge.specs.declared.task.CheckOptions.{CheckOptions}
+use Rattle.iloc_comparison.specs.declared.task.CheckOptions.{CheckOptions}
 use Rattle.iloc_rows.specs.EitherSlot.{placed}
 use Rattle.iloc_rows.specs.Submissions as submissions
 use Rattle.iloc_args.specs.Asked.{Asked}
@@ -34,6 +34,7 @@ use Rattle.iloc_block_commands.specs.Compare.{IsComparedCycles, optimal_by}
 use Rattle.iloc_block_commands.specs.Optimize.{IsOptimizeEntry}
 use Rattle.iloc_block_commands.specs.declared.compare.ComparedCycles.{ComparedCycles}
 use Rattle.iloc_driver.specs.Listing.{total_cycles}
+use Rattle.iloc_driver.specs.Priorities.{Own}
 use Rattle.iloc_driver.specs.Program.{Args, AskFor, Ends}
 use Rattle.iloc_driver.specs.Run.{IsListing, IsListingFor, ListsFrom, takes_rows}
 use Rattle.iloc_driver.specs.Schedules.{AreGreedyAs, IsGreedyAs}
@@ -45,6 +46,7 @@ pub record AskAlike (r q : Request) : Type 0 where
   pub words : r.words.items ≡ q.words.items
   pub latencies : r.latencies ≡ q.latencies
   pub priority : r.priority ≡ q.priority
+  pub priorities_file : r.priorities_file ≡ q.priorities_file
   pub nodes : r.nodes ≡ q.nodes
   pub task_file : r.task_file ≡ q.task_file
   pub csv : r.csv ≡ q.csv
@@ -54,6 +56,7 @@ pub record AskAlike (r q : Request) : Type 0 where
   pub operations : r.operations ≡ q.operations
   pub outputs : r.outputs ≡ q.outputs
   pub fault_place : r.fault_place ≡ q.fault_place
+  pub by_cycle : r.by_cycle ≡ q.by_cycle
 
 -- whether a request with this task and these nodes searches for schedules of the blocks of a file
 abbrev pub searches : Task → Option ℕ → Bool
@@ -61,18 +64,20 @@ searches task.Optimize nodes = true
 searches task.Compare nodes = is_some nodes
 searches _ nodes = false
 
--- What such requests list of one file is one text, but where schedules are searched for: which of them is found is not settled.
+-- What such requests list of one file, with the same priorities of its own, is one text, but where schedules are searched for: which of them is found is not settled.
 -- Where rows are read no file is listed: which of two right verdicts is given, and by which pairing rows are explained, is not
 -- settled either, so of one input more than one text may be listed.
 abbrev pub ListingsIgnoreWorkers : Type 0
 ListingsIgnoreWorkers = (r q : Request) → AskAlike r q → searches r.task r.nodes ≡ false
     → (input : List ℕ) (blocks blocks' : List Block) → Denotes input blocks → Denotes input blocks'
-    → (text text' : List ℕ) → IsListing command_of r blocks text → IsListing command_of q blocks' text' → text ≡ text'
+    → (own : Own) (text text' : List ℕ)
+    → IsListing command_of r own blocks text → IsListing command_of q own blocks' text' → text ≡ text'
 
 -- where schedules are searched for, what one of such requests may list of blocks, so may the other
 abbrev pub OptimaIgnoreWorkers : Type 0
 OptimaIgnoreWorkers = (r q : Request) → AskAlike r q → (t : Task) → searches t r.nodes ≡ true
-    → (blocks : List Block) (text : List ℕ) → IsListingFor command_of t r blocks text → IsListingFor command_of t q blocks text
+    → (own : Own) (blocks : List Block) (text : List ℕ)
+    → IsListingFor command_of t r own blocks text → IsListingFor command_of t q own blocks text
 
 -- a schedule that is listed with a bound which its cycles reach is optimal among the lawful ones of its block
 abbrev pub ListedOptimaAreOptimal : Type 0
@@ -89,8 +94,8 @@ CountedOptimaAreOptimal = (lat : Latencies) (nodes : Option ℕ) (b : Block) (c 
 -- what is listed of blocks as what comes of their schedules is what is listed as what comes of them, where it isn't asked at
 -- which place they fault
 abbrev pub SimulatingListsRuns : Type 0
-SimulatingListsRuns = (request : Request) (blocks : List Block) (text : List ℕ) → request.fault_place ≡ false
-    → IsListingFor command_of task.Simulate request blocks text → IsListingFor command_of task.Run request blocks text
+SimulatingListsRuns = (request : Request) (own : Own) (blocks : List Block) (text : List ℕ) → request.fault_place ≡ false
+    → IsListingFor command_of task.Simulate request own blocks text → IsListingFor command_of task.Run request own blocks text
 
 -- what one of such requests may list where rows are read, so may the other
 abbrev pub ChecksIgnoreWorkers : Type 0

@@ -33,10 +33,10 @@ impl Commands for AllCommands {
             Task::Trace => of_file_or_rows::<TraceLister, RowsTracer, T, R>(
                 alloc, texts, reader, request,
             ),
-            Task::Schedule => shared::<ScheduleLister, H, R>(rt, alloc, reader, request),
-            Task::Counts => shared::<CountLister, H, R>(rt, alloc, reader, request),
-            Task::Compare => shared::<CompareLister, H, R>(rt, alloc, reader, request),
-            Task::Optimize => shared::<OptimizeLister, H, R>(rt, alloc, reader, request),
+            Task::Schedule => shared::<ScheduleLister, H, T, R>(rt, alloc, texts, reader, request),
+            Task::Counts => shared::<CountLister, H, T, R>(rt, alloc, texts, reader, request),
+            Task::Compare => shared::<CompareLister, H, T, R>(rt, alloc, texts, reader, request),
+            Task::Optimize => shared::<OptimizeLister, H, T, R>(rt, alloc, texts, reader, request),
             Task::Explain => of_file_or_rows::<ExplainLister, RowsExplainer, T, R>(
                 alloc, texts, reader, request,
             ),

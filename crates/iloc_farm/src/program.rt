@@ -59,7 +59,7 @@ pub fn run_with_receipt<H: Threads + Wait + Sync, T: Texts, R: Read, W: Write>(
 ) -> Result<(Finding, Option<Receipt>), RunFault>
     ensures ok { IfOk result (λ done. (text : List ℕ) ×
         ListsFrom command_of (T.held texts.now) request.now (R.remaining reader.old) (R.remaining reader.new) done.0 text ×
-        HasReceipt command_of request.now.task request.now (R.remaining reader.old) (R.remaining reader.new) text done.1 ×
+        HasReceipt command_of request.now.task (T.held texts.now) request.now (R.remaining reader.old) (R.remaining reader.new) text done.1 ×
         Appends (W.contents writer.old) (W.contents writer.new) text) }
     ensures err { IfErr result (EndsRun command_of (T.held texts.now) request.now
         (R.remaining reader.old) (R.remaining reader.new)

@@ -103,9 +103,11 @@ impl Graph {
 
     /// The kept edges, those into an operation side by side and before those into later ones.
     ///
-    /// Promise: Each is a delay pair of the operations.
+    /// Promise: Each is a delay pair of the operations, and each near pair has an edge that is at least as long.
     pub fn edges(&self) -> &[Edge]
-        ensures { All (λ (e : edge_value). IsDelayPair self.now.latencies self.now.ops e.from e.to e.delay) result.now }
+        ensures each { All (λ (e : edge_value). IsDelayPair self.now.latencies self.now.ops e.from e.to e.delay) result.now }
+        ensures all { (i j d : ℕ) → IsNearPair self.now.latencies self.now.ops i j d
+            → Any (λ (e : edge_value). (e.from ≡ i) × (e.to ≡ j) × (d ≤ e.delay)) result.now }
     {
         self.tables.edges.as_slice()
     }

@@ -45,3 +45,4 @@ pub record HoldValues (rows : List Row) : Type 0 where
   pub outputs : HoldsFlag (codes "outputs") rows
   pub either_slot : HoldsFlag (codes "either-slot") rows
   pub fault_place : HoldsFlag (codes "where") rows
+  pub by_cycle : HoldsFlag (codes "cycles") rows

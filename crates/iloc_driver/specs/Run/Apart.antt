@@ -51,7 +51,5 @@ pub record AreRefusedApart (known old new : Option (List ℕ)) (fault : RowsFaul
 
 -- why there is no task: its text was not opened or not read, or it is refused
 abbrev pub HasNoTask : Option (List ℕ) → TaskFault → Type 0
-HasNoTask known of_task.NoFile = Unit {0}
-HasNoTask known of_task.NotOpened = Unit {0}
-HasNoTask known of_task.ReadFailed = Unit {0}
+HasNoTask known (of_task.Unread fault) = Unit {0}
 HasNoTask known (of_task.Text fault) = IsRefusedAsTask known fault

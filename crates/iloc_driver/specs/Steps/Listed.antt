@@ -4,11 +4,13 @@ use Rattle.std.specs.List.{All}
 use Rattle.iloc_ops.specs.declared.file.Block.{Block}
 use Rattle.iloc_args.specs.declared.request.Request.{Request}
 use Rattle.iloc_driver.specs.Entries.{AreEntries}
+use Rattle.iloc_driver.specs.Priorities.{Own}
 
--- the blocks are listed for this request
+-- the blocks are listed for this request, with these priorities of their own
 pub record ToList : Type 0 where
   pub blocks : List Block
   pub request : Request
+  pub own : Own
 
 module _ {X F : Type 0} (lists : ℕ → X → List ℕ → F → Type 0) where
   -- the entries of these joined the text, and what was found of them joined what was found before

@@ -1,43 +1,28 @@
 //! Reading a task, whose blocks are in a text of their own, and apart from it the rows that somebody hands in.
 ghost use Rattle.std.specs.Prelude.{IfErr, IfOk};
 ghost use Rattle.iloc_rows.specs.Laws.{AreWithinLimits};
-ghost use Rattle.iloc_driver.specs.Run.Apart.{Holds, ReadsApart, ReadsTask};
+ghost use Rattle.iloc_driver.specs.Run.Apart.{ReadsApart, ReadsTask};
 ghost use Rattle.iloc_driver.specs.Run.Causes.{IsCaused, of_rows_apart, of_task};
 
-use crate::fault::{FarmFault, RunFault, TaskFault};
-use crate::reading::texts::Texts;
+use crate::fault::{FarmFault, FileFault, RunFault, TaskFault};
+use crate::reading::texts::{Texts, text_named};
 use iloc_ops::Blocks;
 use iloc_rows::laws::submissions_apart_are_within_limits;
 use iloc_rows::{RowsFault, Submission, read_rows, read_task};
-use iloc_text::{InputFault, ReadFault, read_text_from};
+use iloc_text::{ReadFault, read_text_from};
 use std::alloc::Global;
-use std::io::{ErrorKind, Read};
-
-/// The bytes of the text with this name.
-fn input_named<T: Texts>(alloc: Global, texts: &T, name: &str) -> Result<Vec<u8>, RunFault>
-    ensures ok { IfOk result (λ input. Holds (T.held texts.now name.now) input.items) }
-    ensures err { IfErr result (IsCaused (of_task (T.held texts.now name.now))) }
-{
-    let mut text = match texts.open_text(name) {
-        Ok(text) => text,
-        Err(error) if error.kind() == ErrorKind::NotFound => {
-            return Err(RunFault::Task(TaskFault::NoFile));
-        }
-        Err(_) => return Err(RunFault::Task(TaskFault::NotOpened)),
-    };
-    match read_text_from(alloc, &mut text) {
-        Ok(input) => Ok(input),
-        Err(InputFault::ReadFailed) => Err(RunFault::Task(TaskFault::ReadFailed)),
-        Err(InputFault::NoMemory) => Err(RunFault::Farm(FarmFault::NoMemory)),
-    }
-}
+use std::io::Read;
 
 /// The blocks of the task with this name.
 fn task_named<T: Texts>(alloc: Global, texts: &T, name: &str) -> Result<Blocks, RunFault>
     ensures ok { IfOk result (ReadsTask (T.held texts.now name.now)) }
     ensures err { IfErr result (IsCaused (of_task (T.held texts.now name.now))) }
 {
-    let input = input_named(alloc, texts, name)?;
+    let input = match text_named(alloc, texts, name) {
+        Ok(input) => input,
+        Err(FileFault::NoMemory) => return Err(RunFault::Farm(FarmFault::NoMemory)),
+        Err(fault) => return Err(RunFault::Task(TaskFault::Unread(fault))),
+    };
     match read_task(alloc, &input) {
         Ok(blocks) => Ok(blocks),
         Err(RowsFault::Read(ReadFault::NoMemory)) => Err(RunFault::Farm(FarmFault::NoMemory)),

@@ -1,7 +1,7 @@
 //! Checks of rows for the blocks of a text of their own: which of the two is read, and what is said of each.
 use super::fakes::{Shelf, Source, giving, taking_all};
 use crate::asked::asked;
-use iloc_driver::{Finding, RunFault, TaskFault};
+use iloc_driver::{FileFault, Finding, RunFault, TaskFault};
 use iloc_farm::run;
 use iloc_rows::RowsFault;
 use iloc_text::ReadFault;
@@ -34,19 +34,19 @@ const CASES: &[Case] = &[
     (
         (Err(ErrorKind::NotFound), None),
         (ROWS, None),
-        Err(RunFault::Task(TaskFault::NoFile)),
+        Err(RunFault::Task(TaskFault::Unread(FileFault::NoFile))),
         0,
     ),
     (
         (Err(ErrorKind::PermissionDenied), None),
         (ROWS, None),
-        Err(RunFault::Task(TaskFault::NotOpened)),
+        Err(RunFault::Task(TaskFault::Unread(FileFault::NotOpened))),
         0,
     ),
     (
         (Ok(TASK), BROKEN),
         (ROWS, None),
-        Err(RunFault::Task(TaskFault::ReadFailed)),
+        Err(RunFault::Task(TaskFault::Unread(FileFault::ReadFailed))),
         0,
     ),
     (

@@ -180,7 +180,6 @@ block 3 C same cycles 15 ours 15 least 15
 block 4 D differs cycles 1 ours 15 least 15
   output 1: 0 for 81
   left out 4: loadI 1024 => r1
-  see row 0: output 1032
 block 5 a differs cycles 6 ours 6 least 6
   output 2: 0 for none
   added 1: row 1: output 8

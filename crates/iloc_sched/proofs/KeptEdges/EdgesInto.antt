@@ -1,4 +1,4 @@
--- The edges into an operation are side by side; for `Graph::edges_into`.
+-- Each near pair has its edge, and the edges into an operation are side by side; for `Graph::edges` and `edges_into`.
 use Rattle.std.proofs.Common.{◌≡◌, ℕ, ◌+◌, ◌-◌, ◌<◌, ◌≤◌, List, length, take, drop, get_or, sym, ◌∙◌, ap, subst, arith}
 use Rattle.std.specs.Prelude.{All, Any}
 use Rattle.std.proofs.lemmas.List.{get_or-drop, get_or-take, get_or_default, length-drop, length-take}
@@ -10,6 +10,13 @@ use Rattle.iloc_sched.specs.declared.edges.Edge.{Edge}
 use Rattle.iloc_sched.specs.declared.edges.Edges.{Edges}
 use Rattle.iloc_sched.specs.Steps.Graph.{Graph, IsGraphOf}
 use Rattle.iloc_sched.specs.Steps.Views.{edge_at, graph_of}
+
+pub all_edges : (lat : Latencies) (ops : List Op) (e : Edges) → IsGraphOf lat ops (graph_of e) → (i j d : ℕ)
+    → IsNearPair lat ops i j d
+    → Any (λ (edge : Edge). (edge.from ≡ i) × (edge.to ≡ j) × (d ≤ edge.delay)) e.edges.items
+all_edges lat ops e kept i j d near =
+    let found = kept.all i j d (record { order = near.order; within = near.within; delay = near.delay }) near.near in
+    (found.0, edge_at e found.0, found.1, get_or_default e.edges.items found.0 _ _ found.1, (found.3, found.2, found.4))
 
 module _ (lat : Latencies) (ops : List Op) (e : Edges) (kept : IsGraphOf lat ops (graph_of e)) (j : ℕ)
     (there : j < length ops) where

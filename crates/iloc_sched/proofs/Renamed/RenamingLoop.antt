@@ -4,6 +4,7 @@ use Rattle.std.proofs.lemmas.List.{map-append, take_all}
 use Rattle.std.specs.List.{list_any, range_with_len, filter_map}
 use Rattle.std.proofs.lemmas.List.Elements.{filter_more, filter-append}
 use Rattle.std.proofs.lemmas.List.FromFn.{map-range_with_len_more}
+use Rattle.std.proofs.lemmas.List.Sums.{length-filter, count_by-le-length}
 use Rattle.iloc_ops.specs.declared.op.Reg.{Reg}
 use Rattle.iloc_ops.specs.declared.op.Op.{Op}
 use Rattle.iloc_ops.specs.declared.forms.Opcode.{Opcode}
@@ -270,10 +271,6 @@ pub all_renamed : (block items : List Op) (i : ℕ) (ops : List Op) → length i
     → ops ≡ renamed_by (without_nops (take i items)) (numbering (without_nops (take i items))) → ops ≡ renamed block
 all_renamed block items i ops past same are = grind (arith, take_all)
 
-shorter : (block : List Op) → length (without_nops block) ≤ length block
-shorter [] = omega arith
-shorter (op ∷ rest) = grind (arith, shorter rest)
-
 -- no operation is added
 pub renamed_fits : (block : List Op) → length (renamed block) ≤ length block
-renamed_fits block = grind (arith, length-renamed_by, shorter)
+renamed_fits block = grind (arith, length-renamed_by, length-filter, count_by-le-length)

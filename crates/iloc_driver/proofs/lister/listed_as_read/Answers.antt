@@ -1,4 +1,4 @@
-use Rattle.std.proofs.Common.{◌≡◌, ◌≤◌, ◌++◌, arith, ap, ◌∙◌, length, Err, IfErr, sym, subst}
+use Rattle.std.proofs.Common.{◌≡◌, ◌≤◌, ◌++◌, arith, ap, ◌∙◌, length, Err, None, IfErr, refl, sym, subst}
 use Rattle.std.proofs.lemmas.Result.{err_from_is_err_and}
 use Rattle.iloc_ops.specs.Limits.{MAX_BLOCKS}
 use Rattle.iloc_driver.specs.Run.Causes.{IsCaused, of_file}
@@ -25,6 +25,8 @@ returns-clause-ok g c =
       read = read.1;
       blocks = read.2;
       denoted = read.3;
+      own = None;
+      ranked = refl;
       listed = whole_listing (g.L.Lister.lists c.args.request.now) g.L.Lister.ending read.2 c.new-2.result.items text _
           c.new-3.result.items c.in_ok-read.read.found.items c.new-2.ensures.items c.new-3.ensures.items read.4.1
           (c.of_text.ensures ∙ (c.in_ok-push_ending.ensures

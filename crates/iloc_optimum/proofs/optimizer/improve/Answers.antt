@@ -21,7 +21,7 @@ returns-in-Nothing-clause-known c =
     subst (IsFound c.edges.result.now c.kinds.result.now w) c.in-Nothing.is c.in_ok-search_windows.ensures in
     let bound : IsBound g.latencies block (c.args.limit + 1) =
     refuted g.latencies block g.ops c.args.limit c.edges.result.now c.kinds.result.now w c.requires.graph
-    c.kinds.ensures.kinds c.edges.ensures (c.in_ok-windows.ensures.firsts, c.in_ok-windows.ensures.lasts) none in
+    c.kinds.ensures.kinds c.edges.ensures.each (c.in_ok-windows.ensures.firsts, c.in_ok-windows.ensures.lasts) none in
     let is : c.from.result ≡ c.args.limit = c.from.ensures in
     let above = c.requires.above in
     with_bound g.latencies block c.args.optimum.now (c.from.result + 1) c.requires.known

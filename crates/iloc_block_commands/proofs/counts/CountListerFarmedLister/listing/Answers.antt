@@ -13,5 +13,5 @@ returns-clause-made c =
     c.deref.ensures.value)
 
 pub returns-clause-right : goal.returns-clause-right
-returns-clause-right c =
-    counted_listing c.args.request.now c.args.blocks c.args.cycles.items c.of_text.result c.requires.right (returns-clause-made c)
+returns-clause-right c = λ own are.
+    counted_listing c.args.request.now own c.args.blocks c.args.cycles.items c.of_text.result are (returns-clause-made c)

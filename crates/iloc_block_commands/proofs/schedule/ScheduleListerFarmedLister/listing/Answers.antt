@@ -1,8 +1,12 @@
 use Rattle.std.proofs.lemmas.Result.{IfOk-weaker}
 use Rattle.iloc_block_commands.specs.Schedule.{IsScheduleEntry}
 use Rattle.iloc_driver.specs.Listing.{total_of_all}
+use Rattle.iloc_driver.specs.Priorities.{own_of}
 use Rattle.iloc_driver.proofs.Entries.{made_listing}
 use Rattle.iloc_block_commands.proofs.schedule.ScheduleListerFarmedLister.listing.Goals as goal
+
+pub with_total-requires : goal.with_total-requires
+with_total-requires c = rw c.requires.many c.requires.few
 
 pub returns-clause-made : goal.returns-clause-made
 returns-clause-made c = c.with_total.ensures
@@ -10,5 +14,5 @@ returns-clause-made c = c.with_total.ensures
 pub returns-clause-right : goal.returns-clause-right
 returns-clause-right c =
     IfOk-weaker c.with_total.result _ _
-    (λ text is. made_listing (IsScheduleEntry c.args._request.now) (λ e. e.text) (λ e. e.cycles) total_of_all
-    c.args.blocks c.args.entries.items text c.requires.right is) c.with_total.ensures
+    (λ text is. λ own are. made_listing (λ k. IsScheduleEntry c.args._request.now (own_of own k) k) (λ e. e.text) (λ e. e.cycles) total_of_all
+    c.args.blocks c.args.entries.items text are is) c.with_total.ensures

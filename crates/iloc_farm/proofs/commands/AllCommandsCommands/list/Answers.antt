@@ -12,19 +12,19 @@ returns-in-Simulate g c =
 
 pub returns-in-Schedule : goal.returns-in-Schedule
 returns-in-Schedule g c =
-    as_asked task.Schedule _ c.args.request.now _ _ _ c.in-Schedule.is (c.shared.ensures (g.T.Texts.held c.args.texts.now))
+    as_asked task.Schedule _ c.args.request.now _ _ _ c.in-Schedule.is c.shared.ensures
 
 pub returns-in-Counts : goal.returns-in-Counts
 returns-in-Counts g c =
-    as_asked task.Counts _ c.args.request.now _ _ _ c.in-Counts.is (c.shared-in-Counts.ensures (g.T.Texts.held c.args.texts.now))
+    as_asked task.Counts _ c.args.request.now _ _ _ c.in-Counts.is c.shared-in-Counts.ensures
 
 pub returns-in-Compare : goal.returns-in-Compare
 returns-in-Compare g c =
-    as_asked task.Compare _ c.args.request.now _ _ _ c.in-Compare.is (c.shared-in-Compare.ensures (g.T.Texts.held c.args.texts.now))
+    as_asked task.Compare _ c.args.request.now _ _ _ c.in-Compare.is c.shared-in-Compare.ensures
 
 pub returns-in-Optimize : goal.returns-in-Optimize
 returns-in-Optimize g c =
-    as_asked task.Optimize _ c.args.request.now _ _ _ c.in-Optimize.is (c.shared-in-Optimize.ensures (g.T.Texts.held c.args.texts.now))
+    as_asked task.Optimize _ c.args.request.now _ _ _ c.in-Optimize.is c.shared-in-Optimize.ensures
 
 pub returns-in-Graph : goal.returns-in-Graph
 returns-in-Graph g c =

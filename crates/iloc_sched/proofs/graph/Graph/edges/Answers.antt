@@ -6,10 +6,11 @@ use Rattle.iloc_rules.specs.Delays.{IsDelayPair}
 use Rattle.iloc_sched.specs.Graph.GraphOf.{GraphOf}
 use Rattle.iloc_sched.specs.Steps.Graph.{IsGraphOf}
 use Rattle.iloc_sched.specs.Steps.Views.{graph_of, no_edge}
+use Rattle.iloc_sched.proofs.KeptEdges.EdgesInto.{all_edges}
 use Rattle.iloc_sched.proofs.graph.Graph.edges.Goals as goal
 
-pub returns : goal.returns
-returns c =
+pub returns-clause-each : goal.returns-clause-each
+returns-clause-each c =
     let v = c.args.self.now in
     let e = c.self.inside.tables.edges in
     let kept : IsGraphOf v.latencies v.ops (graph_of e) =
@@ -17,3 +18,11 @@ returns c =
     subst (All (λ (edge : Edge). IsDelayPair v.latencies v.ops edge.from edge.to edge.delay)) (sym c.as_slice.ensures)
     (All-from_get_or (λ (edge : Edge). IsDelayPair v.latencies v.ops edge.from edge.to edge.delay) e.edges.items no_edge
     kept.sound)
+
+pub returns-clause-all : goal.returns-clause-all
+returns-clause-all c =
+    let v = c.args.self.now in
+    let e = c.self.inside.tables.edges in
+    let kept : IsGraphOf v.latencies v.ops (graph_of e) =
+    subst (λ (g : GraphOf). IsGraphOf g.latencies g.ops (graph_of e)) c.self.view_is c.self.invariant.sound.graph in
+    rw c.as_slice.ensures (all_edges v.latencies v.ops e kept)

@@ -1,0 +1,19 @@
+use Rattle.std.proofs.Common.{◌≡◌, refl, sym, subst}
+use Rattle.iloc_driver.specs.Entries.{ListsRead}
+use Rattle.iloc_driver.specs.Priorities.{AreIn}
+use Rattle.iloc_driver.specs.Work.{ListsFarmed}
+use Rattle.iloc_driver.specs.declared.commands.Finding.TheVariants.{Passed}
+use Rattle.iloc_driver.specs.declared.commands.Listed.{Listed}
+use Rattle.iloc_driver.proofs.commands.shared.Goals as goal
+
+pub returns : goal.returns
+returns g c =
+    let request = c.args.request.now in
+    let own = AreIn c.args.request.now.priorities_file (g.T.Texts.held c.args.texts.now) in
+    let old = g.R.Read.remaining c.args.reader.now in
+    let new = g.R.Read.remaining c.listed_by_workers.new.reader in
+    let farmed = c.in_ok-text.ensures.ok in
+    subst (λ (listed : Listed). (ListsRead (g.L.FarmedLister.lists request) own old new listed.text × (listed.finding ≡ Passed))
+    × ListsFarmed (g.L.FarmedLister.answers request) g.L.FarmedLister.cycles_in (g.L.FarmedLister.made_of request)
+    (g.L.FarmedLister.lists request) own request.workers old new listed.text c.in_ok-text.receipt)
+    (sym c.of_file.ensures) ((farmed.read, refl), farmed)

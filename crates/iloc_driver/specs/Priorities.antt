@@ -1,0 +1,97 @@
+-- Priorities of somebody's own: a text with a line for each block, and on it a number for each operation, `nop`s left out.
+use Rattle.std.specs.Prelude.{◌≡◌, ℕ, zero, suc, ◌+◌, ◌-◌, ◌*◌, ◌^◌, nat_lt, ◌||◌, Bool, if◌then◌else◌, List, [], ◌∷◌, length, slice_get, Option, Some, None, IfSome, Result, Ok, Err, ok_or, option_and_then}
+use Rattle.std.specs.Char.{is_ascii_digit}
+use Rattle.std.specs.List.{after_first, before_first}
+use Rattle.std.specs.String.{string_bytes}
+use Rattle.std.specs.declared.alloc.Global.{Global}
+use Rattle.std.specs.declared.string.String.{String}
+use Rattle.iloc_ops.specs.Limits.{MAX_INPUT}
+use Rattle.iloc_ops.specs.declared.file.Block.{Block}
+use Rattle.iloc_text.specs.Grammar.{is_blank}
+use Rattle.iloc_text.specs.Lines.{is_line_end}
+use Rattle.iloc_rules.specs.Renaming.{without_nops}
+use Rattle.iloc_driver.specs.Run.Apart.{Held, Holds}
+use Rattle.iloc_driver.specs.declared.fault.NumbersFault.{NumbersFault}
+use Rattle.iloc_driver.specs.declared.fault.NumbersFault.TheVariants.{TooLong, NoNumber, NotANumber, NoOperation}
+
+-- n, where it is below 2^32
+abbrev pub if_small : ℕ → Option ℕ
+if_small n = if nat_lt n (2 ^ 32) then Some n else None
+
+-- the number that digits write after those of n, up to a blank or the end of the line, if it is so small
+abbrev pub number_after : ℕ → List ℕ → Option ℕ
+number_after n [] = if_small n
+number_after n (c ∷ cs) =
+    if is_blank c then if_small n else (if is_ascii_digit c then number_after (n * 10 + (c - 48)) cs else None)
+
+-- the number of operation j of block k, with which the rest of a line begins
+abbrev pub number_of : ℕ → ℕ → List ℕ → Result ℕ NumbersFault
+number_of k j [] = Err (NoNumber k j)
+number_of k j (c ∷ cs) = ok_or (number_after 0 (c ∷ cs)) (NotANumber k j)
+
+-- what follows the first blank of a line
+abbrev pub after_word : List ℕ → List ℕ
+after_word [] = []
+after_word (c ∷ cs) = if is_blank c then cs else after_word cs
+
+-- a text from the first byte on that isn't such a one
+abbrev pub without : (ℕ → Bool) → List ℕ → List ℕ
+without p [] = []
+without p (c ∷ cs) = if p c then without p cs else c ∷ cs
+
+-- nothing is left, where block k has no operation j
+abbrev pub none_of : {X : Type 0} → ℕ → ℕ → List ℕ → Result (List X) NumbersFault
+none_of k j [] = Ok []
+none_of k j (c ∷ cs) = Err (NoOperation k j)
+
+-- what was read first, and the others; or the first fault
+abbrev pub first_and : {X : Type 0} → Result X NumbersFault → Result (List X) NumbersFault → Result (List X) NumbersFault
+first_and (Err fault) others = Err fault
+first_and (Ok x) (Err fault) = Err fault
+first_and (Ok x) (Ok xs) = Ok (x ∷ xs)
+
+-- the numbers of block k in the rest of its line: of n operations, the first of which is operation j
+abbrev pub numbers_from : ℕ → ℕ → ℕ → List ℕ → Result (List ℕ) NumbersFault
+numbers_from k j zero line = none_of k j (without is_blank line)
+numbers_from k j (suc n) line =
+    first_and (number_of k j (without is_blank line)) (numbers_from k (j + 1) n (after_word (without is_blank line)))
+
+abbrev pub is_space : ℕ → Bool
+is_space c = is_blank c || is_line_end c
+
+-- the numbers of these blocks in the rest of the text, the first of which is block k; a line that is missing is empty
+abbrev pub priorities_from : ℕ → List Block → List ℕ → Result (List (List ℕ)) NumbersFault
+priorities_from k [] text = none_of k 0 (without is_space text)
+priorities_from k (b ∷ blocks) text =
+    first_and (numbers_from k 0 (length (without_nops b.ops)) (before_first is_line_end text))
+    (priorities_from (k + 1) blocks (after_first is_line_end text))
+
+-- the numbers of a file's blocks in the text, or why it has none
+abbrev pub priorities_in : List ℕ → List Block → Result (List (List ℕ)) NumbersFault
+priorities_in text blocks = if nat_lt MAX_INPUT (length text) then Err TooLong else priorities_from 1 blocks text
+
+-- the numbers for each block, if they are somebody's own
+abbrev pub Own : Type 0
+Own = Option (List (List ℕ))
+
+-- those of block k, counted from 1
+abbrev pub own_of : Own → ℕ → Option (List ℕ)
+own_of own k = option_and_then (λ all. slice_get all (k - 1)) own
+
+-- each operation has one
+abbrev pub AreFor : Own → List Block → Type 0
+AreFor own blocks = (i : ℕ) (b : Block) → slice_get blocks i ≡ Some b
+    → IfSome (own_of own (i + 1)) (λ numbers. length numbers ≡ length (without_nops b.ops))
+
+-- a text of which this is known was read, and has these numbers of the blocks
+pub record HasPriorities (known : Option (List ℕ)) (blocks : List Block) (own : Own) : Type 0 where
+  pub text : List ℕ
+  pub held : Holds known text
+  pub numbers : List (List ℕ)
+  pub read : priorities_in text blocks ≡ Ok numbers
+  pub is : own ≡ Some numbers
+
+-- the numbers of the blocks are those in the file that is named, and there are none where no file is
+abbrev pub AreIn : Option (String Global) → Held → List Block → Own → Type 0
+AreIn None held blocks own = own ≡ None
+AreIn (Some name) held blocks own = HasPriorities (held (string_bytes name)) blocks own
