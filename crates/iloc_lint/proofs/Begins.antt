@@ -5,11 +5,10 @@ use Rattle.std.proofs.lemmas.List.{take-append-drop}
 use Rattle.iloc_lint.specs.Row.{IsLeft, IsNext}
 use Rattle.iloc_lint.proofs.PartsAlong.{rest_of}
 
-pub comes_next : (bytes rest : List ℕ) (n : ℕ) → IsLeft bytes rest → 0 < n → 0 < length rest
-    → (at : ℕ) × IsNext (drop at bytes) (take n rest)
-comes_next bytes (x ∷ xs) (suc n) left some more =
-    (left.0, inr (λ none. absurd cc, drop n xs, sym left.1 ∙ ap (λ (ys : List ℕ). x ∷ ys) (sym (take-append-drop n xs))))
-comes_next bytes rest n left some more = absurd (omega arith)
+pub comes_next : (rest : List ℕ) (n : ℕ) → 0 < n → 0 < length rest → IsNext rest (take n rest)
+comes_next (x ∷ xs) (suc n) some more =
+    inr (λ none. absurd cc, drop n xs, ap (λ (ys : List ℕ). x ∷ ys) (sym (take-append-drop n xs)))
+comes_next rest n some more = absurd (omega arith)
 
 -- what is left of all but the first n is left of all
 pub left_after : (bytes rest : List ℕ) (n : ℕ) → IsLeft (take (length bytes - n) (drop n bytes)) rest → IsLeft bytes rest

@@ -9,3 +9,4 @@ pub mod Longest
 pub mod PartsAlong
 pub mod Languages
 pub mod Placed
+pub mod Stopping

@@ -3,3 +3,4 @@ pub mod Alone
 pub mod Counted
 pub mod Longest
 pub mod Noted
+pub mod Stopped

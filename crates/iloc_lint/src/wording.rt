@@ -14,6 +14,13 @@ const FOREIGN: [&[u8]; 31] = [
     b"cbr", b"jump", b"jumpI", b"tbl", b"phi", b"halt", b"cmp_LT", b"cmp_EQ", b"mul", b"mov",
 ];
 
+/// What is wanted where a register may be.
+const REGISTER: &[u8] = b"a register";
+
+/// What is advised where the book has its own register and addresses.
+const BOOK_ADVICE: &[u8] =
+    b": for rarp and @x write r0 or a register, and a number, as in examples/book.iloc";
+
 /// What is said of a number that is too large.
 pub const ABOVE_LIMIT: &[u8] = b"a number above 2147483647";
 
@@ -112,7 +119,7 @@ fn wanted(opcode: Opcode, place: &Place) -> &'static [u8] {
         (Some(Part::Constant), _) | (Some(Part::Space), Opcode::LoadI | Opcode::Output) => {
             b"a number"
         }
-        (Some(Part::Register | Part::Space), _) => b"a register",
+        (Some(Part::Register | Part::Space), _) => REGISTER,
     }
 }
 
@@ -152,6 +159,20 @@ fn push_no_opcode(what: &mut Vec<u8>, word: &[u8], after: &[u8]) -> Result<(), N
     Ok(())
 }
 
+/// Says what to write for a name of the book that is found, or for a register with a capital letter where one is wanted.
+fn push_advice(what: &mut Vec<u8>, wanted: &[u8], found: &[u8]) -> Result<(), NoMemory> {
+    match &found[..word_at(found)] {
+        b"rarp" => what.extend_from_slice(BOOK_ADVICE)?,
+        [] if found.starts_with(b"@") => what.extend_from_slice(BOOK_ADVICE)?,
+        [b'R', digits @ ..] if wanted == REGISTER && digits.iter().all(|it| it.is_ascii_digit()) =>
+            {
+                what.extend_from_slice(b": registers begin with a small r")?;
+            }
+        _ => {}
+    }
+    Ok(())
+}
+
 /// What is wrong with a register or a number that starts at a place and doesn't go on at another.
 fn push_broken_off(what: &mut Vec<u8>, line: &[u8], begun: usize, at: usize) -> Result<(), NoMemory>
     requires { (begun < at) × (at < length line.now) }
@@ -159,12 +180,15 @@ fn push_broken_off(what: &mut Vec<u8>, line: &[u8], begun: usize, at: usize) -> 
     if line[at].is_ascii_digit() {
         return Ok(what.extend_from_slice(ABOVE_LIMIT)?);
     }
-    what.extend_from_slice(if line[begun] == b'r' {
-        b"expected a register"
+    let wanted = if line[begun] == b'r' {
+        REGISTER
     } else {
-        b"expected a number"
-    })?;
-    push_found(what, line, begun)
+        b"a number"
+    };
+    what.extend_from_slice(b"expected ")?;
+    what.extend_from_slice(wanted)?;
+    push_found(what, line, begun)?;
+    push_advice(what, wanted, &line[begun..])
 }
 
 /// What is wrong after an opcode, whose operands start at this place of the line.
@@ -182,12 +206,14 @@ fn push_operands(
     if at < line.len() && is_word_byte(line[at]) && begun < at {
         return push_broken_off(what, line, begun, at);
     }
+    let wanted = wanted(opcode, &place);
     what.extend_from_slice(b"expected ")?;
-    what.extend_from_slice(wanted(opcode, &place))?;
+    what.extend_from_slice(wanted)?;
     if at > 0 && is_begun(&place, line[at - 1]) {
         return push_found(what, line, at - 1);
     }
-    push_found(what, line, at)
+    push_found(what, line, at)?;
+    push_advice(what, wanted, &line[at..])
 }
 
 /// What is wrong with the encoding of a text, if its first line shows it. UTF-16 without a mark shows by two characters of
