@@ -7,7 +7,6 @@ import time
 from contextlib import contextmanager
 from dataclasses import dataclass
 
-HERE = os.path.dirname(os.path.abspath(__file__))
 PR_SET_CHILD_SUBREAPER = 36
 TURNS = 100
 COUNTER = ["valgrind", "--tool=cachegrind", "--cache-sim=yes", "--branch-sim=yes"]
@@ -93,11 +92,3 @@ def counted(words, given, output):
         sys.exit(f"{sys.argv[0]}: {words[0]} isn't counted: {said[-200:].decode()}")
     of = dict(zip(lines[b"events"].decode().split(), map(int, lines[b"summary"].split())))
     return Counts(of["Ir"], of["Dr"] + of["Dw"], of["Bcm"] + of["Bim"])
-
-
-def build_baseline(folder):
-    """Builds the plain Rust program (bench/baseline) and gives its path."""
-    path = os.path.join(folder, "baseline")
-    source = os.path.join(HERE, "baseline", "main.rs")
-    subprocess.run(["rustc", "-O", "--edition", "2021", "-o", path, source], check=True)
-    return path

@@ -167,7 +167,7 @@ class Charts(Place):
         said = self.call("ilocfarm", "check", "--task", "examples/class/tasks/both.iloc", "3", "4", given=rows)[1]
         for given in (rows + said, b"block 1 both\n" + rows + said):
             root = self.picture("charts/timeline", given=given)
-            self.expect("title", root.find(f"{SVG}title").text, "block 1 both: 15 cycles, at least 16, differs")
+            self.expect("title", root.find(f"{SVG}title").text, "block 1 both: 15 cycles, wrong")
             marked = [group.find(f"{SVG}title").text for group in root.iter(f"{SVG}g")
                       if any(it.get("stroke") == WRONG_OUTLINE for it in group)]
             self.expect("wrong", marked, ["add r1, r2 => r3\nunit 0, issued at 6, arrives at 7\n"

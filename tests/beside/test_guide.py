@@ -1,4 +1,4 @@
-"""Cases of docs/GRADING.md and docs/COMPARING.md: their commands print what is shown, and make the pictures that it shows."""
+"""Cases of docs/GRADING.md, docs/STUDENTS.md and docs/COMPARING.md: their commands print what is shown, and make the pictures that it shows."""
 import re
 
 from harness.place import Place, crates_of, shown_on
@@ -21,6 +21,9 @@ class Guide(Place):
 
     def test_comparing(self):
         self.follows(shown_on("docs/COMPARING.md"))
+
+    def test_students(self):
+        self.follows(shown_on("docs/STUDENTS.md"))
 
     def test_book(self):
         """README's picture of the book's example, which takes the book's 13 cycles."""

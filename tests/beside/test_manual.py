@@ -64,6 +64,25 @@ IN_FISH = (
                              "[ours]\n"),
 )
 READS_TERMINAL = "ilocfarm: reading {} from the terminal; Ctrl-D on a line of its own ends them\n"
+ADVISES_LINT = "ilocfarm: ilocfarm lint says what is wrong in it\n"
+ADVISES_WORDS = "ilocfarm: //SIM INPUT: isn't read here; give its words, as in ilocfarm run --at 1024 3 4\n"
+NOT_UNDERSTOOD = "ilocfarm: line 1: not understood\n"
+WITH_WORDS = b"nop\n //\tSIM INPUT: -i 1024 3\noutput 1024\n"
+# Words and input; what is said of them on any standard error, and what on a terminal besides.
+ADVISED = (
+    (["run"], b"nope\n", NOT_UNDERSTOOD, ADVISES_LINT),
+    (["counts"], b"add R1, r2 => r3", NOT_UNDERSTOOD, ADVISES_LINT),
+    (["check"], b"nope\n", NOT_UNDERSTOOD, ""),
+    (["lint"], b"nope\n", "", ""),
+    (["run", "-x"], b"nope\n", None, ""),
+    (["run"], b"nop\n", "", ""),
+    (["run"], WITH_WORDS, "", ADVISES_WORDS),
+    (["simulate"], WITH_WORDS, "", ADVISES_WORDS),
+    (["run", "3"], WITH_WORDS, "", ""),
+    (["counts"], WITH_WORDS, "", ""),
+    (["run"], b"nop //SIM INPUT: -i 1024 3\n//SIM INPUT\n///SIM INPUT: -i 1024 3\n", "", ""),
+    (["run"], b"nope\n//SIM INPUT: -i 1024 3\n", NOT_UNDERSTOOD, ADVISES_LINT + ADVISES_WORDS),
+)
 COMPLETE = ('source made/$0.bash; COMP_WORDS=($0 "$@"); COMP_CWORD=$#; _$0; echo "${COMPREPLY[*]}"')
 
 
@@ -173,6 +192,18 @@ class Manual(Place):
             said = "".join(it for it in done.stderr.decode().splitlines(True) if "reading" in it)
             self.expect(f"{words}: says what it reads", said, READS_TERMINAL.format(told) if told else "")
             self.expect(f"{words}: status", done.returncode, status)
+
+    def test_advises_on_a_terminal(self):
+        """What helps is said below a fault where standard error is a terminal; elsewhere not a byte is."""
+        for words, given, fault, advice in ADVISED:
+            piped = subprocess.run([TESTED.program, *words], input=given, capture_output=True, timeout=SECONDS)
+            said = piped.stderr.decode()
+            self.expect(f"{words} {given}: said elsewhere", said, said if fault is None else fault)
+            with terminal() as (screen, slave):
+                done = subprocess.run([TESTED.program, *words], input=given, stdout=subprocess.PIPE, stderr=slave,
+                                      timeout=SECONDS)
+                self.expect(f"{words} {given}: said on a terminal", screen.lines(), (said + advice).split("\n"))
+            self.expect(f"{words} {given}: ending", (done.returncode, done.stdout), (piped.returncode, piped.stdout))
 
     def test_names_of_files(self):
         """A file's name is answered, before the usage, by how the command is given the file; no advice is refused too."""

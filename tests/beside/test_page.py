@@ -71,7 +71,8 @@ class Page(Place):
                 + self.listings(("trace", *rows), ("check", *rows), given=self.read(f"{CLASS}/submissions/ben/both.rows")))
 
     def block(self, text, *options):
-        return self.listings(("explain", *options), ("graph", *options), ("trace", *options, "3", "4"), given=text)
+        return self.listings(("explain", *options), ("explain", "--cycles", *options), ("graph", *options),
+                             ("trace", *options, "3", "4"), given=text)
 
     def open(self, listing, fragment=""):
         """Makes a page of a listing and opens it; nothing may go wrong there until the end of the case."""
@@ -115,6 +116,8 @@ class Page(Place):
         for where in (".source li", ".timeline g", ".graph g"):
             if self.value(f'!!document.querySelector("{where}")'):
                 self.expect(where, (self.marked(where, "issued"), self.marked(where, "flying")), (issued, flying))
+        if self.value('!!document.querySelector(".ready")'):
+            self.expect("taken", self.marked(".ready [data-first]:not([hidden]) li", "issued"), issued)
 
     def test_each_cycle(self):
         """Of Ben's rows, and of our schedules of a small block and of drawn ones."""
@@ -189,7 +192,7 @@ class Page(Place):
     def test_screen_reader(self):
         self.open(self.ben(), "#1.6")
         met = self.browser.tree()
-        title = "block 1 both: 15 cycles, at least 16, differs"
+        title = "block 1 both: 15 cycles, wrong"
         for it in (("group", "the schedule"), ("heading", title), ("slider", "cycle"), ("button", "one cycle on"),
                    ("image", title), ("image", "dependence graph of block 1")):
             self.expect(it, it in met, True)

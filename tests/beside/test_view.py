@@ -52,9 +52,10 @@ class View(Place):
 
     def test_page(self):
         """Of our schedules and of rows, on the words that the task has a line for, or those that are given."""
-        listing = self.listings(("explain", *LAB), ("graph", *LAB), ("trace", *LAB), path=BOOK)
+        commands = (["explain"], ["explain", "--cycles"], ["graph"], ["trace"])
+        listing = self.listings(*([*command, *LAB] for command in commands), path=BOOK)
         self.draws(["page", *LAB, BOOK], self.filtered("charts/page", given=listing))
-        listing = self.listings(("explain",), ("graph",), ("trace", "--at", "8", "3", "4294967292"), path=DAN)
+        listing = self.listings(*commands[:3], ("trace", "--at", "8", "3", "4294967292"), path=DAN)
         self.draws(["page", DAN, "-i", "8", "3", "-4"], self.filtered("charts/page", given=listing))
         rows = ("--task", TASK, *WORDS)
         listing = self.listings(("graph",), path=TASK) + self.listings(("trace", *rows), ("check", *rows), path=BEN)

@@ -6,9 +6,11 @@ from harness.program import COMMANDS, listed
 from harness.suite import table
 from oracle.drawn import made_block
 from oracle.graph import OPENING, cluster
-from oracle.machine import fault_place, outcome, row_text, signed, words_from
+from oracle.machine import fault_place, row_text, words_from
 from oracle.operations import text_of, words_for
+from oracle.printed import entry, outputs
 from oracle.reader import read
+from oracle.ready import ready_lines
 from oracle.scheduler import ORDERS, Schedule
 from oracle.trace import trace
 
@@ -32,15 +34,15 @@ LEAST = [
 
 
 def listing(command, blocks, latencies, by="chain"):
+    """What the command lists, by an order or by a list of numbers for each block."""
     lines, total = [], 0
     for k, ops in enumerate(blocks, 1):
-        schedule = Schedule(ops, latencies, by)
+        schedule = Schedule(ops, latencies, by if by in ORDERS else by[k - 1])
         head, cycles = f"block {k} B{k}", schedule.cycles()
-        lines += {"explain": lambda: [head, *schedule.lines()], "counts": lambda: [f"{head} cycles {cycles}"],
-                  "schedule": lambda: [head, *map(row_text, schedule.rows), f"cycles {cycles}"],
-                  "graph": lambda: cluster(k, f"B{k}", schedule),
-                  "trace": lambda: [head, *trace(schedule.rows, latencies, words_from(0, WORDS))],
-                  "run": lambda: [head, *outputs(ops)], "simulate": lambda: [head, *outputs(ops)]}[command]()
+        others = {"explain": lambda: [head, *schedule.lines()], "graph": lambda: cluster(k, f"B{k}", schedule),
+                  "cycles": lambda: [head, *ready_lines(schedule), schedule.summary()],
+                  "trace": lambda: [head, *trace(schedule.rows, latencies, words_from(0, WORDS))]}
+        lines += others[command]() if command in others else entry(command, head, ops, lambda: schedule, words_from(0, WORDS))
         total += cycles
     ending = {"run": [], "simulate": [], "trace": [], "graph": ["}"]}.get(command, [f"total {total}"])
     lines[:0] = [OPENING] if command == "graph" else []
@@ -94,17 +96,12 @@ def table_of(head, rows):
     return "\n".join([*lines, ""]).encode()
 
 
-def outputs(ops):
-    end = outcome(words_from(0, WORDS), lambda machine: machine.run(ops))
-    return map(signed, end.outputs) if end else ["fault"]
-
-
 def places(blocks):
     """What `run --where` lists."""
     lines = []
     for k, ops in enumerate(blocks, 1):
         place = fault_place(ops, words_from(0, WORDS))
-        lines += [f"block {k} B{k}", *([place] if place else outputs(ops))]
+        lines += [f"block {k} B{k}", *([place] if place else outputs(ops, words_from(0, WORDS)))]
     return "\n".join(map(str, [*lines, ""])).encode()
 
 
@@ -127,6 +124,8 @@ def made(name, blocks, latencies):
         words = [] if command == "run" else words_for(latencies)
         words += ["--at", "0", *map(str, WORDS)] if command in ("run", "simulate", "trace") else []
         yield listed(f"drawn/{name}/{command}", text_of(blocks), listing(command, blocks, latencies), [command, *words])
+    yield listed(f"drawn/{name}/cycles", text_of(blocks), listing("cycles", blocks, latencies),
+                 ["explain", "--cycles", *words_for(latencies)])
     yield listed(f"drawn/{name}/run_where", text_of(blocks), places(blocks), ["run", "--where", "--at", "0", *map(str, WORDS)])
     yield from by_orders(name, blocks, latencies)
 
@@ -144,6 +143,8 @@ def by_orders(name, blocks, latencies):
     for command in ("schedule", "counts", "explain"):
         yield listed(f"drawn/{name}/{command}_by_{by}", text, listing(command, blocks, latencies, by),
                      [command, "--priority", by, *words])
+    yield listed(f"drawn/{name}/cycles_by_{by}", text, listing("cycles", blocks, latencies, by),
+                 ["explain", "--cycles", "--priority", by, *words])
     for command in ("simulate", "trace"):
         yield listed(f"drawn/{name}/{command}_by_{by}", text, listing(command, blocks, latencies, by),
                      [command, "--priority", by, *words, "--at", "0", *map(str, WORDS)])

@@ -109,8 +109,9 @@ class Engines(Place):
     def test_parallel_pieces(self):
         self.needs("parallel")
         count = self.write_blocks()
-        line = f"seq {count} | parallel PIECE={{}} cluster/job pieces ilocfarm schedule --mult 4"
+        line = f"seq {count} | parallel --bar PIECE={{}} cluster/job pieces ilocfarm schedule --mult 4 2>bar"
         self.expect("parallel", self.shell(line), (0, b""))
+        self.expect("the bar is full", f"100% {count}:0=".encode() in self.read("bar"), True)
         self.expect("joined", self.call("cluster/join", "pieces"), self.one_run("schedule", "--mult", "4"))
 
     def test_parallel_fault(self):

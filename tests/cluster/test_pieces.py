@@ -76,10 +76,11 @@ class Pieces(Place):
             self.fail(f"{cuts} files were cut and {faults} are refused: too few to show anything")
 
     def options_of(self, command):
-        """The words that a command's help lists, each with a value."""
+        """The words that a command's help lists, each with a value; numbers for the operations of one text aren't a piece's."""
         out = self.call("ilocfarm", command, "--help")[1].decode()
         options = re.findall(r"--([\w-]+)(?: <(\w+)>)?  ", out.partition("Options:\n")[2])
-        return [["3", "4"]] * ("[WORD]" in out) + [[f"--{name}"] + [VALUES.get(name, "4")] * bool(value) for name, value in options]
+        return [["3", "4"]] * ("[WORD]" in out) + [
+            [f"--{name}"] + [VALUES.get(name, "4")] * bool(value) for name, value in options if name != "priorities"]
 
     def test_every_command(self):
         """With each option of each command the joined bytes are one run's, or the command is refused by its name."""

@@ -14,7 +14,7 @@ from harness.suite import Case
 TOP = os.path.dirname(os.path.dirname(os.path.dirname(os.path.abspath(__file__))))
 TESTED = SimpleNamespace(program=f"{TOP}/out/ilocfarm", is_short=False)     # as tests/run was asked
 SECONDS = 120
-COMMANDS = ("run", "simulate", "schedule", "counts")     # of the plain Rust program too
+COMMANDS = ("run", "simulate", "schedule", "counts")
 FARMED = ("schedule", "counts", "compare", "optimize")   # whose blocks workers share
 ALONE = ("run", "simulate", "explain", "check", "graph", "trace")
 ALL = (*ALONE, *FARMED)
@@ -53,13 +53,6 @@ def needs_bubblewrap(user=()):
     done = subprocess.run([*user, "bwrap", "--unshare-user", "--ro-bind", "/", "/", "true"], capture_output=True)
     if done.returncode:
         raise unittest.SkipTest(f"bubblewrap is forbidden here: {done.stderr.decode().strip()}")
-
-
-@cache
-def baseline():
-    """The plain Rust program (bench/baseline), which says what is right at the usual latencies."""
-    needs("rustc")
-    return measure.build_baseline(folder())
 
 
 def short(value, most=300):

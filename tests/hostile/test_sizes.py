@@ -1,14 +1,17 @@
-"""Inputs at the limits: that each command gives what the plain Rust program (bench/baseline) gives, and a line with the
-time and the memory of each run. The first is an even input, 16 MiB of mixed blocks of about 100 operations."""
+"""Inputs at the limits: what each command gives, and a line with the time and the memory of each run. Long texts are of one
+part, time after time: their listing has the part's as often, and the part's is right by the oracle or, of the longest blocks,
+by `check`. The first is an even input, 16 MiB of mixed blocks of about 100 operations."""
 import itertools
+import re
 import resource
 
 from bench import inputs, measure
 from bench.measure import contents
-from harness.program import COMMANDS, TESTED, baseline, ending, folder, stored, told
+from harness.program import COMMANDS, TESTED, ending, folder, stored, told
 from harness.suite import Check, table
 from limits import MOST_BLOCKS, MOST_BYTES, MOST_OPERATIONS
 from oracle.judge import NOT_SAME
+from oracle.printed import printed
 from oracle.reader import NO_SUCH_BLOCK
 from refusals.test_program import NO_MEMORY
 
@@ -31,49 +34,56 @@ def filled(part):
     return part * (MOST_BYTES // len(part))
 
 
+def block_of(*lines):
+    """A block of 10,000 of these lines in turn."""
+    return b"A:\n" + b"".join(itertools.islice(itertools.cycle(lines), MOST_OPERATIONS))
+
+
 def blocks_of(*lines):
-    """Blocks of 10,000 of these lines in turn, as many as fit."""
-    turns = itertools.islice(itertools.cycle(lines), MOST_OPERATIONS)
-    return filled(b"A:\n" + b"".join(turns))
+    return filled(block_of(*lines))
 
 
-def even():
+def even(blocks=100):
     draw = inputs.Draw()
-    return filled(b"".join(inputs.block(draw, f"L{k}", 60 + draw.below(81), range(64)) for k in range(1, 501)))
+    return b"".join(inputs.block(draw, f"L{k}", 60 + draw.below(81), range(64)) for k in range(1, blocks + 1))
+
+
+def refused_inputs():
+    """Texts of one thing alone, or one more than is allowed, and what is said of them."""
+    loads, many = b"load r1 => r1\n", f"line {MOST_OPERATIONS + 1}: more than {MOST_OPERATIONS} operations in a block"
+    yield "digits", b"7" * MOST_BYTES, "line 1: not understood"
+    yield "a word", b"A" * MOST_BYTES, "line 1: not understood"
+    yield "labels", filled(b"A:\n"), f"line {MOST_BLOCKS + 1}: more than {MOST_BLOCKS} blocks"
+    yield "65,536 labels", b"A:\n" * (MOST_BLOCKS + 1), f"line {MOST_BLOCKS + 1}: more than {MOST_BLOCKS} blocks"
+    yield "loads", filled(loads), many
+    yield "nops", filled(b"nop\n"), many
+    yield "10,001 operations", loads * (MOST_OPERATIONS + 1), many
 
 
 def plain_inputs():
-    """Texts of one thing alone, and one more than is allowed."""
-    loads = b"load r1 => r1\n"
-    yield "line ends", lambda: b"\n" * MOST_BYTES
-    yield "blanks", lambda: b" \t\r " * (MOST_BYTES // 4)
-    yield "slashes", lambda: b"/" * MOST_BYTES
-    yield "digits", lambda: b"7" * MOST_BYTES
-    yield "a word", lambda: b"A" * MOST_BYTES
-    yield "a name", lambda: b"A" * (MOST_BYTES - 1) + b":"
-    yield "a number", lambda: b"loadI " + b"0" * (MOST_BYTES - 14) + b"8 => r1\n"
-    yield "labels", lambda: filled(b"A:\n")
-    yield "nops", lambda: filled(b"nop\n")
-    yield "loads", lambda: filled(loads)
-    yield "65,535 labels", lambda: b"A:\n" * MOST_BLOCKS
-    yield "65,536 labels", lambda: b"A:\n" * (MOST_BLOCKS + 1)
-    yield "10,000 operations", lambda: loads * MOST_OPERATIONS
-    yield "10,001 operations", lambda: loads * (MOST_OPERATIONS + 1)
+    """A text of one thing alone that is taken, what stands for it in few bytes, and how often that."""
+    yield "line ends", b"\n" * MOST_BYTES, b"", 1
+    yield "blanks", b" \t\r " * (MOST_BYTES // 4), b"", 1
+    yield "slashes", b"/" * MOST_BYTES, b"", 1
+    yield "a name", b"A" * (MOST_BYTES - 1) + b":", b"A" * (MOST_BYTES - 1) + b":", 1
+    yield "a number", b"loadI " + b"0" * (MOST_BYTES - 14) + b"8 => r1\n", b"loadI 8 => r1\n", 1
+    yield "65,535 labels", b"A:\n" * MOST_BLOCKS, b"A:\n", MOST_BLOCKS
+    yield "10,000 operations", b"load r1 => r1\n" * MOST_OPERATIONS, b"load r1 => r1\n" * MOST_OPERATIONS, 1
 
 
 def full_inputs():
-    """Texts that are taken, each meant to make one part of the program work hard."""
-    yield "tiny blocks", lambda: b"A:output 0\n" * MOST_BLOCKS
-    yield "long names", lambda: (b"A" * 254 + b":\n") * MOST_BLOCKS
-    yield "blocks of nops", lambda: (b"A:\n" + b"nop\n" * 63) * MOST_BLOCKS
-    yield "outputs", lambda: blocks_of(b"output 0\n")
-    yield "chained loads", chained_loads
-    yield "chained products", lambda: blocks_of(b"mult r0,r0=>r0\n")
-    yield "constants", lambda: blocks_of(b"loadI 0=>r0\n")
-    yield "stores", lambda: blocks_of(b"store r0=>r0\n")
-    yield "stores and loads", lambda: blocks_of(b"store r1=>r0\n", b"load r0=>r2\n")
-    yield "uses of one load", lambda: filled(b"A:\nload r0=>r1\n" + b"add r1,r1=>r2\n" * (MOST_OPERATIONS - 1))
-    yield "registers anywhere", registers_anywhere
+    """Parts of texts that are taken, each meant to make one part of the program work hard."""
+    yield "tiny blocks", b"A:output 0\n"
+    yield "long names", b"A" * 254 + b":\n"
+    yield "blocks of nops", b"A:\n" + b"nop\n" * 63
+    yield "outputs", block_of(b"output 0\n")
+    yield "chained loads", block_of(b"load r0=>r0\n")
+    yield "chained products", block_of(b"mult r0,r0=>r0\n")
+    yield "constants", block_of(b"loadI 0=>r0\n")
+    yield "stores", block_of(b"store r0=>r0\n")
+    yield "stores and loads", block_of(b"store r1=>r0\n", b"load r0=>r2\n")
+    yield "uses of one load", b"A:\nload r0=>r1\n" + b"add r1,r1=>r2\n" * (MOST_OPERATIONS - 1)
+    yield "registers anywhere", registers_anywhere()
 
 
 def judged_inputs():
@@ -81,14 +91,14 @@ def judged_inputs():
     allowed."""
     def own(blocks):
         path = stored("blocks", blocks)
-        return blocks + contents(measure.run([baseline(), "schedule"], path, f"{folder()}/listing").output)
+        return blocks + contents(measure.run([TESTED.program, "schedule"], path, f"{folder()}/listing").output)
 
     def rows(*parts):
         return b"A:\n" + b"".join(parts)
 
     empty, lawful, load = b"[ nop ; nop ]\n", b"block 1 A lawful ", b"[ load r0 => r1 ; nop ]\n"
     free = b"[ loadI 0 => r1 ; addI r2, 1 => r3 ]\n"
-    yield ("own rows, even", lambda: own(even()[:4_000_000].rsplit(b"L", 1)[0]), b"block 1 L1 lawful ")
+    yield ("own rows, even", lambda: own(filled(even())[:4_000_000].rsplit(b"L", 1)[0]), b"block 1 L1 lawful ")
     yield ("own rows, loads", lambda: own(blocks_of(b"load r0=>r0\n")[:1_100_000].rsplit(b"A", 1)[0]), lawful)
     yield ("own rows, stores and loads", lambda: own(blocks_of(b"store r1=>r0\n", b"load r0=>r0\n")[:1_800_000]
                                                            .rsplit(b"A", 1)[0]), lawful)
@@ -129,20 +139,23 @@ def multiples():
             + b"multI r6, 65536 => r7\nload r7 => r8\noutput 1024\n")
 
 
-def chained_loads():
-    return blocks_of(b"load r0=>r0\n")
-
-
 def registers_anywhere():
     """Each operation defines another register, and the numbers jump."""
     lines = (b"loadI 0=>r%d\n" % (number * 1_103_515_245 % 2**31) for number in range(MOST_OPERATIONS))
-    return filled(b"A:\n" + b"".join(lines))
+    return b"A:\n" + b"".join(lines)
 
 
 def size_checks():
-    for name, make in [("even", even), *plain_inputs(), *([] if TESTED.is_short else full_inputs())]:
-        yield Check(f"sizes/{name}", as_the_plain_program, name, make)
+    part = even()
+    yield Check("sizes/even", listed_so, "even", filled(part), part, MOST_BYTES // len(part))
+    for it in refused_inputs():
+        yield Check(f"sizes/{it[0]}", refused_so, *it)
+    for it in plain_inputs():
+        yield Check(f"sizes/{it[0]}", listed_so, *it)
     if not TESTED.is_short:
+        for name, part in full_inputs():
+            times = min(MOST_BLOCKS, MOST_BYTES // len(part))
+            yield Check(f"sizes/{name}", listed_so, name, part * times, part, times)
         yield Check("sizes/slow loads", slow_loads)
         yield Check("sizes/slow loads in little memory", in_little_memory)
     for name, make, start in judged_inputs():
@@ -162,18 +175,48 @@ def measured(name, words, path):
     return got, [] if is_small else [f"{words}: {got.processor_ms:.0f} ms, {got.mebibytes:.0f} MiB"]
 
 
-def as_the_plain_program(name, make):
-    path = stored("given", make())
-    for command in COMMANDS:
+def refused_so(name, text, line):
+    """Each command says this of the text, and nothing else."""
+    path = stored("given", text)
+    for command in (*COMMANDS, "explain"):
         got, wrong = measured(name, [command], path)
-        if got.shown() != measure.run([baseline(), command], path, f"{folder()}/due").shown():
-            yield f"{command}: status {got.status} or {front(got.output)[:60]!r} is other than the plain program's"
+        if got.shown() != (1, b"", refused_line(line)):
+            yield f"{command}: status {got.status}, {front(got.output + '.err')!r}"
         yield from wrong
-    status, _, err = got.shown()
-    got, wrong = measured(name, ["explain"], path)
-    if got.shown()[::2] != (status, err):
-        yield f"explain: status {got.status} in place of {status}, or another line on standard error"
-    yield from wrong
+
+
+def listed_so(name, text, part, times):
+    """Each command lists of the text what it lists of the part, so many times, and of the part what it must."""
+    path = stored("given", text)
+    yield from wrong_of_part(part)
+    for command in (*COMMANDS, "explain"):
+        got, wrong = measured(name, [command], path)
+        if got.status != 0 or not is_made_of(got.output, repeated(ending([command], part)[1], times)):
+            yield f"{command}: status {got.status}, or another listing: {front(got.output)[:60]!r}"
+        yield from wrong
+
+
+def wrong_of_part(part):
+    """How the listings of a part are wrong: by the oracle, or by `check` of blocks that are too long for it."""
+    longest = max(len(block) for block in re.split(rb"(?m)^\w*:", part))
+    if longest < 10_000 or b"\n" not in part:
+        for command in COMMANDS:
+            if (got := ending([command], part)) != (due := printed(command, part)):
+                yield f"{command} of the part: {told(got)} in place of {told(due)}"
+        return
+    ran, checked = printed("run", part), ending(["check", "--lawful"], part + ending(["schedule"], part)[1])
+    if ending(["run"], part) != ran or ending(["simulate"], part) != ran or checked[0] != 0:
+        yield f"of the part: {told(ran)}, {told(checked)}"
+
+
+def repeated(listing, times):
+    """The listing of a text so often in one, in pieces."""
+    entries, total = re.fullmatch(rb"(.*?)(?:total (\d+)\n)?", listing, re.DOTALL).groups()
+    each = re.split(rb"(?m)^block \d+", entries)[1:]
+    for number in range(times):
+        for place, rest in enumerate(each, 1):
+            yield b"block %d" % (number * len(each) + place) + rest
+    yield b"" if total is None else b"total %d\n" % (times * int(total))
 
 
 def begins_so(name, make, start):
@@ -241,7 +284,7 @@ def judged_in_time(name, block, rows):
 
 def slow_loads():
     """Chained loads that take 16 cycles each: the longest schedules that a text can have."""
-    text = chained_loads()
+    text = blocks_of(b"load r0=>r0\n")
     path = stored("given", text)
     for command in (*COMMANDS[1:], "explain"):
         got, wrong = measured("chained loads", [command, "--load", str(SLOWEST)], path)
@@ -276,7 +319,7 @@ def slow_reason(number):
 def in_little_memory():
     """The longest schedules are refused where they find no room, with nothing written."""
     words = ["schedule", "--workers", "1", "--load", str(SLOWEST)]
-    got = ending(words, chained_loads(),
+    got = ending(words, blocks_of(b"load r0=>r0\n"),
                  preexec_fn=lambda: resource.setrlimit(resource.RLIMIT_AS, (LITTLE, LITTLE)))
     if got != NO_MEMORY:
         yield told(got)

@@ -1,10 +1,10 @@
-"""Texts that are cut at any byte, or have any byte at any place, or are drawn. What is right the plain Rust program says,
-which reads, runs and schedules in its own way (bench/baseline)."""
+"""Texts that are cut at any byte, or have any byte at any place, or are drawn: how each command ends on them, by the oracle."""
 import random
 
-from harness.program import COMMANDS, TESTED, baseline, ending, told
+from harness.program import COMMANDS, TESTED, ending, told
 from harness.suite import Check, table
 from oracle.odd import odd_text
+from oracle.printed import printed
 
 # Each form of a line and of an operation, blanks of each kind and none, leading zeros, the greatest numbers; and a
 # bad line at the end.
@@ -68,11 +68,11 @@ def changed_texts(text, others):
 
 
 def wrong_among(command, texts):
-    """Where the program ends otherwise than the plain one; and where the texts are all of one kind."""
+    """Where the program ends otherwise than it must; and where the texts are all of one kind."""
     statuses = set()
     for text in texts:
         got = ending([command], text)
-        due = ending([command], text, baseline())
+        due = printed(command, text)
         statuses.add(due[0])
         if got != due:
             yield f"{text!r}: {told(got)} in place of {told(due)}"

@@ -3,13 +3,11 @@ from oracle.machine import COMPUTED, MASK, keeps_units
 from oracle.scheduler import befores_of
 
 
-class Given:
-    """A block's renamed operations and our schedule of it, for students to change."""
+class Known:
+    """What is known of the words and addresses of operations whose results have registers of their own."""
 
-    def __init__(self, schedule):
-        self.ops, self.latencies, self.rows = schedule.ops, schedule.latencies, schedule.rows
-        self.pairs, self.priorities = schedule.pairs, schedule.priorities
-        self.values = known_values(self.ops)
+    def __init__(self, ops):
+        self.ops, self.values = ops, known_values(ops)
 
     def address(self, op):
         """Base and offset of the address at which an operation does something; the base of a known one is None."""
@@ -23,6 +21,15 @@ class Given:
     def are_apart(self, one, other):
         places = self.address(one), self.address(other)
         return None not in places and places[0][0] == places[1][0] and places[0][1] != places[1][1]
+
+
+class Given(Known):
+    """A block's renamed operations and our schedule of it, for students to change."""
+
+    def __init__(self, schedule):
+        super().__init__(schedule.ops)
+        self.latencies, self.rows = schedule.latencies, schedule.rows
+        self.pairs, self.priorities = schedule.pairs, schedule.priorities
 
 
 def known_values(ops):

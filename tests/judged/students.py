@@ -110,12 +110,18 @@ def apart_pairs(given):
 
 
 def dead_code_dropped(_, given):
-    """Without operations whose results nobody uses, but for loads that may fault."""
-    ops, left = given.ops, 0
-    while len(ops) != left:
-        left, used = len(ops), {n for op in ops for n in op.used}
-        ops = [op for op in ops if not op.defined or op.defined[0] in used or may_fault(given, op)]
+    ops = needed(given)
     return scheduled(ops, pairs_of(ops, given.latencies), lambda j: j) if len(ops) < len(given.ops) else None
+
+
+def needed(known):
+    """Operations without results that nobody uses, but for loads that may fault."""
+    wanted, kept = set(), []
+    for op in reversed(known.ops):
+        if not op.defined or op.defined[0] in wanted or may_fault(known, op):
+            kept.insert(0, op)
+            wanted.update(op.used)
+    return kept
 
 
 def may_fault(given, op):

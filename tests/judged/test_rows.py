@@ -28,6 +28,30 @@ FAULTS_FIRST = "output 1\noutput 8\n"
 # It faults on every memory.
 BIG_ADDRESS = "loadI 100000 => r0\nloadI 6 => r1\nloadI 7 => r2\nmult r1, r2 => r3\nstore r3 => r0\noutput 100000\n"
 PRODUCT = BIG_ADDRESS.replace("100000", "1024")
+# 4 in r1, and three unknown words in r2, r3 and r4.
+THREE = "loadI 4 => r1\nload r1 => r2\nloadAI r1, 4 => r3\nloadAI r1, 8 => r4\n"
+STORED = "store r5 => r1\n"
+# Of three unknown words two computations in r5 that are the same polynomial.
+POLYNOMIALS = {
+    "sums_in_another_order": ("add r2, r3 => r5\nadd r5, r4 => r5\n", "add r3, r4 => r5\nadd r2, r5 => r5\n"),
+    "sum_and_back": ("add r2, r3 => r5\nsub r5, r3 => r5\n", "addI r2, 0 => r5\n"),
+    "negated_difference": ("sub r2, r3 => r5\n", "sub r3, r2 => r5\nsub r9, r5 => r5\n"),
+    "difference_of_a_difference": ("sub r3, r4 => r5\nsub r2, r5 => r5\n", "add r2, r4 => r5\nsub r5, r3 => r5\n"),
+    "known_factor": ("add r2, r3 => r5\nmultI r5, 3 => r5\n",
+                     "multI r2, 3 => r6\nmultI r3, 3 => r7\nadd r6, r7 => r5\n"),
+    "factor_that_wraps": ("lshiftI r2, 31 => r5\nadd r5, r5 => r5\n", "addI r9, 0 => r5\n"),
+    "products_in_another_order": ("mult r2, r3 => r5\nmult r5, r4 => r5\n", "mult r3, r4 => r5\nmult r2, r5 => r5\n"),
+    "multiplied_out": ("add r3, r4 => r5\nmult r2, r5 => r5\n",
+                       "mult r2, r3 => r6\nmult r2, r4 => r7\nadd r6, r7 => r5\n"),
+    "difference_of_squares": ("add r2, r3 => r6\nsub r2, r3 => r7\nmult r6, r7 => r5\n",
+                              "mult r2, r2 => r6\nmult r3, r3 => r7\nsub r6, r7 => r5\n"),
+    "product_for_an_unknown_shift": ("lshift r2, r3 => r5\n",
+                                     "loadI 1 => r6\nlshift r6, r3 => r6\nmult r2, r6 => r5\n"),
+    "zero_shifted_left": ("lshift r9, r3 => r5\n", "addI r9, 0 => r5\n"),
+    "zero_shifted_right": ("rshift r9, r3 => r5\n", "addI r9, 0 => r5\n"),
+    "shifts_to_the_right": ("rshiftI r2, 1 => r5\nrshiftI r5, 2 => r5\n", "rshiftI r2, 3 => r5\n"),
+    "sign_alone": ("rshiftI r2, 20 => r5\nrshiftI r5, 20 => r5\n", "rshiftI r2, 31 => r5\n"),
+}
 # A block, somebody's operations that do the same, six cycles apart, and the verdict.
 SAME = {
     "itself": (LOADS_AND_STORES, LOADS_AND_STORES, "lawful"),
@@ -46,6 +70,7 @@ SAME = {
     "itself_with_a_fault": (BIG_ADDRESS, BIG_ADDRESS, "lawful"),
     "outputs": (TWO_OUTPUTS, TWO_OUTPUTS, "lawful"),
     "square": (SQUARE, SQUARE, "lawful"),
+    **{name: (THREE + one + STORED, THREE + other + STORED, "same") for name, (one, other) in POLYNOMIALS.items()},
 }
 
 # A block, and somebody's operations that do something else on some memory.
@@ -88,11 +113,14 @@ VERDICTS = {
                        LOADED + "loadI 5 => r3\nstore r1 => r1\nstore r3 => r2\n", "differs",
                        "word 8: 5 for 8 with --at 8 8"),
     "refuted_load": (UNUSED_LOAD, LOADED + "output 8\n", "differs", "no fault with --at 8 1"),
-    # Sums in another order are right, though that isn't seen.
-    "sums_in_another_order": ("loadI 4 => r1\nload r1 => r2\nloadAI r1, 4 => r3\nloadAI r1, 8 => r4\n"
-                              "add r2, r3 => r5\nadd r5, r4 => r6\nstore r6 => r1\n",
-                              "loadI 4 => r1\nload r1 => r2\nloadAI r1, 4 => r3\nloadAI r1, 8 => r4\n"
-                              "add r3, r4 => r5\nadd r2, r5 => r6\nstore r6 => r1\n", "agrees"),
+    # One of two words that follow each other is even, though that isn't seen.
+    "even_product": (LOADED + "addI r2, 1 => r3\nmult r2, r3 => r4\nlshiftI r4, 31 => r5\nstore r5 => r1\n",
+                     LOADED + "store r9 => r1\n", "agrees"),
+    # By 33 bits a word is shifted by 1, and two shifts by 16 aren't one by 32.
+    "shift_by_33": (THREE + "rshiftI r2, 33 => r5\n" + STORED, THREE + "rshiftI r2, 31 => r5\n" + STORED, "differs",
+                    "word 4: 0 for 4"),
+    "two_shifts_by_16": (THREE + "rshiftI r2, 16 => r5\nrshiftI r5, 16 => r5\n" + STORED,
+                         THREE + "rshiftI r2, 32 => r5\n" + STORED, "differs", "word 4: 9 for 0"),
     "register_at_first": ("add r1, r2 => r3\nloadI 4 => r1\nstore r3 => r1\n",
                           "loadI 4 => r1\nadd r1, r2 => r3\nstore r3 => r1\n", "differs", "word 4: 4 for 0"),
     "no_result_yet": ("loadI 4 => r1\nadd r1, r1 => r3\nstore r3 => r1\n",
@@ -119,9 +147,9 @@ SHOWN = {
     "spilled_under_a_pointer": (LOADED + "loadI 5 => r3\nstore r3 => r2\nstore r1 => r1\noutput 8\n",
                                 LOADED + "loadI 5 => r3\nloadI 2000 => r9\nstore r1 => r9\nstore r3 => r2\nload r9 => r4\n"
                                 "store r4 => r1\noutput 8\n", "differs", "output 1: 5 for 8 with --at 8 2000"),
-    # The word that is stored is there already, which isn't seen of the memory at the end.
-    "word_put_back": ("loadI 4 => r1\nload r1 => r2\nstore r2 => r1\noutput 4\n", "output 4\n", "prints"),
-    "sums_in_another_order": tuple(it + "output 4\n" for it in VERDICTS["sums_in_another_order"][:2]) + ("agrees",),
+    # The word that is stored is there already.
+    "word_put_back": ("loadI 4 => r1\nload r1 => r2\nstore r2 => r1\noutput 4\n", "output 4\n", "same"),
+    "even_product": tuple(it + "output 8\n" for it in VERDICTS["even_product"][:2]) + ("agrees",),
     "store_alone": (LOADED + "store r1 => r1\n", "nop\n", "void", "the block shows nothing"),
     "fault_last": ("output 8\noutput 1\n", "output 8\n", "void", "the block faults: output 1"),
 }

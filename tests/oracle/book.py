@@ -174,17 +174,34 @@ class Reasons:
         here, there = ([i for i, it in enumerate(self.ops) if label(it) == label(op)] for op in (one, other))
         return any(i < o if side == "after" else o < i for i in here for o in there)
 
+    def terms(self):
+        return terms(self.ops, self.given), terms([op for _, op in self.issued], self.read)
+
     def stands_for(self, k, number, op):
-        it = self.ops[int(number)]
-        return str(it) == op and label(it) == label(self.issued[k][1])
+        """Whether this operation of the block has its label, but reads something else."""
+        it, (here, there) = self.ops[int(number)], self.terms()
+        return str(it) == op and label(it) == label(self.issued[k][1]) and here[int(number)] != there[k]
 
     def is_like_none(self, k):
         """Whether no operation of the block has its label and reads what it reads, and so on."""
-        here, there = terms(self.ops, self.given), terms([op for _, op in self.issued], self.read)
+        here, there = self.terms()
         return there[k] not in here
 
-    def is_there(self, k):
-        return True
+    def reads_others(self, k):
+        """Whether it doesn't read what its counterpart reads: of a label the first is that of the block's first, and so on."""
+        here, there = numbered(self.ops), numbered([op for _, op in self.issued])
+        wanted = [self.given[i] for i, it in enumerate(here) if it == there[k]]
+        return any(names(here, given) != names(there, self.read[k]) for given in wanted)
+
+
+def numbered(ops):
+    """The label of each operation, and how many of it come before."""
+    labels = [label(op) for op in ops]
+    return [(it, labels[:k].count(it)) for k, it in enumerate(labels)]
+
+
+def names(numbered, sources):
+    return [None if i is None else numbered[i] for i in sources]
 
 
 def terms(ops, sources):
@@ -207,5 +224,5 @@ FACTS = {re.compile(form.replace("ISSUE", r"row (\d+): ([^:]*?)")): holds for fo
     r"ISSUE (before|after|not after) ISSUE": Reasons.aren_t_in_order,
     r"ISSUE for operation (\d+): ([^:]*)": Reasons.stands_for,
     r"ISSUE like none of the block": Reasons.is_like_none,
-    r"see ISSUE": Reasons.is_there,
+    r"see ISSUE": Reasons.reads_others,
 }.items()}

@@ -2,7 +2,7 @@
 from listing import CHAIN, COLOURS
 
 OPENING = """strict digraph blocks {
-    bgcolor="white"; fontname="monospace"; fontcolor="#59636e"; color="#7d8590";
+    bgcolor="transparent"; fontname="monospace"; fontcolor="#59636e"; color="#7d8590";
     node [shape=box, style="filled,rounded", fontname="monospace", fontcolor="#0b0f14", color="transparent"];
     edge [fontname="monospace", fontcolor="#59636e", color="#7d8590"];"""
 MARKED = f' [color="{CHAIN}", penwidth=2];'

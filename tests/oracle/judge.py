@@ -10,11 +10,11 @@ and schedules of the kinds in students.py that are right have to be found so.
 import re
 from functools import cache
 
-from harness.program import told
+from harness.program import ending, told
 from limits import WORDS
 from oracle import book
 from oracle.machine import Fault, Machine, bad_row, bad_row_text, cycles, difference, memories, row_text, words_from
-from oracle.operations import words_for
+from oracle.operations import text_of, words_for
 from oracle.reader import NoBlocks, Refused, read
 from oracle.scheduler import Schedule
 
@@ -37,6 +37,16 @@ def proposed(number, name, rows, claim=None):
     """Rows for a block, as `schedule` lists them."""
     ends = [] if claim is None else [f"cycles {claim}"]
     return "".join(f"{line}\n" for line in [f"block {number} {name}", *map(row_text, rows), *ends]).encode()
+
+
+def verdicts_on(program, cases):
+    """The verdicts on rows, each beside its block, in one run."""
+    text = text_of([ops for ops, _ in cases])
+    text += b"".join(proposed(k, f"B{k}", rows) for k, (_, rows) in enumerate(cases, 1))
+    found = re.findall(rb"^block \d+ \S+ (\w+)", ending(["check"], text, program)[1], re.MULTILINE)
+    if len(found) != len(cases):
+        raise RuntimeError(f"{len(found)} verdicts on {len(cases)} blocks")
+    return [verdict.decode() for verdict in found]
 
 
 @cache

@@ -89,8 +89,10 @@ def plain_line(text):
 
 
 class Reader:
-    def __init__(self):
-        self.blocks, self.head, self.is_behind, self.number = [], 0, False, 0
+    """Reads blocks and, with `has_rows`, schedule lines after them."""
+
+    def __init__(self, has_rows=True):
+        self.blocks, self.head, self.is_behind, self.number, self.has_rows = [], 0, False, 0, has_rows
 
     def read(self, text):
         """The blocks of the text, or Refused."""
@@ -106,7 +108,7 @@ class Reader:
         return self.blocks
 
     def line(self, text):
-        found = schedule_line(text)
+        found = schedule_line(text) if self.has_rows else None
         if found and not self.blocks:
             raise NoBlocks("no blocks")
         self.is_behind = self.is_behind or found is not None

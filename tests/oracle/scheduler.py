@@ -52,7 +52,7 @@ def beside(a, b):
 
 
 class Schedule:
-    """The one greedy schedule of a block by a heuristic, and why it is so."""
+    """The one greedy schedule of a block by a heuristic, or by numbers of somebody's own, and why it is so."""
 
     def __init__(self, ops, latencies, by="chain"):
         self.latencies = latencies
@@ -69,6 +69,8 @@ class Schedule:
             self.issue(len(self.rows))
 
     def ranked(self, by):
+        if isinstance(by, list):
+            return by
         if by == "slack":
             return [start + rest for start, rest in zip(starts_of(self.ops, self.pairs), self.priorities)]
         if by == "descendants":
@@ -154,15 +156,19 @@ class Schedule:
     def least(self):
         return least_of(self.ops, self.pairs, self.latencies)
 
+    def summary(self):
+        cycles, least = self.cycles(), self.least()
+        return f"cycles {cycles} least {least}{' optimal' if cycles == least else ''}"
+
     def lines(self):
-        cycles, least, starts = self.cycles(), self.least(), starts_of(self.ops, self.pairs)
+        cycles, starts = self.cycles(), starts_of(self.ops, self.pairs)
         for j, op in enumerate(self.ops):
             cycle, unit = self.places[j]
             ready = self.ready(j)
             slack = cycles - cycle - self.priorities[j]
             yield (f"{j} cycle {cycle} unit {unit} ready {ready} after {self.after(j, ready)} priority {self.ranks[j]}"
                    f" earliest {starts[j]} slack {slack} held {self.held(j, ready)} {self.originals[j]} ; {op}")
-        yield f"cycles {cycles} least {least}{' optimal' if cycles == least else ''}"
+        yield self.summary()
         yield f"chain {self.chain()}"
         yield f"path {self.path()}"
 

@@ -210,10 +210,10 @@ def section(crate, order):
     for name in [crate.name, *(it for it in reversed(order) if it != crate.name)]:
         modules = sorted(f"`{module}`" for owner, module in found if owner == name)
         if modules:
-            parts.append(("" if name == crate.name else f"of `{name}` on ") + listed(modules))
+            parts.append(("on " if name == crate.name else f"of `{name}` on ") + listed(modules))
     lines = [line_of(row, crate) for row in rows if row.clauses]
     table = ["| Call | Promise | Clauses | Definitions |", "|---|---|---|---|", *lines, ""] if lines else []
-    return "\n".join([f"## {crate.name}", "", crate.title, "", *table, f"They rest on {'; '.join(parts)}.", ""])
+    return "\n".join([f"## {crate.name}", "", crate.title, "", *table, f"They rest {'; '.join(parts)}.", ""])
 
 
 def sections():

@@ -114,9 +114,15 @@ def runs(name, given, rows):
         yield Asked([command, "--task", stored(f"{name}.iloc", given)], f"rows for {name}", rows)
     yield Asked(["counts", "--csv", "--workers", "1"], name, given, 1)
     yield Asked(["compare", "--nodes", "10", "--workers", "1"], name, given, 1)
-    for command in FARMED:
-        for workers in (1, 8):
+    for workers in (1, 8):
+        for command in FARMED:
             yield Asked([command, "--workers", str(workers)], name, given, workers)
+        numbers = stored(f"{name}.priorities", priorities_of(given))
+        yield Asked(["schedule", "--priorities", numbers, "--workers", str(workers)], name, given, workers)
+
+
+def priorities_of(given):
+    return "\n".join("1 " * sum(op.opcode != "nop" for op in block.ops) for block in read(given)).encode()
 
 
 def few_runs():
@@ -130,6 +136,7 @@ def few_runs():
     for form in ([], ["--json"]):
         yield Asked(["check", *form], "an unread row", UNREAD)
     yield Asked(["check", "--task", stored("bad.iloc", BAD)], "a bad task", ROWS)
+    yield Asked(["counts", "--priorities", stored("bad.priorities", b"1 2\n")], "bad priorities", SMALL)
     yield Asked(["run", "--help"], "nothing", b"")
     yield Asked(["run", "--at", "2"], "nothing", b"")
     yield Asked([], "nothing", b"")
