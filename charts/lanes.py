@@ -2,7 +2,7 @@
 from heapq import heappop, heappush
 
 import svg
-from listing import CHAIN, COLOURS, MOST_CYCLES, PATH, WRONG
+from listing import CHAIN, COLOURS, MOST_CYCLES, PASSED, PATH, WRONG
 
 HEIGHT = 18         # of a row
 LANE = 9            # from one bar to the next
@@ -43,10 +43,11 @@ class Chart:
         self.width = max(self.width, self.legend_end() + MARGIN, MARGIN * 2 + svg.width_of(self.title()))
 
     def title(self):
-        least = f", at least {self.block.least}" if self.block.least else ""
-        least += f", {self.block.verdict}" if self.block.verdict else ""
-        name = "" if self.block.name == "-" else f" {self.block.name}"
-        return f"block {self.block.number}{name}: {self.block.cycles} cycles{least}"
+        """The bound says nothing of rows that are wrong."""
+        block, verdict = self.block, "wrong" if self.block.verdict in ("differs", "units") else self.block.verdict
+        least = f", at least {block.least}" if block.least and block.verdict in PASSED else ""
+        name = "" if block.name == "-" else f" {block.name}"
+        return f"block {block.number}{name}: {block.cycles} cycles{least}{verdict and f', {verdict}'}"
 
     def y(self, cycle):
         return TOP + HEIGHT * cycle

@@ -52,6 +52,34 @@ def graph_of(block):
             f'aria-label="the graph">{drawing_of(block)}</div></div>')
 
 
+def candidate_of(operations, text):
+    """An operation that is ready, of these by number, with its priority; `+N` for so many more."""
+    number, _, priority = text.partition(":")
+    if not priority:
+        return f"<li>and {number[1:]} more</li>"
+    found = operations.get(int(number))
+    place = f' data-op="{found.cycle}.{found.unit}"' if found else ""
+    return f'<li{place}>{number} {escape(found.source if found else "")} <b>{priority}</b></li>'
+
+
+def turn_of(operations, turn):
+    """What is ready in a cycle, or in several, of these operations by number, and what comes next."""
+    candidates = [] if turn["ready"] == "-" else turn["ready"].split(",")
+    ready = "".join(candidate_of(operations, candidate) for candidate in candidates)
+    what, how, where = turn["next"].split() if turn["next"] != "-" else ("", "", "")
+    comes = {"held": f"{where} keeps {what} out", "at": f"next {what}, in cycle {where}"}.get(how, "nothing comes later")
+    return (f'<li data-first="{turn["first"]}" data-last="{turn["last"] or turn["first"]}" hidden>'
+            f"<ol>{ready or '<li>nothing</li>'}</ol><p>{comes}</p></li>")
+
+
+def ready_of(block):
+    if not block.turns:
+        return ""
+    operations = {operation.number: operation for operation in block.operations}
+    turns = "".join(turn_of(operations, turn) for turn in block.turns)
+    return f'<div class="panel ready"><h2>Ready, by priority</h2><ul>{turns}</ul></div>'
+
+
 def said_of(block):
     """What `check` says, in which a row leads to its cycle."""
     lines = (re.sub(r"\brow (\d+)", rf'<a href="#{block.number}.\1">\g<0></a>', escape(it)) for it in block.said)
@@ -63,7 +91,7 @@ def section(block):
     return part("section.html").format(
         number=block.number, title=escape(chart.title()), said=said_of(block), judged="wrong" if block.is_wrong() else "",
         last=block.last(), top=TOP, height=HEIGHT, source=source_of(block), timeline=chart.picture(),
-        graph=graph_of(block), trace=escape("\n".join(block.trace)))
+        ready=ready_of(block), graph=graph_of(block), trace=escape("\n".join(block.trace)))
 
 
 def drawn(lines):

@@ -1,4 +1,4 @@
-"""Listings of `trace`, with those of `graph`, `explain` and `check` of the same blocks: what a page shows of each block."""
+"""Listings of `trace`, with those of `graph`, `explain` and `check` of the same blocks: what a page shows of each."""
 import re
 
 import listing
@@ -13,6 +13,8 @@ NODE = re.compile(r'        b(\d+)_(\d+) \[label="\d+: (.+?)\\npriority \d+".*')
 EDGE = re.compile(r'        b(\d+)_(\d+) -> b\1_(\d+) \[label="(\d+)"\];')
 DRAWN = re.compile(r"strict digraph blocks \{|    .*|\}")
 SAID = re.compile(r"  \S.*")
+TURN = re.compile(r"cycle (?P<first>\d+)(?:-(?P<last>\d+))? ready (?P<ready>\S+) takes (?:-|\d+) ; (?:-|\d+) "
+                  r"next (?P<next>-|\d+ (?:held|at) \d+) active (?:-|\S+)")
 RECENT = 64         # operations: more than are issued while a result is under way
 
 
@@ -22,6 +24,7 @@ class Traced(Listed):
     def __init__(self, number):
         super().__init__(number, "-")
         self.trace, self.source, self.edges, self.said, self.shown = [], {}, [], [], dict(USUAL)
+        self.turns = []     # of the ready list, as `explain --cycles` has them
 
     def issue(self, line, kind, cycle, unit, spelling):
         self.operations.append(Operation(spelling, count(cycle), int(unit)))
@@ -101,6 +104,8 @@ def read_traces(lines):
             block.source[count(node[2])] = node[3]
         elif edge and block:
             block.edges.append(tuple(map(count, edge.groups()[1:])))
+        elif block and (turn := TURN.fullmatch(line)):
+            block.turns.append(turn.groupdict())
         elif SAID.fullmatch(line) and block:
             block.said.append(line.strip())
             rest[-1] = line if is_judged else ""

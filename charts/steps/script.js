@@ -150,6 +150,9 @@ class Stepper {
     this.find("input").setAttribute("aria-valuetext", said);
     this.find("output").textContent = said;
     this.band.setAttribute("y", top);
+    for (const it of this.section.querySelectorAll("[data-first]")) {
+      it.hidden = cycle < +it.dataset.first || cycle > +it.dataset.last;
+    }
     const issued = this.find(".source .issued");
     reveal(this.find(".timeline"), top);
     if (issued) reveal(this.find(".block"), issued.offsetTop - this.find(".block").offsetTop);
