@@ -18,10 +18,10 @@ use Rattle.iloc_rules.specs.declared.heuristic.Heuristic.{Heuristic}
 use Rattle.iloc_rules.specs.declared.heuristic.Heuristic.TheVariants.{Chain}
 use Rattle.iloc_bound.proofs.LeastBound.{least_bound}
 use Rattle.iloc_block_commands.specs.Compare.{AreCounts, IsComparedCycles, column, columns, cycles_by, place}
-use Rattle.iloc_driver.specs.Listing.{cycles_of}
-use Rattle.iloc_driver.specs.Limits.{most_cycles}
-use Rattle.iloc_driver.specs.Schedules.{IsCount}
-use Rattle.iloc_driver.proofs.Schedules.{cycles_few_by}
+use Rattle.iloc_listing.specs.Listing.{cycles_of}
+use Rattle.iloc_listing.specs.Limits.{most_cycles}
+use Rattle.iloc_listing.specs.Schedules.{IsCount}
+use Rattle.iloc_listing.proofs.Schedules.{cycles_few_by}
 use Rattle.iloc_block_commands.specs.declared.compare.ComparedCycles.{ComparedCycles}
 
 -- the bound is small, since some schedule takes as many cycles

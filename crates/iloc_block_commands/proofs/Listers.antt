@@ -17,14 +17,14 @@ use Rattle.iloc_rules.proofs.Outcome.LawfulOutcomes.{lawful_same_outcome}
 use Rattle.iloc_args.specs.declared.request.Request.{Request}
 use Rattle.iloc_block_commands.specs.Compare.{IsCompareEntry, IsCompareListing, IsComparedCycles, compare_ending, compare_header, compare_line}
 use Rattle.iloc_block_commands.specs.Counts.{IsCountEntry, IsCountListing, count_ending, count_header}
-use Rattle.iloc_driver.specs.Listing.{count_line, bound_comment, cycles_of, entries, opening_as, outcome_entry, schedule_entry, shown_entry, words_or_fault}
+use Rattle.iloc_listing.specs.Listing.{count_line, bound_comment, cycles_of, entries, opening_as, outcome_entry, schedule_entry, shown_entry, words_or_fault}
 use Rattle.iloc_block_commands.specs.Optimize.{IsOptimizeEntry}
 use Rattle.iloc_block_commands.specs.Run.{IsRunEntry, IsShownOf}
 use Rattle.iloc_driver.specs.Command.{initial_memory}
 use Rattle.iloc_block_commands.specs.Schedule.{IsScheduleEntry}
 use Rattle.iloc_block_commands.specs.Simulate.{IsSimulateEntry}
 use Rattle.iloc_driver.specs.Priorities.{Own, own_of}
-use Rattle.iloc_driver.specs.Schedules.{IsCount, IsCountBy, IsGreedyAs, ranks}
+use Rattle.iloc_listing.specs.Schedules.{IsCount, IsCountBy, IsGreedyAs, ranks}
 use Rattle.iloc_driver.specs.Work.{by_own}
 use Rattle.iloc_rules.specs.Greedy.{IsGreedyBy}
 use Rattle.iloc_rules.specs.Renaming.{numbering, without_nops}
@@ -34,7 +34,7 @@ use Rattle.iloc_rules.specs.Heuristics.{priorities_by}
 use Rattle.iloc_driver.specs.Entries.{AreListed, Adds}
 use Rattle.iloc_block_commands.specs.declared.compare.ComparedCycles.{ComparedCycles}
 use Rattle.iloc_driver.proofs.Entries.{lined_listing}
-use Rattle.iloc_driver.proofs.Schedules.{the_greedy, the_greedy_by}
+use Rattle.iloc_listing.proofs.Schedules.{the_greedy, the_greedy_by}
 
 -- the words, or that there is a fault, are what is shown, unless the place of the fault is asked for
 pub shown_plainly : (asked : Bool) (ops : List Op) (memory : List ℤ) (came : Outcome) (words : Option (List ℤ))

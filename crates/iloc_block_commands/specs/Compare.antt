@@ -15,11 +15,11 @@ use Rattle.iloc_args.specs.Priority.{priority_word}
 use Rattle.iloc_args.specs.declared.request.Request.{Request}
 use Rattle.iloc_block_commands.specs.declared.compare.ComparedCycles.{ComparedCycles}
 use Rattle.iloc_driver.specs.Entries.{IsListingAfter}
-use Rattle.iloc_driver.specs.Listing.{entries, field, head_as, opening_as}
-use Rattle.iloc_driver.specs.Schedules.{IsCount}
+use Rattle.iloc_listing.specs.Listing.{entries, field, head_as, opening_as}
+use Rattle.iloc_listing.specs.Schedules.{IsCount}
 use Rattle.iloc_driver.specs.Command.{Command, shared_by}
 use Rattle.iloc_driver.specs.Priorities.{Own}
-use Rattle.iloc_block_commands.specs.Optimize.{IsSoughtIf}
+use Rattle.iloc_optimum.specs.Optimum.{IsSoughtIf}
 
 -- the place of a heuristic among them, by its word
 abbrev pub place : Heuristic → ℕ

@@ -4,8 +4,8 @@ use Rattle.iloc_ops.specs.declared.file.Block.{Block}
 use Rattle.iloc_timed.specs.Schedule.{Table}
 use Rattle.iloc_args.specs.declared.request.Request.{Request}
 use Rattle.iloc_driver.specs.Entries.{IsListingAfter}
-use Rattle.iloc_driver.specs.Listing.{count_line, cycles_of, entries, opening_as, total_of_all}
-use Rattle.iloc_driver.specs.Schedules.{IsCountBy, IsTheGreedyBy, ranks}
+use Rattle.iloc_listing.specs.Listing.{count_line, cycles_of, entries, opening_as, total_of_all}
+use Rattle.iloc_listing.specs.Schedules.{IsCountBy, IsTheGreedyBy, ranks}
 use Rattle.iloc_driver.specs.Command.{Command, shared_by}
 use Rattle.iloc_driver.specs.Priorities.{Own, own_of}
 

@@ -1,18 +1,16 @@
 -- `optimize` lists for each block the best schedule that is found, and a bound on the cycles of every one.
-use Rattle.std.specs.Prelude.{◌≡◌, ◌++◌, ℕ, List, MatchOption, None, Option, Some}
+use Rattle.std.specs.Prelude.{◌≡◌, ◌++◌, ℕ, List, Some}
 use Rattle.iloc_ops.specs.declared.file.Block.{Block}
-use Rattle.iloc_ops.specs.declared.op.Op.{Op}
 use Rattle.iloc_timed.specs.declared.latencies.Latencies.{Latencies}
 use Rattle.iloc_optimum.specs.declared.optimizer.Optimum.{Optimum}
-use Rattle.iloc_rules.specs.declared.sought.Sought.{Sought}
-use Rattle.iloc_optimum.specs.Optimum.{IsOptimumOf, IsSought}
-use Rattle.iloc_driver.specs.Listing.{bound_comment, cycles_of, schedule_entry, total_of_all}
+use Rattle.iloc_optimum.specs.Optimum.{IsOptimumOf}
+use Rattle.iloc_listing.specs.Listing.{bound_comment, cycles_of, schedule_entry, total_of_all}
 use Rattle.iloc_args.specs.declared.request.Request.{Request}
 use Rattle.iloc_driver.specs.Command.{Command, shared_by}
 use Rattle.iloc_driver.specs.Priorities.{Own}
 use Rattle.iloc_driver.specs.Entries.{IsListingOf}
 use Rattle.iloc_block_commands.specs.Schedule.{listing_of_entries}
-use Rattle.iloc_driver.specs.declared.listing.text.ScheduleEntry.{ScheduleEntry}
+use Rattle.iloc_listing.specs.declared.text.ScheduleEntry.{ScheduleEntry}
 
 -- The entry of block k: some lawful schedule that has the block's outcome on every memory and takes at most as many cycles as
 -- each greedy one, which are found, and a number of cycles that every lawful schedule takes.
@@ -21,11 +19,6 @@ pub record IsOptimizeEntry (lat : Latencies) (k : ℕ) (b : Block) (entry : List
   pub found : IsOptimumOf lat b.ops best
   pub listed : entry ≡ schedule_entry lat k b.name best.schedule ++ bound_comment (Some best.bound) cycles
   pub counted : cycles ≡ cycles_of lat best.schedule
-
--- where a request has nodes, this is found of the cycles that a block takes, and else nothing is
-abbrev pub IsSoughtIf : Option ℕ → Latencies → List Op → Option Sought → Type 0
-IsSoughtIf None lat block sought = sought ≡ None
-IsSoughtIf (Some nodes) lat block sought = MatchOption sought ⊥ (IsSought lat block)
 
 -- the listing of these blocks for the request
 abbrev pub IsOptimizeListing : Request → Own → List Block → List ℕ → Type 0

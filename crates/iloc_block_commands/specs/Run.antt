@@ -11,7 +11,7 @@ use Rattle.iloc_meaning.specs.Trace.{op_at}
 use Rattle.iloc_meaning.specs.declared.outcome.Outcome.{Outcome}
 use Rattle.iloc_meaning.specs.declared.outcome.Outcome.TheVariants.{Finished, Fault}
 use Rattle.iloc_args.specs.declared.request.Request.{Request}
-use Rattle.iloc_driver.specs.Listing.{block_head, words_or_fault}
+use Rattle.iloc_listing.specs.Listing.{block_head, words_or_fault}
 use Rattle.iloc_driver.specs.Command.{Command, initial_memory, of_files}
 use Rattle.iloc_driver.specs.Entries.{IsListingOf, no_ending}
 

@@ -4,12 +4,12 @@ use Rattle.std.specs.List.{flat_map}
 use Rattle.iloc_ops.specs.declared.file.Block.{Block}
 use Rattle.iloc_timed.specs.Schedule.{Table}
 use Rattle.iloc_args.specs.declared.request.Request.{Request}
-use Rattle.iloc_driver.specs.Listing.{cycles_of, schedule_entry, total_of_all}
-use Rattle.iloc_driver.specs.Schedules.{IsTheGreedyBy, ranks}
+use Rattle.iloc_listing.specs.Listing.{cycles_of, schedule_entry, total_of_all}
+use Rattle.iloc_listing.specs.Schedules.{IsTheGreedyBy, ranks}
 use Rattle.iloc_driver.specs.Command.{Command, shared_by}
 use Rattle.iloc_driver.specs.Priorities.{Own, own_of}
 use Rattle.iloc_driver.specs.Entries.{IsListingOf}
-use Rattle.iloc_driver.specs.declared.listing.text.ScheduleEntry.{ScheduleEntry}
+use Rattle.iloc_listing.specs.declared.text.ScheduleEntry.{ScheduleEntry}
 
 -- the entry of block k: its schedule, greedy by its own priorities if it has some or else as the request ranks, a line for each
 -- row, and its cycles, which are found

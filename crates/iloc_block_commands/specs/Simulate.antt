@@ -7,8 +7,8 @@ use Rattle.iloc_timed.specs.Timed.{timed_outcome}
 use Rattle.iloc_args.specs.declared.request.Request.{Request}
 use Rattle.iloc_driver.specs.Command.{initial_memory, Command, of_files}
 use Rattle.iloc_driver.specs.Entries.{no_ending, IsListingOf}
-use Rattle.iloc_driver.specs.Listing.{outcome_entry}
-use Rattle.iloc_driver.specs.Schedules.{IsTheGreedy}
+use Rattle.iloc_listing.specs.Listing.{outcome_entry}
+use Rattle.iloc_listing.specs.Schedules.{IsTheGreedy}
 
 -- The entry of block k: its number and its name, and what its greedy schedule emits on the request's memory, or that it
 -- faults. It is what the block itself emits, or that it faults.

@@ -9,14 +9,14 @@ ghost use Rattle.iloc_rules.specs.Heuristics.Listed.{heuristics};
 ghost use Rattle.iloc_rules.specs.declared.heuristic.Heuristic.{Heuristic as heuristic_value};
 ghost use Rattle.iloc_block_commands.specs.Compare as compare;
 ghost use Rattle.iloc_block_commands.specs.Compare.{AreCounts};
-ghost use Rattle.iloc_driver.specs.Listing.{opening_as};
-ghost use Rattle.iloc_driver.specs.Schedules.{IsCount};
+ghost use Rattle.iloc_listing.specs.Listing.{opening_as};
+ghost use Rattle.iloc_listing.specs.Schedules.{IsCount};
 ghost use Rattle.iloc_block_commands.specs.Steps.Tallies.{counted, limit_of};
 
-use crate::optimize::sought_if;
 use iloc_args::{Request, priority_name};
 use iloc_bound::least_of;
-use iloc_driver::{FarmedLister, Listing, count_of, push_field, push_head, push_numbered};
+use iloc_driver::FarmedLister;
+use iloc_listing::{Listing, count_of, push_field, push_head, push_numbered};
 use iloc_ops::{Block, Blocks, Name, NoMemory};
 use iloc_optimum::Optimizer;
 use iloc_rules::{HEURISTIC_COUNT, HEURISTICS, Heuristic, Sought};
@@ -396,7 +396,7 @@ impl FarmedLister for CompareLister {
     ) -> Result<ComparedCycles, NoMemory> {
         self.graph.refill(block, &request.latencies)?;
         let least = least_of(alloc, &self.graph)?;
-        let sought = sought_if(&mut self.optimizer, block, &self.graph, request.nodes)?;
+        let sought = self.optimizer.seek_if(block, &self.graph, request.nodes)?;
         let cycles = counts(&mut self.scheduler, &self.graph)?;
         Ok(ComparedCycles {
             least: least as u32,

@@ -5,7 +5,8 @@ ghost use Rattle.iloc_block_commands.specs.Counts.{count_ending};
 
 use crate::schedule::lend;
 use iloc_args::Request;
-use iloc_driver::{FarmedLister, Listing, count_of, push_count, push_opening, push_total_of};
+use iloc_driver::FarmedLister;
+use iloc_listing::{Listing, count_of, push_count, push_opening, push_total_of};
 use iloc_ops::{Block, Blocks, NoMemory};
 use iloc_sched::{Graph, Scheduler};
 use std::alloc::Global;
@@ -35,7 +36,7 @@ impl FarmedLister for CountLister {
     ghost use Rattle.iloc_block_commands.specs.Counts.{IsCountListing, listing_of_counts};
     ghost use Rattle.iloc_driver.specs.Entries.{AreListed};
     ghost use Rattle.iloc_driver.specs.Priorities.{Own};
-    ghost use Rattle.iloc_driver.specs.Schedules.{IsCountBy, ranks};
+    ghost use Rattle.iloc_listing.specs.Schedules.{IsCountBy, ranks};
     ghost use Rattle.iloc_driver.specs.Work.{by_own};
 
     type Answer = u32;

@@ -12,7 +12,7 @@ mod simulate;
 pub use compare::CompareLister;
 pub use counts::CountLister;
 pub use lint::linted;
-pub use optimize::{OptimizeLister, sought_if};
+pub use optimize::OptimizeLister;
 pub use run::RunLister;
 pub use schedule::ScheduleLister;
 pub use simulate::SimulateLister;

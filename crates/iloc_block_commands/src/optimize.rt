@@ -1,32 +1,14 @@
 //! `optimize`: the best schedules that are found, with a bound on the cycles of every one.
 ghost use Rattle.std.specs.Prelude.{◌≡◌, ◌≤◌, length, IfOk};
 ghost use Rattle.iloc_ops.specs.Limits.{MAX_BLOCKS};
-ghost use Rattle.iloc_rules.specs.Renaming.{renamed};
-ghost use Rattle.iloc_block_commands.specs.Optimize.{IsSoughtIf};
 
 use iloc_args::Request;
-use iloc_driver::{EntryMaker, FarmedLister, Listing, ScheduleEntry, with_total};
+use iloc_driver::FarmedLister;
+use iloc_listing::{EntryMaker, Listing, ScheduleEntry, with_total};
 use iloc_ops::{Block, Blocks, NoMemory};
 use iloc_optimum::Optimizer;
-use iloc_rules::Sought;
 use iloc_sched::Graph;
 use std::alloc::Global;
-
-/// What a search with so many nodes finds of a block's cycles, if there is to be one.
-pub fn sought_if(
-    optimizer: &mut Optimizer,
-    block: &Block,
-    graph: &Graph,
-    nodes: Option<u32>,
-) -> Result<Option<Sought>, NoMemory>
-    requires { graph.now.ops ≡ renamed block.now.ops }
-    ensures { IfOk result (IsSoughtIf nodes graph.now.latencies block.now.ops) }
-{
-    match nodes {
-        Some(nodes) => Ok(Some(optimizer.seek(block, graph, nodes)?)),
-        None => Ok(None),
-    }
-}
 
 /// Searches for the best schedule of each block, and lists it.
 #[derive(Drop)]

@@ -9,10 +9,11 @@ ghost use Rattle.iloc_ops.specs.Limits.{MAX_OPS};
 ghost use Rattle.iloc_block_commands.specs.Run.{faulting_told, place_line};
 ghost use Rattle.iloc_driver.specs.Command.{initial_memory};
 ghost use Rattle.iloc_meaning.specs.Trace.{op_at};
-ghost use Rattle.iloc_driver.specs.Listing.{block_head};
+ghost use Rattle.iloc_listing.specs.Listing.{block_head};
 
 use iloc_args::Request;
-use iloc_driver::{Lister, initial_memory, push_block_head, push_outcome};
+use iloc_driver::{Lister, initial_memory};
+use iloc_listing::{push_block_head, push_outcome};
 use iloc_fault::{FaultFinder, FaultPlace};
 use iloc_meaning::Interpreter;
 use iloc_ops::{Block, NoMemory, Op, push_number, push_op};

@@ -5,10 +5,11 @@ ghost use Rattle.iloc_ops.specs.declared.op.Op.{Op};
 ghost use Rattle.iloc_timed.specs.declared.latencies.Latencies.{Latencies as latencies_value};
 ghost use Rattle.iloc_sched.specs.Graph.GraphOf.{of_block};
 ghost use Rattle.iloc_sched.specs.Scheduled.{IsTheSchedule};
-ghost use Rattle.iloc_driver.specs.Schedules.{ranks};
+ghost use Rattle.iloc_listing.specs.Schedules.{ranks};
 
 use iloc_args::Request;
-use iloc_driver::{EntryMaker, FarmedLister, Listing, ScheduleEntry, with_total};
+use iloc_driver::FarmedLister;
+use iloc_listing::{EntryMaker, Listing, ScheduleEntry, with_total};
 use iloc_ops::{Block, Blocks, NoMemory};
 use iloc_rules::Heuristic;
 use iloc_sched::{Graph, Scheduler};

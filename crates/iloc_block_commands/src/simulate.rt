@@ -1,6 +1,7 @@
 //! `simulate`: what comes of blocks' schedules on the timed machine.
 use iloc_args::Request;
-use iloc_driver::{Lister, initial_memory, push_outcome};
+use iloc_driver::{Lister, initial_memory};
+use iloc_listing::push_outcome;
 use iloc_ops::{Block, NoMemory};
 use iloc_sched::{Graph, Scheduler};
 use iloc_timed::Simulator;

@@ -5,7 +5,7 @@ use Rattle.std.specs.List.{flat_map}
 use Rattle.std.proofs.lemmas.List.Concat.{flat_map-cons}
 use Rattle.iloc_ops.specs.declared.file.Block.{Block}
 use Rattle.iloc_driver.specs.Entries.{AreEntries, AreListed, IsListingAfter, IsListingOf}
-use Rattle.iloc_driver.specs.Listing.{entries}
+use Rattle.iloc_listing.specs.Listing.{entries}
 use Rattle.iloc_driver.specs.Steps.Listed.{Grows}
 
 pub parts_joined : (text head line entry : List ℕ) → ((text ++ head) ++ line) ++ entry ≡ text ++ ((head ++ line) ++ entry)

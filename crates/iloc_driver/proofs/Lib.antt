@@ -1,15 +1,11 @@
-pub mod Numbers
 pub mod Words
 pub mod AboveZero
-pub mod Written
-pub mod Joining
+pub mod Told
 pub mod Routines
 pub mod RowListing
 pub mod Tasks
 pub mod Gathered
-pub mod Schedules
 pub mod Priorities
 pub mod Entries
 pub mod Receipts
-pub mod Unfolded
 pub mod Streamed

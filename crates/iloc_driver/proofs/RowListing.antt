@@ -6,7 +6,7 @@ use Rattle.std.proofs.lemmas.List.{length-append}
 use Rattle.iloc_ops.specs.declared.file.Block.{Block}
 use Rattle.iloc_rows.specs.declared.proposal.Proposed.{Proposed}
 use Rattle.iloc_driver.specs.Fault.{finding_of}
-use Rattle.iloc_driver.specs.Listing.Rows.{ListsRows}
+use Rattle.iloc_driver.specs.Rows.{ListsRows}
 use Rattle.iloc_driver.specs.Entries.{Adds}
 use Rattle.iloc_driver.specs.Steps.Listed.{AreListedTo}
 use Rattle.iloc_driver.specs.declared.commands.Finding.{Finding}

@@ -2,11 +2,9 @@ pub mod Command
 pub mod Coming
 pub mod Entries
 pub mod Fault
-pub mod Limits
-pub mod Listing
 pub mod Priorities
 pub mod Program
-pub mod Schedules
+pub mod Rows
 pub mod Run
 pub mod Steps
 pub mod Work

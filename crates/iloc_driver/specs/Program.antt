@@ -18,10 +18,10 @@ use Rattle.iloc_args.specs.declared.request.Request.{Request}
 use Rattle.iloc_args.specs.declared.request.Task.{Task}
 use Rattle.iloc_driver.specs.Command.{Command}
 use Rattle.iloc_driver.specs.Run.Apart.{Held}
-use Rattle.iloc_driver.specs.Run.Device.{WritesFront}
+use Rattle.iloc_listing.specs.Device.{WritesFront}
 use Rattle.iloc_driver.specs.Fault.{run_status_of, run_text, status_of_finding}
 use Rattle.iloc_driver.specs.Run.{EndsRun, ListsFrom}
-use Rattle.iloc_driver.specs.declared.listing.writing.WriteFailed.{WriteFailed}
+use Rattle.iloc_listing.specs.declared.writing.WriteFailed.{WriteFailed}
 use Rattle.iloc_driver.specs.declared.program.Fault.{Fault}
 use Rattle.iloc_driver.specs.declared.program.Fault.TheVariants.{Line, Run}
 use Rattle.iloc_driver.specs.declared.fault.RunFault.{RunFault}

@@ -18,11 +18,10 @@ use Rattle.iloc_driver.specs.Run.Apart.{Held, ReadsApart}
 use Rattle.iloc_driver.specs.Run.Causes.{IsCaused, causes_of}
 use Rattle.iloc_driver.specs.Command.{Command, Input, OfFile, OfRows, OfText, is_of_rows, priorities_file}
 use Rattle.iloc_driver.specs.Priorities.{AreIn, Own}
-use Rattle.iloc_driver.specs.Run.Device.{WritesFront}
+use Rattle.iloc_listing.specs.Device.{WritesFront}
 use Rattle.iloc_driver.specs.Entries.{ListsRead}
 pub mod Apart
 pub mod Causes
-pub mod Device
 
 -- what a command reads: rows, if a file is named that has their blocks
 abbrev pub input_of : Command → Option (String Global) → Input

@@ -1,5 +1,3 @@
 -- What the code does piece by piece, as steps of proof: no contract of a public function names them.
-pub mod Text
-pub mod Joined
 pub mod Listed
 pub mod Ranked

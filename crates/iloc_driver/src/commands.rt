@@ -6,13 +6,13 @@ ghost use Rattle.iloc_args.specs.declared.request.Task.{Task as task_value};
 ghost use Rattle.iloc_driver.specs.Command.{Command as command_value, of_files, of_files_or_rows, of_rows, shared_by};
 ghost use Rattle.iloc_driver.specs.Entries.{IsListingOf};
 ghost use Rattle.iloc_driver.specs.Fault.{finding_of, finding_of_text, status_of_finding};
-ghost use Rattle.iloc_driver.specs.Listing.Rows.{ListsProposed};
+ghost use Rattle.iloc_driver.specs.Rows.{ListsProposed};
 ghost use Rattle.iloc_driver.specs.Coming.{ComesTo};
 
 use crate::farmed::{FarmedLister, listed_by_workers};
 use crate::fault::RunFault;
 use crate::lister::{Lister, listed_as_read};
-use crate::listing::text::Listing;
+use iloc_listing::Listing;
 use crate::reading::texts::Texts;
 use crate::rows::{RowLister, listed_apart, listed_whole};
 use iloc_args::Request;

@@ -11,7 +11,7 @@ ghost use Rattle.iloc_driver.specs.Priorities.{AreFor, AreIn, Own};
 ghost use Rattle.iloc_rules.specs.Renaming.{without_nops};
 
 use crate::fault::{FarmFault, RunFault};
-use crate::listing::text::Listing;
+use iloc_listing::Listing;
 use crate::reading::priorities::Priorities;
 use crate::reading::read_ranked;
 use crate::reading::texts::Texts;

@@ -2,7 +2,7 @@
 ghost use Rattle.std.specs.Prelude.{◌≡◌};
 ghost use Rattle.iloc_driver.specs.Fault.{run_status_of};
 
-use crate::listing::writing::WriteFailed;
+use iloc_listing::WriteFailed;
 use iloc_ops::NoMemory;
 use iloc_rows::RowsFault;
 use iloc_text::{InputFault, ReadFault, StreamFault};

@@ -5,7 +5,6 @@ mod commands;
 mod farmed;
 mod fault;
 mod lister;
-mod listing;
 mod program;
 mod reading;
 mod rows;
@@ -17,14 +16,6 @@ pub use fault::{
     FarmFault, FileFault, NumbersFault, PrioritiesFault, RunFault, TaskFault, run_status,
 };
 pub use lister::{Lister, initial_memory};
-pub use listing::scheduled::{EntryMaker, with_total};
-pub use listing::table::{push_count, push_field, push_head, push_opening};
-pub use listing::text::{Listing, ScheduleEntry};
-pub use listing::writing::WriteFailed;
-pub use listing::{
-    count_of, counts_text, outcomes_text, push_block_head, push_numbered, push_outcome, push_total,
-    push_total_of, schedules_text,
-};
 pub use program::{Ending, run_program, run_with_receipt};
 pub use reading::texts::Texts;
 pub use rows::RowLister;

@@ -8,7 +8,7 @@ ghost use Rattle.iloc_driver.specs.Entries.{IsListingOf, ListsRead, Adds};
 ghost use Rattle.iloc_driver.specs.Run.Causes.{IsCaused, of_file};
 
 use crate::fault::RunFault;
-use crate::listing::text::Listing;
+use iloc_listing::Listing;
 use iloc_args::Request;
 use iloc_meaning::Memory;
 use iloc_ops::{Block, NoMemory};

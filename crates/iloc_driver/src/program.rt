@@ -9,7 +9,7 @@ ghost use Rattle.iloc_driver.specs.Run.{EndsRun, ListsFrom};
 
 use crate::commands::{Commands, Finding, Listed};
 use crate::fault::{RunFault, run_status};
-use crate::listing::writing::{WriteFailed, write_text};
+use iloc_listing::{WriteFailed, write_text};
 use crate::reading::texts::Texts;
 use arrayvec::ArrayString;
 use iloc_args::{LineFault, Request, line_status, parse_line};

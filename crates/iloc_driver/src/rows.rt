@@ -12,13 +12,13 @@ ghost use Rattle.iloc_args.specs.declared.request.Request.{Request as request_va
 ghost use Rattle.iloc_driver.specs.Run.Causes.{IsCaused, of_rows_apart, of_submission};
 ghost use Rattle.iloc_driver.specs.Command.{initial_memory};
 ghost use Rattle.iloc_driver.specs.Fault.{finding_of};
-ghost use Rattle.iloc_driver.specs.Listing.Rows.{ListsProposed};
+ghost use Rattle.iloc_driver.specs.Rows.{ListsProposed};
 ghost use Rattle.iloc_driver.specs.Run.{Lists, ListsApart, ListsSubmission};
 ghost use Rattle.iloc_driver.specs.Entries.{Adds};
 
 use crate::commands::{Finding, Listed};
 use crate::fault::RunFault;
-use crate::listing::text::Listing;
+use iloc_listing::Listing;
 use crate::reading::task::submission_apart;
 use crate::reading::texts::Texts;
 use iloc_args::Request;

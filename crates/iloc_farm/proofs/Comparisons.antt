@@ -9,10 +9,10 @@ use Rattle.iloc_bound.proofs.LeastBound.{least_bound}
 use Rattle.iloc_rules.specs.declared.sought.Sought.{Sought}
 use Rattle.iloc_optimum.specs.Bound.{IsBound}
 use Rattle.iloc_block_commands.specs.Compare.{IsComparedCycles, bound_of, cycles_by, optimal_by}
-use Rattle.iloc_block_commands.specs.Optimize.{IsSoughtIf}
+use Rattle.iloc_optimum.specs.Optimum.{IsSoughtIf}
 use Rattle.iloc_farm.specs.Laws.{CountedOptimaAreOptimal}
-use Rattle.iloc_driver.specs.Listing.{cycles_of}
-use Rattle.iloc_driver.specs.Schedules.{IsCount}
+use Rattle.iloc_listing.specs.Listing.{cycles_of}
+use Rattle.iloc_listing.specs.Schedules.{IsCount}
 use Rattle.iloc_block_commands.specs.declared.compare.ComparedCycles.{ComparedCycles}
 
 -- the bound that is known holds

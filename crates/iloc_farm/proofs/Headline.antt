@@ -8,8 +8,8 @@ use Rattle.iloc_rules.specs.declared.heuristic.Heuristic.{Heuristic}
 use Rattle.iloc_rules.proofs.Outcome.LawfulOutcomes.{lawful_same_outcome}
 use Rattle.iloc_board.specs.Finished.{IsDoneBy, ReceiptView}
 use Rattle.iloc_farm.specs.Headline.{Headline}
-use Rattle.iloc_driver.specs.Listing.{cycles_of}
-use Rattle.iloc_driver.specs.Schedules.{IsGreedyAs, IsScheduleOf}
+use Rattle.iloc_listing.specs.Listing.{cycles_of}
+use Rattle.iloc_listing.specs.Schedules.{IsGreedyAs, IsScheduleOf}
 
 module _ (heuristic : Heuristic) (lat : Latencies) (blocks : List Block) where
   greedy_of : (i : ℕ) (b : Block) (s : Table) → slice_get blocks i ≡ Some b → IsScheduleOf heuristic lat blocks i s

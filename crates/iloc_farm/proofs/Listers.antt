@@ -27,10 +27,10 @@ use Rattle.iloc_block_commands.specs.Simulate.{IsSimulateEntry}
 use Rattle.iloc_view_commands.specs.Trace.{IsTraceEntry}
 use Rattle.iloc_farm.specs.Commands.{command_of}
 use Rattle.iloc_farm.specs.Laws.{AskAlike, SimulatingListsRuns, searches}
-use Rattle.iloc_driver.specs.Listing.{block_head, cycles_of, opening_as, outcome_entry, total_of_all}
+use Rattle.iloc_listing.specs.Listing.{block_head, cycles_of, opening_as, outcome_entry, total_of_all}
 use Rattle.iloc_driver.specs.Run.{IsListingFor}
 use Rattle.iloc_driver.specs.Priorities.{Own, own_of}
-use Rattle.iloc_driver.specs.Schedules.{IsTheGreedy, IsTheGreedyBy, ranks}
+use Rattle.iloc_listing.specs.Schedules.{IsTheGreedy, IsTheGreedyBy, ranks}
 use Rattle.iloc_rules.specs.Greedy.{IsGreedyBy}
 use Rattle.iloc_block_commands.specs.declared.compare.ComparedCycles.{ComparedCycles}
 use Rattle.iloc_block_commands.proofs.Comparisons.{one_comparison}

@@ -20,7 +20,7 @@ use Rattle.iloc_driver.specs.Run.{IsListingFor, ListsAs, takes_rows}
 use Rattle.iloc_driver.specs.declared.commands.Finding.{Finding}
 use Rattle.iloc_driver.proofs.Entries.{listing_after_also}
 use Rattle.iloc_farm.proofs.Listers.{of_one_task, one_memory}
-use Rattle.iloc_driver.proofs.Schedules.{greedy_long, total_small}
+use Rattle.iloc_listing.proofs.Schedules.{greedy_long, total_small}
 
 pub ignore_workers : ListingsIgnoreWorkers
 ignore_workers r q alike settled input blocks blocks' denotes denotes' own text text' lists lists' =

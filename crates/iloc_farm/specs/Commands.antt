@@ -3,7 +3,7 @@ use Rattle.iloc_args.specs.declared.request.Task.{Task}
 use Rattle.iloc_args.specs.declared.request.Task.TheVariants as task
 use Rattle.iloc_driver.specs.Command.{Command, of_files_or_rows}
 use Rattle.iloc_driver.specs.Entries.{IsListingOf, no_ending}
-use Rattle.iloc_driver.specs.Listing.{total_of_all}
+use Rattle.iloc_listing.specs.Listing.{total_of_all}
 use Rattle.iloc_block_commands.specs.Compare.{compare_command}
 use Rattle.iloc_block_commands.specs.Counts.{counts_command}
 use Rattle.iloc_block_commands.specs.Lint.{lint_command}

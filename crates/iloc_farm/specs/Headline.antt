@@ -8,8 +8,8 @@ use Rattle.iloc_timed.specs.Timed.{timed_outcome}
 use Rattle.iloc_rules.specs.declared.heuristic.Heuristic.{Heuristic}
 use Rattle.iloc_rules.specs.Lawful.{IsLawful}
 use Rattle.iloc_board.specs.Finished.{IsDoneBy, ReceiptView}
-use Rattle.iloc_driver.specs.Listing.{cycles_of}
-use Rattle.iloc_driver.specs.Schedules.{IsScheduleOf}
+use Rattle.iloc_listing.specs.Listing.{cycles_of}
+use Rattle.iloc_listing.specs.Schedules.{IsScheduleOf}
 
 -- The schedule s of the block b obeys units and latencies, and whatever the memory, it emits what its block emits and
 -- leaves the same memory, or faults where its block does.

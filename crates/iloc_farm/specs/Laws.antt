@@ -33,11 +33,11 @@ use Rattle.iloc_row_commands.specs.Check.{ListsChecked, form_as}
 use Rattle.iloc_block_commands.specs.Compare.{IsComparedCycles, optimal_by}
 use Rattle.iloc_block_commands.specs.Optimize.{IsOptimizeEntry}
 use Rattle.iloc_block_commands.specs.declared.compare.ComparedCycles.{ComparedCycles}
-use Rattle.iloc_driver.specs.Listing.{total_cycles}
+use Rattle.iloc_listing.specs.Listing.{total_cycles}
 use Rattle.iloc_driver.specs.Priorities.{Own}
 use Rattle.iloc_driver.specs.Program.{Args, AskFor, Ends}
 use Rattle.iloc_driver.specs.Run.{IsListing, IsListingFor, ListsFrom, takes_rows}
-use Rattle.iloc_driver.specs.Schedules.{AreGreedyAs, IsGreedyAs}
+use Rattle.iloc_listing.specs.Schedules.{AreGreedyAs, IsGreedyAs}
 
 -- the requests ask for the same, but maybe of other workers
 pub record AskAlike (r q : Request) : Type 0 where

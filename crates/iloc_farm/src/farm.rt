@@ -2,7 +2,7 @@
 ghost use Rattle.std.specs.Prelude.{◌≡◌, ◌≤◌, IfOk};
 ghost use Rattle.iloc_text.specs.Files.{AreWithinLimits};
 ghost use Rattle.iloc_farm.specs.Headline.{Headline};
-ghost use Rattle.iloc_driver.specs.Schedules.{AreGreedyAs, AreTheOnlyGreedyAs, KeepOutcomes};
+ghost use Rattle.iloc_listing.specs.Schedules.{AreGreedyAs, AreTheOnlyGreedyAs, KeepOutcomes};
 
 use iloc_board::{Done, Gate, Jobs, NoDesk, NoMemory};
 use iloc_driver::{FarmFault, farm_out};
@@ -28,7 +28,7 @@ impl<'f> Model for BlockJobs<'f> {
     ghost use Rattle.std.specs.Prelude.{◌≤◌, length};
     ghost use Rattle.std.specs.List.{All};
     ghost use Rattle.iloc_ops.specs.Limits.{MAX_BLOCKS, MAX_OPS};
-    ghost use Rattle.iloc_driver.specs.Schedules.{ToSchedule};
+    ghost use Rattle.iloc_listing.specs.Schedules.{ToSchedule};
 
     ghost Value = { ToSchedule };
 
@@ -61,8 +61,8 @@ impl<'f> BlockJobs<'f> {
 
 impl<'f> Jobs for BlockJobs<'f> {
     ghost use Rattle.std.specs.Prelude.{length};
-    ghost use Rattle.iloc_driver.specs.Listing.{cycles_of};
-    ghost use Rattle.iloc_driver.specs.Schedules.{IsScheduleOf};
+    ghost use Rattle.iloc_listing.specs.Listing.{cycles_of};
+    ghost use Rattle.iloc_listing.specs.Schedules.{IsScheduleOf};
 
     type Answer = Schedule;
 

@@ -1,5 +1,5 @@
 -- What is found of a block.
-use Rattle.std.specs.Prelude.{ℕ, ◌≡◌, ◌≤◌, List, ℤ}
+use Rattle.std.specs.Prelude.{ℕ, ◌≡◌, ◌≤◌, List, ℤ, MatchOption, None, Option, Some}
 use Rattle.iloc_ops.specs.declared.op.Op.{Op}
 use Rattle.iloc_meaning.specs.Outcome.{outcome}
 use Rattle.iloc_timed.specs.declared.latencies.Latencies.{Latencies}
@@ -40,3 +40,8 @@ pub record IsSought (lat : Latencies) (block : List Op) (s : Sought) : Type 0 wh
   pub found : IsOptimumOf lat block optimum
   pub best : s.best ≡ cycles_of lat optimum.schedule
   pub bound : s.bound ≡ optimum.bound
+
+-- where nodes are given, this is found of the cycles that a block takes, and else nothing is
+abbrev pub IsSoughtIf : Option ℕ → Latencies → List Op → Option Sought → Type 0
+IsSoughtIf None lat block sought = sought ≡ None
+IsSoughtIf (Some nodes) lat block sought = MatchOption sought ⊥ (IsSought lat block)

@@ -2,7 +2,7 @@
 ghost use Rattle.std.specs.Prelude.{◌≡◌, ◌≤◌, ◌<◌, ◌+◌, ◌-◌, ◌^◌, ◌⊎◌, length, map, replicate, IfOk, OnOk};
 ghost use Rattle.iloc_rules.specs.Least.{tails};
 ghost use Rattle.iloc_rules.specs.Renaming.{renamed};
-ghost use Rattle.iloc_optimum.specs.Optimum.{IsOptimumOf, IsSought, cycles_of};
+ghost use Rattle.iloc_optimum.specs.Optimum.{IsOptimumOf, IsSought, IsSoughtIf, cycles_of};
 ghost use Rattle.iloc_optimum.specs.Steps.Improving.{IsShortened};
 
 use crate::search::{Found, search_windows};
@@ -237,6 +237,22 @@ impl Optimizer {
         };
         self.take_back(optimum.schedule);
         Ok(sought)
+    }
+
+    /// What a search with so many nodes finds of a block's cycles, if there is to be one.
+    pub fn seek_if(
+        &mut self,
+        block: &Block,
+        graph: &Graph,
+        nodes: Option<u32>,
+    ) -> Result<Option<Sought>, NoMemory>
+        requires { graph.now.ops ≡ renamed block.now.ops }
+        ensures { IfOk result (IsSoughtIf nodes graph.now.latencies block.now.ops) }
+    {
+        match nodes {
+            Some(nodes) => Ok(Some(self.seek(block, graph, nodes)?)),
+            None => Ok(None),
+        }
     }
 
     /// Takes back the buffers of a schedule, for the next block.

@@ -17,9 +17,9 @@ use Rattle.iloc_bound.proofs.LeastBound.{least_bound}
 use Rattle.iloc_verdict.specs.declared.checked.Checked.{Checked}
 use Rattle.iloc_comparison.specs.declared.task.CheckOptions.{CheckOptions}
 use Rattle.iloc_row_commands.specs.Check.{IsCheckEntry, IsSaid, check_head, IsSmall}
-use Rattle.iloc_block_commands.specs.Optimize.{IsSoughtIf}
+use Rattle.iloc_optimum.specs.Optimum.{IsSoughtIf}
 use Rattle.iloc_driver.specs.Entries.{Adds}
-use Rattle.iloc_driver.proofs.Schedules.{the_greedy, cycles_few, cycles_within}
+use Rattle.iloc_listing.proofs.Schedules.{the_greedy, cycles_few, cycles_within}
 
 -- its numbers are small
 small_found : (lat : Latencies) (block : List Op) (s : Table) (p : Proposed) (c : Checked)

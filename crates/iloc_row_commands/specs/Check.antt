@@ -17,15 +17,15 @@ use Rattle.iloc_judge.specs.Checked.{IsCheck}
 use Rattle.iloc_verdict.specs.Checked.{passes}
 use Rattle.iloc_verdict.specs.Entry.Json.{quoted}
 use Rattle.iloc_verdict.specs.Unread.{IsUnread}
-use Rattle.iloc_driver.specs.Limits.{most_cycles, most_proposed_cycles}
-use Rattle.iloc_driver.specs.Listing.{head_as}
-use Rattle.iloc_driver.specs.Listing.Rows.{ListsRows}
-use Rattle.iloc_driver.specs.Schedules.{IsTheGreedy}
+use Rattle.iloc_listing.specs.Limits.{most_cycles, most_proposed_cycles}
+use Rattle.iloc_listing.specs.Listing.{head_as}
+use Rattle.iloc_driver.specs.Rows.{ListsRows}
+use Rattle.iloc_listing.specs.Schedules.{IsTheGreedy}
 use Rattle.iloc_driver.specs.declared.commands.Finding.{Finding}
 use Rattle.iloc_args.specs.declared.request.Request.{Request}
 use Rattle.iloc_rows.specs.EitherSlot.{placed}
 use Rattle.iloc_driver.specs.Command.{Command, of_rows, initial_memory}
-use Rattle.iloc_block_commands.specs.Optimize.{IsSoughtIf}
+use Rattle.iloc_optimum.specs.Optimum.{IsSoughtIf}
 
 -- the form of a listing for which a table is asked, or JSON
 abbrev pub form_as : (csv json : Bool) → Form

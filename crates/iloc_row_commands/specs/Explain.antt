@@ -7,9 +7,9 @@ use Rattle.iloc_rows.specs.declared.proposal.Proposed.{Proposed}
 use Rattle.iloc_rules.specs.declared.heuristic.Heuristic.{Heuristic}
 use Rattle.iloc_row_commands.specs.declared.explain.explained.ExplainedRows.{ExplainedRows}
 use Rattle.iloc_row_commands.specs.Explain.Explained.{IsRowsExplanation}
-use Rattle.iloc_driver.specs.Listing.{block_head, total_of}
-use Rattle.iloc_driver.specs.Listing.Rows.{ListsRows}
-use Rattle.iloc_driver.specs.Schedules.{IsTheGreedy}
+use Rattle.iloc_listing.specs.Listing.{block_head, total_of}
+use Rattle.iloc_driver.specs.Rows.{ListsRows}
+use Rattle.iloc_listing.specs.Schedules.{IsTheGreedy}
 use Rattle.iloc_driver.specs.declared.commands.Finding.{Finding}
 use Rattle.iloc_args.specs.declared.request.Request.{Request}
 use Rattle.iloc_rows.specs.EitherSlot.{placed}

@@ -15,8 +15,8 @@ use Rattle.iloc_verdict.specs.Unread.{IsUnreadLine}
 use Rattle.iloc_trace.specs.Events.{events}
 use Rattle.iloc_trace.specs.Listing.{trace_lines}
 use Rattle.iloc_driver.specs.Command.{initial_memory}
-use Rattle.iloc_driver.specs.Listing.{block_head}
-use Rattle.iloc_driver.specs.Listing.Rows.{ListsRows}
+use Rattle.iloc_listing.specs.Listing.{block_head}
+use Rattle.iloc_driver.specs.Rows.{ListsRows}
 use Rattle.iloc_driver.specs.declared.commands.Finding.{Finding}
 
 -- the lines are those of what a schedule does on this memory

@@ -9,10 +9,10 @@ ghost use Rattle.iloc_ops.specs.Limits.{MAX_BLOCKS};
 use crate::json::push_json_head;
 use crate::totals::Totals;
 use iloc_args::Request;
-use iloc_block_commands::sought_if;
 use iloc_bound::least_of;
 use iloc_comparison::{CheckOptions, Form, Judging, Task};
-use iloc_driver::{Finding, RowLister, initial_memory, push_head};
+use iloc_driver::{Finding, RowLister, initial_memory};
+use iloc_listing::push_head;
 use iloc_judge::push_check;
 use iloc_meaning::Memory;
 use iloc_ops::{Block, Name, NoMemory};
@@ -187,7 +187,7 @@ impl RowLister for CheckLister {
         prove!(proposal.rows().len() <= MAX_ROWS);
         self.graph.refill(block, latencies)?;
         let least = least_of(alloc, &self.graph)?;
-        let sought = sought_if(&mut self.optimizer, block, &self.graph, request.nodes)?;
+        let sought = self.optimizer.seek_if(block, &self.graph, request.nodes)?;
         let ours = self.scheduler.lend_as(&self.graph, Heuristic::Chain)?;
         push_check_head(text, form_of(request), number, block.name.as_ref())?;
         let judging = Judging {

@@ -3,13 +3,14 @@ ghost use Rattle.std.specs.Prelude.{◌≡◌, ◌≤◌, ◌<◌, ◌^◌, leng
 ghost use Rattle.std.specs.List.{All};
 ghost use Rattle.iloc_ops.specs.Limits.{MAX_BLOCKS};
 ghost use Rattle.iloc_row_commands.specs.declared.explain.explained.ExplainedRows.{ExplainedRows as explained_rows};
-ghost use Rattle.iloc_driver.specs.Limits.{most_proposed_cycles};
+ghost use Rattle.iloc_listing.specs.Limits.{most_proposed_cycles};
 
 mod explained;
 
 use explained::{ExplainedRows, KnownBlock, push_rows_explanation};
 use iloc_args::Request;
-use iloc_driver::{Finding, RowLister, push_block_head, push_total};
+use iloc_driver::{Finding, RowLister};
+use iloc_listing::{push_block_head, push_total};
 use iloc_ops::{Block, NoMemory};
 use iloc_rows::Proposal;
 use iloc_sched::{Graph, Scheduler};
@@ -42,7 +43,7 @@ impl RowLister for RowsExplainer {
     ghost use Rattle.std.specs.Prelude.{◌≤◌, []};
     ghost use Rattle.iloc_row_commands.specs.Explain.{IsRowsEntry, rows_total};
     ghost use Rattle.iloc_driver.specs.Command.{initial_memory};
-    ghost use Rattle.iloc_driver.specs.Limits.{most_proposed_cycles};
+    ghost use Rattle.iloc_listing.specs.Limits.{most_proposed_cycles};
 
     type Found = ExplainedRows;
 

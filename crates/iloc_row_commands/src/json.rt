@@ -3,7 +3,7 @@ ghost use Rattle.std.specs.Prelude.{◌≡◌, ◌<◌, ◌^◌, ◌++◌, OnOk}
 ghost use Rattle.std.specs.Option.{option_copied};
 ghost use Rattle.iloc_row_commands.specs.Check as listed;
 
-use iloc_driver::push_numbered;
+use iloc_listing::push_numbered;
 use iloc_ops::{Name, NoMemory};
 use iloc_verdict::push_quoted;
 

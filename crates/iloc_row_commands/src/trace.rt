@@ -3,7 +3,8 @@ ghost use Rattle.std.specs.Prelude.{ℕ, ◌≡◌, ◌++◌, List, IfOk};
 ghost use Rattle.iloc_row_commands.specs.Trace.{IsTraceOf};
 
 use iloc_args::Request;
-use iloc_driver::{Finding, RowLister, initial_memory, push_block_head};
+use iloc_driver::{Finding, RowLister, initial_memory};
+use iloc_listing::push_block_head;
 use iloc_ops::{Block, NoMemory};
 use iloc_rows::Proposal;
 use iloc_timed::Latencies;

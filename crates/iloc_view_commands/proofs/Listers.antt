@@ -11,10 +11,10 @@ use Rattle.iloc_view_commands.specs.Explain.{IsExplainEntry, IsSaid}
 use Rattle.iloc_view_commands.specs.Graph.{IsGraphEntry, opening_at}
 use Rattle.iloc_driver.specs.Command.{initial_memory}
 use Rattle.iloc_view_commands.specs.Trace.{IsTraceEntry}
-use Rattle.iloc_driver.specs.Listing.{block_head, cycles_of}
-use Rattle.iloc_driver.specs.Schedules.{IsGreedyAs}
+use Rattle.iloc_listing.specs.Listing.{block_head, cycles_of}
+use Rattle.iloc_listing.specs.Schedules.{IsGreedyAs}
 use Rattle.iloc_driver.specs.Entries.{Adds}
-use Rattle.iloc_driver.proofs.Schedules.{the_greedy}
+use Rattle.iloc_listing.proofs.Schedules.{the_greedy}
 use Rattle.iloc_driver.proofs.Entries.{parts_joined}
 
 -- what a call has appended is the entry, by the name and the words or cycles that it was handed

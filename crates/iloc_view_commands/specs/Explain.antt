@@ -8,8 +8,8 @@ use Rattle.iloc_rules.specs.declared.heuristic.Heuristic.{Heuristic}
 use Rattle.iloc_explain.specs.CycleLines.{ready_listing}
 use Rattle.iloc_explain.specs.Listing.{IsExplanation}
 use Rattle.iloc_args.specs.declared.request.Request.{Request}
-use Rattle.iloc_driver.specs.Listing.{block_head, cycles_of}
-use Rattle.iloc_driver.specs.Schedules.{IsTheGreedy}
+use Rattle.iloc_listing.specs.Listing.{block_head, cycles_of}
+use Rattle.iloc_listing.specs.Schedules.{IsTheGreedy}
 
 -- what is said of a schedule of a block: its ready list if it is asked for, else what explains it
 abbrev pub IsSaid : Bool → Heuristic → Latencies → List Op → Table → List ℕ → Type 0

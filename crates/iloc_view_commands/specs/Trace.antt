@@ -6,8 +6,8 @@ use Rattle.iloc_trace.specs.Events.{events}
 use Rattle.iloc_trace.specs.Listing.{trace_lines}
 use Rattle.iloc_args.specs.declared.request.Request.{Request}
 use Rattle.iloc_driver.specs.Command.{initial_memory}
-use Rattle.iloc_driver.specs.Listing.{block_head}
-use Rattle.iloc_driver.specs.Schedules.{IsTheGreedy}
+use Rattle.iloc_listing.specs.Listing.{block_head}
+use Rattle.iloc_listing.specs.Schedules.{IsTheGreedy}
 
 -- the entry of block k: its number and its name, and what its greedy schedule does on the request's memory
 pub record IsTraceEntry (request : Request) (k : ℕ) (b : Block) (entry : List ℕ) (found : Unit {0}) : Type 0 where

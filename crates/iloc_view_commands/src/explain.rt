@@ -7,7 +7,8 @@ ghost use Rattle.iloc_view_commands.specs.Explain.{IsSaid};
 
 use iloc_args::Request;
 use iloc_bound::least_of;
-use iloc_driver::{Lister, count_of, push_block_head, push_total_of};
+use iloc_driver::Lister;
+use iloc_listing::{count_of, push_block_head, push_total_of};
 use iloc_explain::{Measures, push_explanation, push_ready_list};
 use iloc_ops::{Block, NoMemory, Op};
 use iloc_rules::Heuristic;
@@ -94,7 +95,7 @@ pub struct ExplainLister {
 impl Lister for ExplainLister {
     ghost use Rattle.iloc_view_commands.specs.Explain.{IsExplainEntry};
     ghost use Rattle.iloc_driver.specs.Command.{initial_memory};
-    ghost use Rattle.iloc_driver.specs.Listing.{total_of_all};
+    ghost use Rattle.iloc_listing.specs.Listing.{total_of_all};
 
     type Found = u32;
 

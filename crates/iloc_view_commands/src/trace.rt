@@ -1,6 +1,7 @@
 //! `trace`: what blocks' schedules do on the timed machine, cycle by cycle.
 use iloc_args::Request;
-use iloc_driver::{Lister, initial_memory, push_block_head};
+use iloc_driver::{Lister, initial_memory};
+use iloc_listing::push_block_head;
 use iloc_ops::{Block, NoMemory};
 use iloc_sched::{Graph, Scheduler};
 use iloc_trace::Tracer;

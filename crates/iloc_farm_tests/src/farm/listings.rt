@@ -1,7 +1,7 @@
 //! Listings of what is there already: to be run with each growth refused in turn.
 use super::sample::TWO_OUTPUTS;
 use crate::asserted::assert_list;
-use iloc_driver::{counts_text, outcomes_text, schedules_text};
+use iloc_listing::{counts_text, outcomes_text, schedules_text};
 use iloc_meaning::{Memory, run_block};
 use iloc_ops::IlocFile;
 use iloc_text::read_file;

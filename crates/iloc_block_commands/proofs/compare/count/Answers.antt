@@ -1,6 +1,6 @@
 use Rattle.std.proofs.Common.{ap, ◌∙◌}
 use Rattle.iloc_sched.specs.Graph.GraphOf.{GraphOf}
-use Rattle.iloc_driver.specs.Listing.{cycles_of}
+use Rattle.iloc_listing.specs.Listing.{cycles_of}
 use Rattle.iloc_block_commands.proofs.Listers.{is_count}
 use Rattle.iloc_block_commands.proofs.compare.count.Goals as goal
 

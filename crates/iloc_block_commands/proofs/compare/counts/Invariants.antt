@@ -5,7 +5,7 @@ use Rattle.iloc_timed.specs.declared.latencies.Latencies.{Latencies}
 use Rattle.iloc_sched.specs.Graph.GraphOf.{of_block}
 use Rattle.iloc_rules.specs.Heuristics.Listed.{heuristics}
 use Rattle.iloc_rules.specs.declared.heuristic.Heuristic.TheVariants.{Chain}
-use Rattle.iloc_driver.specs.Schedules.{IsCount}
+use Rattle.iloc_listing.specs.Schedules.{IsCount}
 use Rattle.iloc_block_commands.proofs.compare.counts.Given as goal
 
 abbrev pub invariant-loop-place : goal.invariant-loop-place

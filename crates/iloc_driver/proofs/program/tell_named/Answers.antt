@@ -4,10 +4,10 @@ use Rattle.std.specs.Fmt.{WritesText, ◌++?◌}
 use Rattle.std.specs.Io.KnownBytes.{Appends}
 use Rattle.std.specs.Option.{IfSome}
 use Rattle.arrayvec.specs.declared.array_string.ArrayString.{ArrayString}
-use Rattle.iloc_driver.specs.Run.Device.{WritesFront}
+use Rattle.iloc_listing.specs.Device.{WritesFront}
 use Rattle.iloc_driver.specs.Program.{Says, named_line}
-use Rattle.iloc_driver.specs.declared.listing.writing.WriteFailed.{WriteFailed}
-use Rattle.iloc_driver.proofs.Written.{says_text}
+use Rattle.iloc_listing.specs.declared.writing.WriteFailed.{WriteFailed}
+use Rattle.iloc_driver.proofs.Told.{says_text}
 use Rattle.iloc_driver.proofs.program.tell_named.Goals as goal
 
 -- What is said on a line that begins with the program's name.

@@ -2,13 +2,13 @@ use Rattle.std.proofs.Common.{◌≤◌, ap, arith, subst, ◌∙◌}
 use Rattle.iloc_sched.specs.Graph.GraphOf.{GraphOf}
 use Rattle.iloc_rules.specs.Least.{least, least_of}
 use Rattle.iloc_rules.specs.declared.heuristic.Heuristic.TheVariants.{Chain}
-use Rattle.iloc_block_commands.specs.Optimize.{IsSoughtIf}
-use Rattle.iloc_driver.specs.Limits.{most_cycles}
+use Rattle.iloc_optimum.specs.Optimum.{IsSoughtIf}
+use Rattle.iloc_listing.specs.Limits.{most_cycles}
 use Rattle.iloc_block_commands.proofs.Comparisons.{bound_small}
 use Rattle.iloc_block_commands.proofs.compare.CompareListerFarmedLister.answer.Goals as goal
 
-pub sought_if-requires : goal.sought_if-requires
-sought_if-requires c = ap (λ (g : GraphOf). g.ops) c.in_ok-refill.ensures.graph
+pub seek_if-requires : goal.seek_if-requires
+seek_if-requires c = ap (λ (g : GraphOf). g.ops) c.in_ok-refill.ensures.graph
 
 pub overflow_cast-result : goal.overflow_cast-result
 overflow_cast-result c =

@@ -1,6 +1,6 @@
 use Rattle.std.proofs.Common.{◌∙◌, ◌++◌, ap₂, arith}
 use Rattle.iloc_block_commands.specs.Compare.{compare_ending, compare_header, compare_line}
-use Rattle.iloc_driver.specs.Listing.{opening_as}
+use Rattle.iloc_listing.specs.Listing.{opening_as}
 use Rattle.iloc_block_commands.proofs.Listers.{compared_listing, gone_over}
 use Rattle.iloc_block_commands.proofs.compare.CompareListerFarmedLister.listing.Goals as goal
 

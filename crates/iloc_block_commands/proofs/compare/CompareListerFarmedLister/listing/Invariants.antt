@@ -1,6 +1,6 @@
 use Rattle.std.proofs.Common.{◌≡◌, ◌+◌, ◌++◌, drop}
 use Rattle.iloc_block_commands.specs.Compare.{compare_header, compare_line}
-use Rattle.iloc_driver.specs.Listing.{entries, opening_as}
+use Rattle.iloc_listing.specs.Listing.{entries, opening_as}
 use Rattle.iloc_block_commands.proofs.compare.CompareListerFarmedLister.listing.Given as goal
 
 abbrev pub invariant-loop-index : goal.invariant-loop-index

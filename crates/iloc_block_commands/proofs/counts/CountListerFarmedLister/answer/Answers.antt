@@ -1,5 +1,5 @@
 use Rattle.std.specs.Prelude.{option_copied}
-use Rattle.iloc_driver.specs.Schedules.{ranks}
+use Rattle.iloc_listing.specs.Schedules.{ranks}
 use Rattle.iloc_block_commands.proofs.Listers.{each_ranked, is_count_by}
 use Rattle.iloc_block_commands.proofs.counts.CountListerFarmedLister.answer.Goals as goal
 

@@ -2,12 +2,12 @@ use Rattle.std.proofs.Common.{ap, subst, sym, ◌∙◌}
 use Rattle.iloc_rules.specs.Least.{least_of}
 use Rattle.iloc_sched.specs.Graph.GraphOf.{GraphOf}
 use Rattle.iloc_row_commands.specs.Check.{options_of}
-use Rattle.iloc_block_commands.specs.Optimize.{IsSoughtIf}
+use Rattle.iloc_optimum.specs.Optimum.{IsSoughtIf}
 use Rattle.iloc_row_commands.proofs.Checks.{check_listed, small_check}
 use Rattle.iloc_row_commands.proofs.check.CheckListerRowLister.list.Goals as goal
 
-pub sought_if-requires : goal.sought_if-requires
-sought_if-requires c = ap (λ (g : GraphOf). g.ops) c.in_ok-refill.ensures.graph
+pub seek_if-requires : goal.seek_if-requires
+seek_if-requires c = ap (λ (g : GraphOf). g.ops) c.in_ok-refill.ensures.graph
 
 pub invariant_of-task : goal.invariant_of-task
 invariant_of-task c = record {

@@ -11,12 +11,12 @@ use Rattle.iloc_rules.specs.declared.heuristic.Heuristic.{Heuristic}
 use Rattle.iloc_row_commands.specs.declared.explain.explained.ExplainedRows.{ExplainedRows}
 use Rattle.iloc_row_commands.specs.Explain.Explained.{IsRowsExplanation}
 use Rattle.iloc_row_commands.specs.Explain.{IsRowsEntry}
-use Rattle.iloc_driver.specs.Listing.{block_head}
-use Rattle.iloc_driver.specs.Schedules.{IsGreedyAs}
-use Rattle.iloc_driver.specs.Limits.{most_proposed_cycles}
+use Rattle.iloc_listing.specs.Listing.{block_head}
+use Rattle.iloc_listing.specs.Schedules.{IsGreedyAs}
+use Rattle.iloc_listing.specs.Limits.{most_proposed_cycles}
 use Rattle.iloc_driver.specs.Entries.{Adds}
 use Rattle.iloc_driver.proofs.Entries.{parts_joined}
-use Rattle.iloc_driver.proofs.Schedules.{the_greedy, cycles_within}
+use Rattle.iloc_listing.proofs.Schedules.{the_greedy, cycles_within}
 use Rattle.iloc_row_commands.proofs.explain.RowsExplainerRowLister.list.Goals as goal
 
 -- What explains proposals.

@@ -1,8 +1,0 @@
-use Rattle.std.proofs.Common.{◌≡◌, ◌+◌, ◌++◌, drop}
-use Rattle.iloc_driver.specs.Listing.{entries, outcome_entry}
-use Rattle.iloc_driver.proofs.listing.outcomes_text.Given as goal
-
-abbrev pub invariant-loop-index : goal.invariant-loop-index
-invariant-loop-index l =
-    l.text.items ++ entries outcome_entry (l.index + 1) (drop l.index l.file.blocks) (drop l.index l.outcomes)
-    ≡ entries outcome_entry 1 l.file.blocks l.outcomes

@@ -1,7 +1,0 @@
-use Rattle.std.proofs.Common.{◌≡◌, ◌++◌, take}
-use Rattle.std.specs.List.{flat_map}
-use Rattle.iloc_driver.specs.Listing.{word_line}
-use Rattle.iloc_driver.proofs.listing.push_words.Given as goal
-
-abbrev pub invariant-loop-word : goal.invariant-loop-word
-invariant-loop-word l = l.text.items ≡ l.initial.text.items ++ flat_map word_line (take l.word-index l.words)

@@ -1,9 +1,0 @@
-use Rattle.std.proofs.Common.{[], ◌++◌, drop}
-use Rattle.std.specs.List.{flat_map}
-use Rattle.iloc_driver.specs.Steps.Joined.{JoinsTo}
-use Rattle.iloc_driver.proofs.listing.text.Listing.write_to.Given as goal
-
-abbrev pub invariant-loop-entry : goal.invariant-loop-entry
-invariant-loop-entry g l =
-    JoinsTo (g.W.Write.contents l.fn.writer) (g.W.Write.contents l.writer) [] l.buffer.items l.fn.self
-    (flat_map (λ entry. entry.text) (drop l.entry-index l.entry-items) ++ l.ending.items)

@@ -1,0 +1,5 @@
+pub mod Numbers
+pub mod Written
+pub mod Joining
+pub mod Schedules
+pub mod Unfolded

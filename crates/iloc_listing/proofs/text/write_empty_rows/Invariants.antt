@@ -1,0 +1,9 @@
+use Rattle.std.proofs.Common.{◌-◌}
+use Rattle.iloc_listing.specs.Steps.Joined.{JoinsTo}
+use Rattle.iloc_listing.specs.Steps.Text.{empty_rows}
+use Rattle.iloc_listing.proofs.text.write_empty_rows.Given as goal
+
+abbrev pub invariant-loop-row : goal.invariant-loop-row
+invariant-loop-row g l =
+    JoinsTo (g.W.Write.contents l.fn.writer) (g.W.Write.contents l.writer) l.fn.buffer.items l.buffer.items
+    (empty_rows l.rows) (empty_rows (l.rows - l._row))

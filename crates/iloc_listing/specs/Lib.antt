@@ -1,0 +1,5 @@
+pub mod Device
+pub mod Limits
+pub mod Listing
+pub mod Schedules
+pub mod Steps
