@@ -72,7 +72,7 @@ class Table:
         made = [Student(self.rows[number][self.named].strip() or cell, None, cell * bool(self.is_by))
                 for number, cell in self.cells().items() if number not in found]
         silent = [student.name for student in made]
-        for names, what in (silent, "on the roster handed in nothing"), (strange, "handed in and not on the roster"):
+        for names, what in (silent, "on the roster submitted nothing"), (strange, "submitted but not on the roster"):
             if names:
                 some = "; ".join(shown(name, 60) for name in names[:20]) + " .." * (len(names) > 20)
                 say(f"{len(names)} {what}: {some}")

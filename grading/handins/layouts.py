@@ -62,7 +62,7 @@ def of_entries(folder, names, pattern, tasks):
             files[who][name] = group["file"]
             late |= {who} if group.get("late") else set()
         else:
-            say(f"{shown(name)} is left out: it is no {'folder' if pattern is PLAIN else 'hand-in'}")
+            say(f"{shown(name)} is left out: it is no {'folder' if pattern is PLAIN else 'submission'}")
     for who, several in files.items():
         given, attempt, notes = last_attempts(several, tasks)
         yield Student(who[0], folder, who[1], days=int(who in late), attempt=attempt, files=given, notes=notes)

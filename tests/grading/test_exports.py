@@ -31,7 +31,7 @@ class Exports(Graded):
                 status, said, book = self.grade("--roster", "site.csv", "--by", site.by, "--merge", "site.csv", "--column", site.column,
                                                 *words, tasks=BOTH, submissions="export")
                 self.expect(f"status: {said}", status, 0)
-                self.expect("said", f"{SIZE // 4} on the roster handed in nothing:" in said.decode(), True)
+                self.expect("said", f"{SIZE // 4} on the roster submitted nothing:" in said.decode(), True)
                 self.expect("read", f"export is read by --layout {site.__name__.lower()}" in said.decode(), True)
                 self.expect("students", len(book), SIZE)
                 self.compare(site, students, book)
