@@ -160,7 +160,7 @@ fn nodes_arg<'a>(alloc: Global) -> Arg<'a>
     number_arg(
         alloc,
         "nodes",
-        "Nodes of a search for each number of cycles that is tried, 0 to 100000",
+        "Visit at most N nodes for each number of cycles, 0 to 100000",
         nodes_parser(),
         "1000",
     )
@@ -173,7 +173,7 @@ fn search_arg<'a>(alloc: Global) -> Arg<'a>
     option_arg(
         alloc,
         "nodes",
-        "Search for the best schedule too, with N nodes for each number of cycles that is tried, 0 to 100000",
+        "Also search for the best schedule, with at most N nodes for each number of cycles, 0 to 100000",
         nodes_parser(),
     )
 }
@@ -223,19 +223,16 @@ const CSV: Argument = Argument::Flag(
 
 const JSON: Argument = Argument::Flag("json", "Print a line of JSON for each block");
 
-const LAWFUL: Argument = Argument::Flag(
-    "lawful",
-    "Pass nothing but rows that are a schedule by the book",
-);
+const LAWFUL: Argument = Argument::Flag("lawful", "Pass only lawful schedules");
 
 const OPERATIONS: Argument = Argument::Flag(
     "operations",
-    "Pass no rows that leave operations of their block out or add some",
+    "Fail schedules that leave out or add operations",
 );
 
 const OUTPUTS: Argument = Argument::Flag(
     "outputs",
-    "Compare emitted words and faults alone, and not memory",
+    "Compare only emitted words and faults, not memory",
 );
 
 const WHERE: Argument = Argument::Flag(
@@ -404,7 +401,7 @@ const COMMANDS: [Entry; 11] = [
     Entry {
         task: Task::Lint,
         name: "lint",
-        about: "Print every fault of the text, and what is wanted there",
+        about: "Print every fault of the text, and what was expected there",
         usage: "ilocfarm lint < BLOCKS",
         arguments: &[],
     },
