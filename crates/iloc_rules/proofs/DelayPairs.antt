@@ -3,4 +3,5 @@ pub mod DelayBounds
 pub mod WaitedFor
 pub mod RisingDelays
 pub mod PairLists
+pub mod FewerDelays
 pub mod PutDelays

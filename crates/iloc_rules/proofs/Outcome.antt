@@ -3,3 +3,6 @@ pub mod UsedEffects
 pub mod LookUps
 pub mod TimedOutcomes
 pub mod LawfulOutcomes
+pub mod KnownWords
+pub mod ApartAddresses
+pub mod Examples

@@ -3,3 +3,4 @@ pub mod Chains
 pub mod Longest
 pub mod Starts
 pub mod Named
+pub mod LongestWhere

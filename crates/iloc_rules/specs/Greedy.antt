@@ -9,22 +9,27 @@ use Rattle.iloc_timed.specs.declared.latencies.Latencies.{Latencies}
 use Rattle.iloc_timed.specs.declared.row.Row.{Row}
 use Rattle.iloc_timed.specs.Kinds.{kind, is_mult, is_memory, is_output}
 use Rattle.iloc_timed.specs.Rows.{empty_row, row_at, slots, issue_cycle, kind_in, is_some_kind}
-use Rattle.iloc_rules.specs.Delays.{delays}
+use Rattle.iloc_rules.specs.Delays.{Counts, all_count, delays_where}
 use Rattle.iloc_rules.specs.Priority.{priorities}
-use Rattle.iloc_rules.specs.Lawful.{IsLawful}
+use Rattle.iloc_rules.specs.Lawful.{IsLawfulWhere}
 
--- whether each delay from operation h to operation i is over at cycle c
-abbrev pub are_over : Latencies → List Op → List Row → ℕ → ℕ → ℕ → Bool
-are_over lat ops rows c i h =
-    list_all (λ d. nat_le (issue_cycle rows h + d) c) (delays lat (op_at ops h) (op_at ops i))
+-- whether each delay from operation h to operation i is over at cycle c, where these count
+abbrev pub are_over_where : Counts → Latencies → List Op → List Row → ℕ → ℕ → ℕ → Bool
+are_over_where counts lat ops rows c i h =
+    list_all (λ d. nat_le (issue_cycle rows h + d) c) (delays_where (counts h i) lat (op_at ops h) (op_at ops i))
 
 -- whether operation i is ready at cycle c: it is not issued before, and each delay is over
-abbrev pub is_ready : Latencies → List Op → List Row → ℕ → ℕ → Bool
-is_ready lat ops rows c i = nat_le c (issue_cycle rows i) && list_all (are_over lat ops rows c i) (range_with_len 0 i)
+abbrev pub is_ready_where : Counts → Latencies → List Op → List Row → ℕ → ℕ → Bool
+is_ready_where counts lat ops rows c i =
+    nat_le c (issue_cycle rows i) && list_all (are_over_where counts lat ops rows c i) (range_with_len 0 i)
 
 -- the ready operations, by rising number
+abbrev pub ready_where : Counts → Latencies → List Op → List Row → ℕ → List ℕ
+ready_where counts lat ops rows c = filter (is_ready_where counts lat ops rows c) (range_with_len 0 (length ops))
+
+-- the same where all count
 abbrev pub ready : Latencies → List Op → List Row → ℕ → List ℕ
-ready lat ops rows c = filter (is_ready lat ops rows c) (range_with_len 0 (length ops))
+ready = ready_where all_count
 
 -- i, unless j has the higher priority
 abbrev pub better : List ℕ → ℕ → Option ℕ → ℕ
@@ -62,11 +67,17 @@ abbrev pub chosen : List Op → List ℕ → List ℕ → Row
 chosen ops prios candidates = chosen_with ops prios candidates (first_of_all prios candidates)
 
 -- These operations in these rows are the schedule of the block that is greedy by these priorities, one for each
--- renamed operation: they are lawful, the last row is not empty, and each row is the choice from what is ready.
-pub record IsGreedyBy (prios : List ℕ) (lat : Latencies) (block ops : List Op) (rows : List Row) : Type 0 where
-  pub lawful : IsLawful lat block ops rows
+-- renamed operation, where these count: they are lawful, the last row is not empty, and each row is the choice from what
+-- is ready.
+pub record IsGreedyWhere (counts : Counts) (prios : List ℕ) (lat : Latencies) (block ops : List Op) (rows : List Row)
+    : Type 0 where
+  pub lawful : IsLawfulWhere counts lat block ops rows
   pub last : (c : ℕ) → length rows ≡ c + 1 → slots (row_at rows c) ≢ []
-  pub each : (c : ℕ) → c < length rows → row_at rows c ≡ chosen ops prios (ready lat ops rows c)
+  pub each : (c : ℕ) → c < length rows → row_at rows c ≡ chosen ops prios (ready_where counts lat ops rows c)
+
+-- the same where all count
+abbrev pub IsGreedyBy : List ℕ → Latencies → List Op → List Op → List Row → Type 0
+IsGreedyBy = IsGreedyWhere all_count
 
 -- the greedy schedule of the block: by the longest chains of delays
 abbrev pub IsGreedy : Latencies → List Op → List Op → List Row → Type 0

@@ -4,6 +4,8 @@ pub mod Pairs
 pub mod Priority
 pub mod Starts
 pub mod Lawful
+pub mod Sound
+pub mod Apart
 pub mod Greedy
 pub mod Heuristics
 pub mod Least

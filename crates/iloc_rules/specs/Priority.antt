@@ -1,9 +1,9 @@
 -- The priority of an operation: how many cycles are left at least from its issue to the end of the block.
-use Rattle.std.specs.Prelude.{ℕ, ◌+◌, max, List, [], ◌∷◌, ◌++◌, map, fold, slice_index}
+use Rattle.std.specs.Prelude.{ℕ, suc, ◌+◌, max, Bool, List, [], ◌∷◌, ◌++◌, map, fold, slice_index}
 use Rattle.iloc_ops.specs.declared.op.Op.{Op}
 use Rattle.iloc_timed.specs.declared.latencies.Latencies.{Latencies}
 use Rattle.iloc_timed.specs.Latency.{latency}
-use Rattle.iloc_rules.specs.Delays.{delays}
+use Rattle.iloc_rules.specs.Delays.{Counts, delays_where, delays}
 
 -- all delays from an operation to a later one, each with the later one's priority added
 abbrev pub reaches : Latencies → Op → List Op → List ℕ → List ℕ
@@ -23,3 +23,25 @@ priorities lat (op ∷ later) = with_priority lat op later (priorities lat later
 -- the priority of operation i
 abbrev pub priority : Latencies → List Op → ℕ → ℕ
 priority lat ops i = slice_index (priorities lat ops) i
+
+-- the same where these count; `row` says which of the later operations count with this one
+abbrev pub reaches_where : (ℕ → Bool) → Latencies → Op → List Op → List ℕ → List ℕ
+reaches_where row lat op [] prios = []
+reaches_where row lat op (j ∷ later) [] = []
+reaches_where row lat op (j ∷ later) (prio ∷ prios) =
+    map (λ d. d + prio) (delays_where (row 0) lat op j) ++ reaches_where (λ k. row (suc k)) lat op later prios
+
+abbrev pub with_priority_where : (ℕ → Bool) → Latencies → Op → List Op → List ℕ → List ℕ
+with_priority_where row lat op later prios = fold max (latency lat op) (reaches_where row lat op later prios) ∷ prios
+
+-- what counts among the operations after the first
+abbrev pub after_first : Counts → Counts
+after_first counts i j = counts (suc i) (suc j)
+
+abbrev pub priorities_where : Counts → Latencies → List Op → List ℕ
+priorities_where counts lat [] = []
+priorities_where counts lat (op ∷ later) =
+    with_priority_where (λ k. counts 0 (suc k)) lat op later (priorities_where (after_first counts) lat later)
+
+abbrev pub priority_where : Counts → Latencies → List Op → ℕ → ℕ
+priority_where counts lat ops i = slice_index (priorities_where counts lat ops) i

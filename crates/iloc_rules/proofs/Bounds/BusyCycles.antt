@@ -12,17 +12,17 @@ use Rattle.iloc_timed.specs.Latency.{latency}
 use Rattle.iloc_timed.specs.Rows.{row_at, slots, issue_cycle}
 use Rattle.iloc_timed.specs.Cycles.{cycles}
 use Rattle.iloc_meaning.proofs.Cases.{by_bool}
-use Rattle.iloc_rules.specs.Delays.{delays}
+use Rattle.iloc_rules.specs.Delays.{Counts, all_count, delays_where}
 use Rattle.iloc_rules.specs.Priority.{priorities}
-use Rattle.iloc_rules.specs.Greedy.{is_ready, ready, chosen, IsGreedy, IsGreedyBy}
-use Rattle.iloc_rules.specs.Steps.Choosing.{IsChosenSoFar}
+use Rattle.iloc_rules.specs.Greedy.{is_ready_where, ready_where, chosen, IsGreedy, IsGreedyBy, IsGreedyWhere}
+use Rattle.iloc_rules.specs.Steps.Choosing.{IsChosenWhere, IsChosenSoFar}
 use Rattle.iloc_rules.specs.Steps.Members.{In}
 use Rattle.iloc_rules.proofs.Basics.Members.{contains_from, not_all, in_filter, from_map, in_range_from, from_range}
 use Rattle.iloc_rules.proofs.Basics.Maxima.{fold_max_reached}
 use Rattle.iloc_rules.proofs.Basics.Slots.{issued_within}
 use Rattle.iloc_rules.proofs.Basics.IssueCycles.{issued_by}
-use Rattle.iloc_rules.proofs.DelayPairs.DelayBounds.{delay_at_most}
-use Rattle.iloc_rules.proofs.Choice.Ready.{is_over, all_over, IsReady, ready_from, ready_means}
+use Rattle.iloc_rules.proofs.DelayPairs.FewerDelays.{delay_at_most_where}
+use Rattle.iloc_rules.proofs.Choice.Ready.{is_over, all_over_where, IsReadyWhere, ready_from_where, ready_means_where}
 use Rattle.iloc_rules.proofs.Choice.ChosenRows.{chosen_some}
 use Rattle.iloc_rules.proofs.Choice.RowAfterRow.{was_ready}
 use Rattle.iloc_rules.proofs.Bounds.CoveredCycles.{Covered, covered_sum, sum_by_numbers}
@@ -52,46 +52,47 @@ some_member (i ∷ is) some = (i, inl refl)
 le_self : (n : ℕ) → n ≤ n
 le_self n = omega arith
 
-module _ (prios : List ℕ) (lat : Latencies) (ops : List Op) (rows : List Row)
-    (so_far : IsChosenSoFar prios lat ops rows) where
+module _ (counts : Counts) (prios : List ℕ) (lat : Latencies) (ops : List Op) (rows : List Row)
+    (so_far : IsChosenWhere counts prios lat ops rows) where
   size : ℕ → ℕ
   size h = latency lat (op_at ops h)
 
   -- where an operation is ready one is issued
-  covered_by_ready : (c i : ℕ) → c < length rows → IsReady lat ops rows c i
+  covered_by_ready : (c i : ℕ) → c < length rows → IsReadyWhere counts lat ops rows c i
       → Covered (issue_cycle rows) size (length ops) c
   unfolding size
   covered_by_ready c i below is =
-      let row_is : row_at rows c ≡ chosen ops prios (ready lat ops rows c) = so_far c below in
+      let row_is : row_at rows c ≡ chosen ops prios (ready_where counts lat ops rows c) = so_far c below in
       let member = some_member (slots (row_at rows c))
-      (λ empty. chosen_some ops prios (ready lat ops rows c) i (ready_from lat ops rows c i is)
+      (λ empty. chosen_some ops prios (ready_where counts lat ops rows c) i (ready_from_where counts lat ops rows c i is)
       (sym (ap slots row_is) ∙ empty)) in
       let early : issue_cycle rows member.0 ≤ c = issued_by rows c member.0 member.1 in
-      let was = was_ready prios lat ops rows so_far c member.0 member.1 in
+      let was = was_ready counts prios lat ops rows so_far c member.0 member.1 in
       grind (arith, some_latency)
 
   covered_by_delay : (c i : ℕ) → i < length ops → ((h : ℕ) → h < i → issue_cycle rows h < c)
-      → list_all (all_over lat ops rows c i) (range_with_len 0 i) ≡ false
+      → list_all (all_over_where counts lat ops rows c i) (range_with_len 0 i) ≡ false
       → Covered (issue_cycle rows) size (length ops) c
   unfolding size
   covered_by_delay c i within earlier fails =
-      let from = not_all (all_over lat ops rows c i) (range_with_len 0 i) fails in
+      let from = not_all (all_over_where counts lat ops rows c i) (range_with_len 0 i) fails in
       let place : (0 ≤ from.0) × (from.0 < 0 + i) = from_range 0 i from.0 from.1 in
-      let delay = not_all (is_over rows c from.0) (delays lat (op_at ops from.0) (op_at ops i)) from.2 in
+      let delay = not_all (is_over rows c from.0) (delays_where (counts from.0 i) lat (op_at ops from.0) (op_at ops i)) from.2 in
       let late : c < issue_cycle rows from.0 + delay.0 = leb-false (issue_cycle rows from.0 + delay.0) c delay.2 in
       let most : delay.0 ≤ latency lat (op_at ops from.0) =
-      delay_at_most lat (op_at ops from.0) (op_at ops i) delay.0 (contains_from _ delay.0 delay.1) in
+      delay_at_most_where (counts from.0 i) lat (op_at ops from.0) (op_at ops i) delay.0 (contains_from _ delay.0 delay.1) in
       record { by = from.0; within = omega arith; begun = omega arith; goes_on = omega arith }
 
   covered_by_lowest : (c i : ℕ) → c < length rows → i < length ops → c ≤ issue_cycle rows i
       → ((h : ℕ) → h < i → issue_cycle rows h < c) → Covered (issue_cycle rows) size (length ops) c
   covered_by_lowest c i below within waiting earlier =
-      by_bool (list_all (all_over lat ops rows c i) (range_with_len 0 i))
+      by_bool (list_all (all_over_where counts lat ops rows c i) (range_with_len 0 i))
       (λ t. covered_by_ready c i below (all_ready t))
       (λ t. covered_by_delay c i within earlier t)
     where
-      all_ready : list_all (all_over lat ops rows c i) (range_with_len 0 i) ≡ true → IsReady lat ops rows c i
-      all_ready t = ready_means lat ops rows c i (in_filter (is_ready lat ops rows c) (range_with_len 0 (length ops)) i
+      all_ready : list_all (all_over_where counts lat ops rows c i) (range_with_len 0 i) ≡ true
+          → IsReadyWhere counts lat ops rows c i
+      all_ready t = ready_means_where counts lat ops rows c i (in_filter (is_ready_where counts lat ops rows c) (range_with_len 0 (length ops)) i
           (in_range_from 0 (length ops) i (omega arith) (omega arith))
           (and_from _ _ (le-leb c (issue_cycle rows i) waiting) t))
 
@@ -137,15 +138,25 @@ module _ (prios : List ℕ) (lat : Latencies) (ops : List Op) (rows : List Row)
             (subst (λ n. cycles lat ops rows ≤ n) (sym at.2) (le_self (cycles lat ops rows)))))
       ]
 
-pub rows_bound : (prios : List ℕ) (lat : Latencies) (ops : List Op) (rows : List Row) (i : ℕ) → IsChosenSoFar prios lat ops rows
+pub rows_bound_where : (counts : Counts) (prios : List ℕ) (lat : Latencies) (ops : List Op) (rows : List Row) (i : ℕ)
+    → IsChosenWhere counts prios lat ops rows
     → i < length ops → length rows ≤ issue_cycle rows i → length rows ≤ sum_by (latency lat) ops
-rows_bound prios lat ops rows i so_far within waits = rows_bound_at prios lat ops rows so_far i within waits
+rows_bound_where counts prios lat ops rows i so_far within waits = rows_bound_at counts prios lat ops rows so_far i within waits
 
 -- a greedy schedule takes no more cycles than its operations one after another, whatever the priorities
+pub busy_bound_where : (counts : Counts) (prios : List ℕ) (lat : Latencies) (block ops : List Op) (rows : List Row)
+    → IsGreedyWhere counts prios lat block ops rows → cycles lat ops rows ≤ sum_by (latency lat) ops
+busy_bound_where counts prios lat block ops rows greedy = cycles_bound counts prios lat ops rows greedy.each
+    (λ i within. issued_within ops rows greedy.lawful.table i within)
+
+-- the same where all count
+pub rows_bound : (prios : List ℕ) (lat : Latencies) (ops : List Op) (rows : List Row) (i : ℕ) → IsChosenSoFar prios lat ops rows
+    → i < length ops → length rows ≤ issue_cycle rows i → length rows ≤ sum_by (latency lat) ops
+rows_bound = rows_bound_where all_count
+
 pub busy_bound_by : (prios : List ℕ) (lat : Latencies) (block ops : List Op) (rows : List Row)
     → IsGreedyBy prios lat block ops rows → cycles lat ops rows ≤ sum_by (latency lat) ops
-busy_bound_by prios lat block ops rows greedy = cycles_bound prios lat ops rows greedy.each
-    (λ i within. issued_within ops rows greedy.lawful.table i within)
+busy_bound_by = busy_bound_where all_count
 
 pub busy_bound : (lat : Latencies) (block ops : List Op) (rows : List Row) → IsGreedy lat block ops rows
     → cycles lat ops rows ≤ sum_by (latency lat) ops

@@ -12,12 +12,13 @@ use Rattle.iloc_timed.specs.Rows.{row_at, slots, issue_cycle}
 use Rattle.iloc_meaning.proofs.Cases.{by_bool}
 use Rattle.iloc_rules.specs.Renaming.{renamed}
 use Rattle.iloc_rules.specs.Priority.{priorities}
-use Rattle.iloc_rules.specs.Greedy.{ready, chosen, IsGreedy, IsGreedyBy}
-use Rattle.iloc_rules.specs.Steps.Choosing.{IsChosenSoFar}
+use Rattle.iloc_rules.specs.Delays.{Counts, all_count}
+use Rattle.iloc_rules.specs.Greedy.{ready_where, chosen, IsGreedy, IsGreedyBy, IsGreedyWhere}
+use Rattle.iloc_rules.specs.Steps.Choosing.{IsChosenWhere}
 use Rattle.iloc_rules.proofs.Basics.Members.{from_all, not_all, in_range_from, from_range}
 use Rattle.iloc_rules.proofs.Basics.Slots.{stands_there}
-use Rattle.iloc_rules.proofs.Choice.RowAfterRow.{chosen_more, chosen_is_greedy}
-use Rattle.iloc_rules.proofs.Bounds.BusyCycles.{rows_bound}
+use Rattle.iloc_rules.proofs.Choice.RowAfterRow.{chosen_more_where, chosen_is_greedy_where}
+use Rattle.iloc_rules.proofs.Bounds.BusyCycles.{rows_bound_where}
 use Rattle.iloc_rules.proofs.Basics.IssueCycles.{issue_cycle_back}
 
 -- operation i is issued at cycle c or later
@@ -27,8 +28,8 @@ record WaitsAt (ops : List Op) (rows : List Row) (c : ℕ) : Type 0 where
   waiting : c ≤ issue_cycle rows by
 
 -- rows that were chosen, the last while an operation waited
-record IsBegun (prios : List ℕ) (lat : Latencies) (ops : List Op) (rows : List Row) : Type 0 where
-  so_far : IsChosenSoFar prios lat ops rows
+record IsBegun (counts : Counts) (prios : List ℕ) (lat : Latencies) (ops : List Op) (rows : List Row) : Type 0 where
+  so_far : IsChosenWhere counts prios lat ops rows
   last : (c : ℕ) → length rows ≡ c + 1 → WaitsAt ops rows c
 
 -- each operation is issued in one of the rows
@@ -43,35 +44,39 @@ issued_or_waits ops rows =
     (in_range_from 0 (length ops) i (omega arith) (omega arith)))))
     (grind (arith, from_range, ltb-false, not_all))
 
-module _ (prios : List ℕ) (lat : Latencies) (ops : List Op) where
+module _ (counts : Counts) (prios : List ℕ) (lat : Latencies) (ops : List Op) where
   next_row : List Row → Row
-  next_row rows = chosen ops prios (ready lat ops rows (length rows))
+  next_row rows = chosen ops prios (ready_where counts lat ops rows (length rows))
 
-  one_more : (rows : List Row) → IsBegun prios lat ops rows → WaitsAt ops rows (length rows)
-      → IsBegun prios lat ops (rows ++ next_row rows ∷ [])
+  one_more : (rows : List Row) → IsBegun counts prios lat ops rows → WaitsAt ops rows (length rows)
+      → IsBegun counts prios lat ops (rows ++ next_row rows ∷ [])
   unfolding next_row
-  one_more rows begun waits = grind (arith, chosen_more, issue_cycle_back, length_push, next_row)
+  one_more rows begun waits = grind (arith, chosen_more_where, issue_cycle_back, length_push, next_row)
 
-  to_the_end : (fuel : ℕ) (rows : List Row) → IsBegun prios lat ops rows → sum_by (latency lat) ops < length rows + fuel
-      → (all : List Row) × IsBegun prios lat ops all × AllIssued ops all
-  to_the_end zero rows begun enough = grind (arith, issued_or_waits ops rows, rows_bound prios lat ops rows)
+  to_the_end : (fuel : ℕ) (rows : List Row) → IsBegun counts prios lat ops rows → sum_by (latency lat) ops < length rows + fuel
+      → (all : List Row) × IsBegun counts prios lat ops all × AllIssued ops all
+  to_the_end zero rows begun enough = grind (arith, issued_or_waits ops rows, rows_bound_where counts prios lat ops rows)
   to_the_end (suc fuel) rows begun enough = elim (issued_or_waits ops rows) [
     | inl done ↦ (rows, begun, done)
     | inr waits ↦
         grind (arith, length_push, next_row, one_more, to_the_end fuel (rows ++ next_row rows ∷ []) (one_more rows begun waits))
   ]
 
-  last_row_some : (rows : List Row) → IsBegun prios lat ops rows → AllIssued ops rows → (c : ℕ) → length rows ≡ c + 1
+  last_row_some : (rows : List Row) → IsBegun counts prios lat ops rows → AllIssued ops rows → (c : ℕ) → length rows ≡ c + 1
       → slots (row_at rows c) ≢ []
   last_row_some rows begun done c is empty = grind (arith, stands_there rows, begun.last c)
 
+pub greedy_exists_where : (counts : Counts) (prios : List ℕ) (lat : Latencies) (block : List Op)
+    → (rows : List Row) × IsGreedyWhere counts prios lat block (renamed block) rows
+greedy_exists_where counts prios lat block =
+    let ops : List Op = renamed block in
+    let end = to_the_end counts prios lat ops (sum_by (latency lat) ops + 1) []
+    (record { so_far = λ c below. absurd (omega arith); last = λ c is. absurd (omega arith) }) (omega arith) in
+    (end.0, chosen_is_greedy_where counts prios lat block ops end.0 refl end.1.so_far end.2 (last_row_some counts prios lat ops end.0 end.1 end.2))
+
 pub greedy_exists_by : (prios : List ℕ) (lat : Latencies) (block : List Op)
     → (rows : List Row) × IsGreedyBy prios lat block (renamed block) rows
-greedy_exists_by prios lat block =
-    let ops : List Op = renamed block in
-    let end = to_the_end prios lat ops (sum_by (latency lat) ops + 1) []
-    (record { so_far = λ c below. absurd (omega arith); last = λ c is. absurd (omega arith) }) (omega arith) in
-    (end.0, chosen_is_greedy prios lat block ops end.0 refl end.1.so_far end.2 (last_row_some prios lat ops end.0 end.1 end.2))
+greedy_exists_by = greedy_exists_where all_count
 
 pub greedy_exists : (lat : Latencies) (block : List Op) → (rows : List Row) × IsGreedy lat block (renamed block) rows
 greedy_exists lat block = greedy_exists_by (priorities lat (renamed block)) lat block

@@ -8,7 +8,8 @@ use Rattle.iloc_timed.specs.declared.row.Row.{Row}
 use Rattle.iloc_timed.specs.Rows.{empty_row, row_at, slots, holds, issue_cycle}
 use Rattle.iloc_meaning.proofs.Cases.{by_bool}
 use Rattle.iloc_rules.specs.Priority.{priorities}
-use Rattle.iloc_rules.specs.Greedy.{IsGreedy, IsGreedyBy}
+use Rattle.iloc_rules.specs.Delays.{Counts, all_count}
+use Rattle.iloc_rules.specs.Greedy.{IsGreedyWhere, IsGreedy, IsGreedyBy}
 use Rattle.iloc_rules.proofs.Basics.Members.{empty_from}
 use Rattle.iloc_rules.proofs.Basics.Slots.{issued_within}
 use Rattle.iloc_rules.proofs.Choice.Ready.{SameBelow, ready_same}
@@ -38,39 +39,44 @@ cycles_agree (row ∷ rows) (row' ∷ rows') (suc c) i within within' same =
       let second : c ≤ issue_cycle rows' i = none.1 in omega arith,
     )
 
-module _ (prios : List ℕ) (lat : Latencies) (block ops : List Op) (rows rows' : List Row) (greedy : IsGreedyBy prios lat block ops rows)
-    (greedy' : IsGreedyBy prios lat block ops rows') where
+module _ (counts : Counts) (prios : List ℕ) (lat : Latencies) (block ops : List Op) (rows rows' : List Row) (greedy : IsGreedyWhere counts prios lat block ops rows)
+    (greedy' : IsGreedyWhere counts prios lat block ops rows') where
   rows_agree : (c : ℕ) → c ≤ length rows → c ≤ length rows' → (k : ℕ) → k < c → row_at rows k ≡ row_at rows' k
   rows_agree zero within within' k below = absurd (omega arith)
   rows_agree (suc c) within within' k below =
-      grind (arith, cycles_agree rows rows' c, ready_same lat ops rows rows' c, greedy.each c, greedy'.each c, rows_agree c)
+      grind (arith, cycles_agree rows rows' c, ready_same counts lat ops rows rows' c, greedy.each c, greedy'.each c, rows_agree c)
 
   -- the second is not the longer: its last row would be empty
   not_longer : length rows < length rows' → ⊥
   not_longer shorter =
       greedy'.last (length rows' - 1) (omega arith)
       (empty_from (slots (row_at rows' (length rows' - 1))) (λ i there.
-      let was = was_ready prios lat ops rows' greedy'.each (length rows' - 1) i there in
+      let was = was_ready counts prios lat ops rows' greedy'.each (length rows' - 1) i there in
       let issued : issue_cycle rows i < length rows = issued_within ops rows greedy.lawful.table i was.within in
       grind (arith, cycles_agree, rows_agree)))
 
-greedy_rows : (prios : List ℕ) (lat : Latencies) (block ops : List Op) (rows rows' : List Row) → IsGreedyBy prios lat block ops rows
-    → IsGreedyBy prios lat block ops rows' → rows ≡ rows'
-greedy_rows prios lat block ops rows rows' greedy greedy' = ext_get_or empty_row rows rows' same_length (λ c below.
-    rows_agree prios lat block ops rows rows' greedy greedy' (length rows) (omega arith) (omega (arith, same_length)) c below)
+greedy_rows : (counts : Counts) (prios : List ℕ) (lat : Latencies) (block ops : List Op) (rows rows' : List Row)
+    → IsGreedyWhere counts prios lat block ops rows
+    → IsGreedyWhere counts prios lat block ops rows' → rows ≡ rows'
+greedy_rows counts prios lat block ops rows rows' greedy greedy' = ext_get_or empty_row rows rows' same_length (λ c below.
+    rows_agree counts prios lat block ops rows rows' greedy greedy' (length rows) (omega arith) (omega (arith, same_length)) c below)
   where
     same_length : length rows ≡ length rows'
     same_length = elim (cases_order (length rows) (length rows')) [
       | inl same ↦ same
       | inr differs ↦ elim differs [
-        | inl shorter ↦ absurd (not_longer prios lat block ops rows rows' greedy greedy' shorter)
-        | inr longer ↦ absurd (not_longer prios lat block ops rows' rows greedy' greedy longer)
+        | inl shorter ↦ absurd (not_longer counts prios lat block ops rows rows' greedy greedy' shorter)
+        | inr longer ↦ absurd (not_longer counts prios lat block ops rows' rows greedy' greedy longer)
       ]
     ]
 
+pub greedy_same_where : (counts : Counts) (prios : List ℕ) (lat : Latencies) (block ops ops' : List Op) (rows rows' : List Row) → IsGreedyWhere counts prios lat block ops rows
+    → IsGreedyWhere counts prios lat block ops' rows' → (ops ≡ ops') × (rows ≡ rows')
+greedy_same_where counts prios lat block ops ops' rows rows' greedy greedy' = grind (arith, greedy_rows counts prios lat block ops rows rows' greedy)
+
 pub greedy_same_by : (prios : List ℕ) (lat : Latencies) (block ops ops' : List Op) (rows rows' : List Row) → IsGreedyBy prios lat block ops rows
     → IsGreedyBy prios lat block ops' rows' → (ops ≡ ops') × (rows ≡ rows')
-greedy_same_by prios lat block ops ops' rows rows' greedy greedy' = grind (arith, greedy_rows prios lat block ops rows rows' greedy)
+greedy_same_by = greedy_same_where all_count
 
 -- and by priorities that the operations determine
 pub greedy_same_as : (prios : List Op → List ℕ) (lat : Latencies) (block ops ops' : List Op) (rows rows' : List Row)

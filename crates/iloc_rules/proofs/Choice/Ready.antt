@@ -9,13 +9,13 @@ use Rattle.iloc_meaning.specs.Trace.{op_at}
 use Rattle.iloc_timed.specs.declared.latencies.Latencies.{Latencies}
 use Rattle.iloc_timed.specs.declared.row.Row.{Row}
 use Rattle.iloc_timed.specs.Rows.{issue_cycle}
-use Rattle.iloc_rules.specs.Delays.{delays, IsDelayPair}
-use Rattle.iloc_rules.specs.Greedy.{is_ready, ready}
+use Rattle.iloc_rules.specs.Delays.{Counts, all_count, delays_where, IsDelayPairWhere}
+use Rattle.iloc_rules.specs.Greedy.{is_ready_where, ready_where, ready}
 use Rattle.iloc_rules.specs.Steps.Members.{In}
 use Rattle.iloc_rules.proofs.Basics.Members.{contains_from, in_from, in_filter, from_filter, all_from, from_all, in_range_from, from_range}
 use Rattle.iloc_rules.proofs.Basics.Ordered.{ordered_filter}
 use Rattle.iloc_rules.proofs.Basics.Rising.{Rises, rises_range}
-use Rattle.iloc_rules.proofs.DelayPairs.DelayBounds.{delay_at_least}
+use Rattle.iloc_rules.proofs.DelayPairs.FewerDelays.{delay_at_least_where}
 use Rattle.iloc_rules.proofs.Basics.IssueCycles.{issue_cycle_front, issue_cycle_back}
 
 -- whether the delay of (h, i, d) is over at cycle c
@@ -23,46 +23,49 @@ abbrev pub is_over : List Row → ℕ → ℕ → ℕ → Bool
 is_over rows c h d = nat_le (issue_cycle rows h + d) c
 
 -- whether all delays from h to i are over then
-abbrev pub all_over : Latencies → List Op → List Row → ℕ → ℕ → ℕ → Bool
-all_over lat ops rows c i h = list_all (is_over rows c h) (delays lat (op_at ops h) (op_at ops i))
+abbrev pub all_over_where : Counts → Latencies → List Op → List Row → ℕ → ℕ → ℕ → Bool
+all_over_where counts lat ops rows c i h = list_all (is_over rows c h) (delays_where (counts h i) lat (op_at ops h) (op_at ops i))
 
 -- operation i is not issued before cycle c, and each of its delays is over then
-pub record IsReady (lat : Latencies) (ops : List Op) (rows : List Row) (c i : ℕ) : Type 0 where
+pub record IsReadyWhere (counts : Counts) (lat : Latencies) (ops : List Op) (rows : List Row) (c i : ℕ) : Type 0 where
   pub within : i < length ops
   pub waiting : c ≤ issue_cycle rows i
-  pub over : (h d : ℕ) → IsDelayPair lat ops h i d → issue_cycle rows h + d ≤ c
+  pub over : (h d : ℕ) → IsDelayPairWhere counts lat ops h i d → issue_cycle rows h + d ≤ c
 
-pub ready_means : (lat : Latencies) (ops : List Op) (rows : List Row) (c i : ℕ) → In (ready lat ops rows c) i
-    → IsReady lat ops rows c i
-ready_means lat ops rows c i there =
-    let both = from_filter (is_ready lat ops rows c) (range_with_len 0 (length ops)) i there in
+pub ready_means_where : (counts : Counts) (lat : Latencies) (ops : List Op) (rows : List Row) (c i : ℕ)
+    → In (ready_where counts lat ops rows c) i
+    → IsReadyWhere counts lat ops rows c i
+ready_means_where counts lat ops rows c i there =
+    let both = from_filter (is_ready_where counts lat ops rows c) (range_with_len 0 (length ops)) i there in
     let place : (0 ≤ i) × (i < 0 + length ops) = from_range 0 (length ops) i both.0 in
-    let parts = and_parts (nat_le c (issue_cycle rows i)) (list_all (all_over lat ops rows c i) (range_with_len 0 i))
+    let parts = and_parts (nat_le c (issue_cycle rows i)) (list_all (all_over_where counts lat ops rows c i) (range_with_len 0 i))
     both.1 in
     record {
       within = omega arith;
       waiting = leb-true c (issue_cycle rows i) parts.0;
       over = λ h d pair.
           leb-true (issue_cycle rows h + d) c
-          (from_all (is_over rows c h) (delays lat (op_at ops h) (op_at ops i)) d
-          (from_all (all_over lat ops rows c i) (range_with_len 0 i) h parts.1
+          (from_all (is_over rows c h) (delays_where (counts h i) lat (op_at ops h) (op_at ops i)) d
+          (from_all (all_over_where counts lat ops rows c i) (range_with_len 0 i) h parts.1
           (in_range_from 0 i h (omega arith) (omega arith)))
-          (in_from (delays lat (op_at ops h) (op_at ops i)) d pair.delay));
+          (in_from (delays_where (counts h i) lat (op_at ops h) (op_at ops i)) d pair.delay));
     }
 
-pub ready_from : (lat : Latencies) (ops : List Op) (rows : List Row) (c i : ℕ) → IsReady lat ops rows c i
-    → In (ready lat ops rows c) i
-ready_from lat ops rows c i is =
-    in_filter (is_ready lat ops rows c) (range_with_len 0 (length ops)) i
+pub ready_from_where : (counts : Counts) (lat : Latencies) (ops : List Op) (rows : List Row) (c i : ℕ)
+    → IsReadyWhere counts lat ops rows c i
+    → In (ready_where counts lat ops rows c) i
+ready_from_where counts lat ops rows c i is =
+    in_filter (is_ready_where counts lat ops rows c) (range_with_len 0 (length ops)) i
     (in_range_from 0 (length ops) i (omega arith) (omega arith))
     (and_from _ _ (le-leb c (issue_cycle rows i) is.waiting)
-    (all_from (all_over lat ops rows c i) (range_with_len 0 i) (λ h there.
+    (all_from (all_over_where counts lat ops rows c i) (range_with_len 0 i) (λ h there.
     let place : (0 ≤ h) × (h < 0 + i) = from_range 0 i h there in
-    all_from (is_over rows c h) (delays lat (op_at ops h) (op_at ops i)) (λ d inside.
+    all_from (is_over rows c h) (delays_where (counts h i) lat (op_at ops h) (op_at ops i)) (λ d inside.
     le-leb (issue_cycle rows h + d) c (grind (arith, contains_from))))))
 
-pub ready_rises : (lat : Latencies) (ops : List Op) (rows : List Row) (c : ℕ) → Rises (ready lat ops rows c)
-ready_rises lat ops rows c = grind (arith, ordered_filter, rises_range)
+pub ready_rises_where : (counts : Counts) (lat : Latencies) (ops : List Op) (rows : List Row) (c : ℕ)
+    → Rises (ready_where counts lat ops rows c)
+ready_rises_where counts lat ops rows c = grind (arith, ordered_filter, rises_range)
 
 -- below cycle c operation i is issued at the same cycle by both lists of rows, or by neither
 abbrev pub SameBelow : List Row → List Row → ℕ → ℕ → Type 0
@@ -75,9 +78,9 @@ all_agree p q [] same = refl
 all_agree p q (x ∷ xs) same = grind (arith, all_agree p q xs)
 
 -- what is ready at cycle c depends on what is issued before it
-pub ready_same : (lat : Latencies) (ops : List Op) (rows rows' : List Row) (c : ℕ)
-    → ((i : ℕ) → SameBelow rows rows' c i) → ready lat ops rows c ≡ ready lat ops rows' c
-ready_same lat ops rows rows' c same = filter_agree (is_ready lat ops rows c) (is_ready lat ops rows' c) each
+pub ready_same : (counts : Counts) (lat : Latencies) (ops : List Op) (rows rows' : List Row) (c : ℕ)
+    → ((i : ℕ) → SameBelow rows rows' c i) → ready_where counts lat ops rows c ≡ ready_where counts lat ops rows' c
+ready_same counts lat ops rows rows' c same = filter_agree (is_ready_where counts lat ops rows c) (is_ready_where counts lat ops rows' c) each
     (range_with_len 0 (length ops))
   where
     waiting : (i : ℕ) → nat_le c (issue_cycle rows i) ≡ nat_le c (issue_cycle rows' i)
@@ -86,9 +89,10 @@ ready_same lat ops rows rows' c same = filter_agree (is_ready lat ops rows c) (i
       | inr none ↦ le-leb c (issue_cycle rows i) none.0 ∙ sym (le-leb c (issue_cycle rows' i) none.1)
     ]
 
-    over : (i h d : ℕ) → In (delays lat (op_at ops h) (op_at ops i)) d → is_over rows c h d ≡ is_over rows' c h d
+    over : (i h d : ℕ) → In (delays_where (counts h i) lat (op_at ops h) (op_at ops i)) d
+        → is_over rows c h d ≡ is_over rows' c h d
     over i h d there =
-        let some : 1 ≤ d = delay_at_least lat (op_at ops h) (op_at ops i) d (contains_from _ d there) in
+        let some : 1 ≤ d = delay_at_least_where (counts h i) lat (op_at ops h) (op_at ops i) d (contains_from _ d there) in
         elim (same h) [
           | inl one ↦ ap (λ t. nat_le (t + d) c) one
           | inr none ↦
@@ -97,17 +101,17 @@ ready_same lat ops rows rows' c same = filter_agree (is_ready lat ops rows c) (i
               lt-leb (issue_cycle rows h + d) c (omega arith) ∙ sym (lt-leb (issue_cycle rows' h + d) c (omega arith))
         ]
 
-    each : (i : ℕ) → is_ready lat ops rows c i ≡ is_ready lat ops rows' c i
+    each : (i : ℕ) → is_ready_where counts lat ops rows c i ≡ is_ready_where counts lat ops rows' c i
     each i =
-        ap (λ b. b && list_all (all_over lat ops rows c i) (range_with_len 0 i)) (waiting i)
+        ap (λ b. b && list_all (all_over_where counts lat ops rows c i) (range_with_len 0 i)) (waiting i)
         ∙ ap (λ b. nat_le c (issue_cycle rows' i) && b)
-        (all_agree (all_over lat ops rows c i) (all_over lat ops rows' c i) (range_with_len 0 i) (λ h there.
-        all_agree (is_over rows c h) (is_over rows' c h) (delays lat (op_at ops h) (op_at ops i)) (over i h)))
+        (all_agree (all_over_where counts lat ops rows c i) (all_over_where counts lat ops rows' c i) (range_with_len 0 i) (λ h there.
+        all_agree (is_over rows c h) (is_over rows' c h) (delays_where (counts h i) lat (op_at ops h) (op_at ops i)) (over i h)))
 
 -- one more row changes nothing of what was ready by then
-pub ready_kept : (lat : Latencies) (ops : List Op) (rows : List Row) (row : Row) (c : ℕ) → c ≤ length rows
-    → ready lat ops (rows ++ row ∷ []) c ≡ ready lat ops rows c
-ready_kept lat ops rows row c so_far = ready_same lat ops (rows ++ row ∷ []) rows c same
+pub ready_kept : (counts : Counts) (lat : Latencies) (ops : List Op) (rows : List Row) (row : Row) (c : ℕ) → c ≤ length rows
+    → ready_where counts lat ops (rows ++ row ∷ []) c ≡ ready_where counts lat ops rows c
+ready_kept counts lat ops rows row c so_far = ready_same counts lat ops (rows ++ row ∷ []) rows c same
   where
     same : (i : ℕ) → SameBelow (rows ++ row ∷ []) rows c i
     same i = elim (cases_lt (issue_cycle rows i) (length rows)) [
@@ -117,3 +121,18 @@ ready_kept lat ops rows row c so_far = ready_same lat ops (rows ++ row ∷ []) r
           issue_cycle_back rows (row ∷ []) i waits in
           inr ((subst (λ n. c ≤ n) (sym back) (omega arith)), omega arith)
     ]
+
+-- the same where all count
+abbrev pub IsReady : Latencies → List Op → List Row → ℕ → ℕ → Type 0
+IsReady = IsReadyWhere all_count
+
+pub ready_means : (lat : Latencies) (ops : List Op) (rows : List Row) (c i : ℕ) → In (ready lat ops rows c) i
+    → IsReady lat ops rows c i
+ready_means = ready_means_where all_count
+
+pub ready_from : (lat : Latencies) (ops : List Op) (rows : List Row) (c i : ℕ) → IsReady lat ops rows c i
+    → In (ready lat ops rows c) i
+ready_from = ready_from_where all_count
+
+pub ready_rises : (lat : Latencies) (ops : List Op) (rows : List Row) (c : ℕ) → Rises (ready lat ops rows c)
+ready_rises = ready_rises_where all_count

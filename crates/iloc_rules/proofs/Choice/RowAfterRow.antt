@@ -8,20 +8,21 @@ use Rattle.iloc_timed.specs.declared.latencies.Latencies.{Latencies}
 use Rattle.iloc_timed.specs.declared.row.Row.{Row}
 use Rattle.iloc_timed.specs.Rows.{row_at, slots, issue_cycle, times_issued, keeps_units, IsTable}
 use Rattle.iloc_rules.specs.Renaming.{renamed}
-use Rattle.iloc_rules.specs.Greedy.{ready, chosen, IsGreedyBy}
-use Rattle.iloc_rules.specs.Steps.Choosing.{IsChosenSoFar}
+use Rattle.iloc_rules.specs.Delays.{Counts, all_count}
+use Rattle.iloc_rules.specs.Greedy.{ready_where, ready, chosen, IsGreedyWhere, IsGreedyBy}
+use Rattle.iloc_rules.specs.Steps.Choosing.{IsChosenWhere, IsChosenSoFar}
 use Rattle.iloc_rules.specs.Steps.Members.{In}
 use Rattle.iloc_rules.proofs.Basics.Members.{in_from}
 use Rattle.iloc_rules.proofs.Basics.Slots.{count_in, stands_there}
 use Rattle.iloc_rules.proofs.Basics.IssueCycles.{row_at_more, row_at_last, row_at_past, times_one}
-use Rattle.iloc_rules.proofs.Choice.Ready.{IsReady, ready_means, ready_kept}
+use Rattle.iloc_rules.proofs.Choice.Ready.{IsReadyWhere, ready_means_where, ready_kept}
 use Rattle.iloc_rules.proofs.Choice.ChosenRows.{chosen_units, chosen_in, once_in}
-use Rattle.iloc_rules.proofs.DelayPairs.WaitedFor.{Waits}
+use Rattle.iloc_rules.proofs.DelayPairs.WaitedFor.{WaitsWhere}
 
-pub chosen_more : (prios : List ℕ) (lat : Latencies) (ops : List Op) (rows : List Row) (row : Row) → IsChosenSoFar prios lat ops rows
-    → row ≡ chosen ops prios (ready lat ops rows (length rows))
-    → IsChosenSoFar prios lat ops (rows ++ row ∷ [])
-chosen_more prios lat ops rows row so_far is c below =
+pub chosen_more_where : (counts : Counts) (prios : List ℕ) (lat : Latencies) (ops : List Op) (rows : List Row) (row : Row) → IsChosenWhere counts prios lat ops rows
+    → row ≡ chosen ops prios (ready_where counts lat ops rows (length rows))
+    → IsChosenWhere counts prios lat ops (rows ++ row ∷ [])
+chosen_more_where counts prios lat ops rows row so_far is c below =
     let longer : length (rows ++ row ∷ []) ≡ length rows + 1 = length_push rows row in
     elim (cases_lt c (length rows)) [
       | inl before ↦
@@ -30,18 +31,18 @@ chosen_more prios lat ops rows row so_far is c below =
           grind (arith, ready_kept, row_at_last)
     ]
 
-module _ (prios : List ℕ) (lat : Latencies) (ops : List Op) (rows : List Row)
-    (so_far : IsChosenSoFar prios lat ops rows) where
+module _ (counts : Counts) (prios : List ℕ) (lat : Latencies) (ops : List Op) (rows : List Row)
+    (so_far : IsChosenWhere counts prios lat ops rows) where
   -- what stands in a row was ready
-  pub was_ready : (c i : ℕ) → In (slots (row_at rows c)) i → IsReady lat ops rows c i
-  was_ready c i there = grind (arith, chosen_in, ready_means, row_at_past)
+  pub was_ready : (c i : ℕ) → In (slots (row_at rows c)) i → IsReadyWhere counts lat ops rows c i
+  was_ready c i there = grind (arith, chosen_in, ready_means_where, row_at_past)
 
   stands_once : (c i : ℕ) → c < length rows → In (slots (row_at rows c)) i → count_in (row_at rows c) i ≡ 1
   stands_once c i below there = grind (arith, once_in)
 
   units_kept : (c : ℕ) → IsTrue (keeps_units ops (row_at rows c))
   units_kept c = elim (cases_lt c (length rows)) [
-    | inl below ↦ ap (keeps_units ops) (so_far c below) ∙ chosen_units ops prios (ready lat ops rows c)
+    | inl below ↦ ap (keeps_units ops) (so_far c below) ∙ chosen_units ops prios (ready_where counts lat ops rows c)
     | inr past ↦ ap (keeps_units ops) (row_at_past rows c past)
   ]
 
@@ -52,7 +53,7 @@ module _ (prios : List ℕ) (lat : Latencies) (ops : List Op) (rows : List Row)
         (stands_once (issue_cycle rows i) i (all_issued i below) (stands_there rows i (all_issued i below)))
         (λ c above under there. let waiting : c ≤ issue_cycle rows i = (was_ready c i there).waiting in omega arith)
 
-    waited : Waits lat ops rows
+    waited : WaitsWhere counts lat ops rows
     waited i j d pair = (was_ready (issue_cycle rows j) j (stands_there rows j (all_issued j pair.within))).over i d
         pair
 
@@ -63,8 +64,20 @@ module _ (prios : List ℕ) (lat : Latencies) (ops : List Op) (rows : List Row)
       units = units_kept;
     }
 
+pub chosen_is_greedy_where : (counts : Counts) (prios : List ℕ) (lat : Latencies) (block ops : List Op) (rows : List Row)
+    → ops ≡ renamed block
+    → IsChosenWhere counts prios lat ops rows → ((i : ℕ) → i < length ops → issue_cycle rows i < length rows)
+    → ((c : ℕ) → length rows ≡ c + 1 → slots (row_at rows c) ≢ []) → IsGreedyWhere counts prios lat block ops rows
+chosen_is_greedy_where counts prios lat block ops rows names so_far all_issued last =
+    grind (arith, is_table counts prios lat ops rows so_far all_issued, waited counts prios lat ops rows so_far all_issued)
+
+-- the same where all count
+pub chosen_more : (prios : List ℕ) (lat : Latencies) (ops : List Op) (rows : List Row) (row : Row) → IsChosenSoFar prios lat ops rows
+    → row ≡ chosen ops prios (ready lat ops rows (length rows))
+    → IsChosenSoFar prios lat ops (rows ++ row ∷ [])
+chosen_more = chosen_more_where all_count
+
 pub chosen_is_greedy : (prios : List ℕ) (lat : Latencies) (block ops : List Op) (rows : List Row) → ops ≡ renamed block
     → IsChosenSoFar prios lat ops rows → ((i : ℕ) → i < length ops → issue_cycle rows i < length rows)
     → ((c : ℕ) → length rows ≡ c + 1 → slots (row_at rows c) ≢ []) → IsGreedyBy prios lat block ops rows
-chosen_is_greedy prios lat block ops rows names so_far all_issued last =
-    grind (arith, is_table prios lat ops rows so_far all_issued, waited prios lat ops rows so_far all_issued)
+chosen_is_greedy = chosen_is_greedy_where all_count

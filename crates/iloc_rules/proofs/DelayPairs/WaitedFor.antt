@@ -1,29 +1,32 @@
 -- What arrives in time where each delay is waited for; for `laws::lawful_schedules_keep_the_outcome`.
-use Rattle.std.proofs.Common.{◌≡◌, ℕ, ◌+◌, ◌<◌, ◌≤◌, true, List, length, Some, arith}
+use Rattle.std.proofs.Common.{◌≡◌, ℕ, ◌+◌, ◌<◌, ◌≤◌, Bool, true, List, length, Some, refl, arith}
 use Rattle.std.proofs.lemmas.Bool.{and_from, or_right, false≢true}
 use Rattle.iloc_ops.specs.declared.op.Reg.{Reg}
 use Rattle.iloc_ops.specs.declared.op.Op.{Op}
 use Rattle.iloc_ops.specs.Registers.{used, defined}
 use Rattle.iloc_meaning.specs.Trace.{op_at, is_register}
 use Rattle.iloc_timed.specs.declared.kind.Kind.{Kind}
-use Rattle.iloc_timed.specs.declared.kind.Kind.TheVariants as K
 use Rattle.iloc_timed.specs.declared.latencies.Latencies.{Latencies}
 use Rattle.iloc_timed.specs.declared.row.Row.{Row}
 use Rattle.iloc_timed.specs.Kinds.{kind, is_store, is_output}
 use Rattle.iloc_timed.specs.Latency.{latency}
 use Rattle.iloc_timed.specs.Rows.{issue_cycle}
-use Rattle.iloc_rules.specs.Delays.{uses_result, keeps_order, when, memory_delays, delays, IsDelayPair}
+use Rattle.iloc_rules.specs.Delays.{Counts, all_count, uses_result, keeps_order_where, keeps_order, when, memory_delays_where, delays_where, IsDelayPairWhere}
 use Rattle.iloc_rules.specs.Steps.Members.{In}
 use Rattle.iloc_rules.proofs.Basics.Members.{contains_from, in_left, in_right, any_at}
 use Rattle.iloc_rules.proofs.Outcome.UsedEffects.{reads_memory}
 use Rattle.iloc_rules.proofs.DelayPairs.DelayBounds.{in_when}
 use Rattle.iloc_rules.proofs.Basics.Registers.{is_register_from}
 
--- each delay is waited for
-abbrev pub Waits : Latencies → List Op → List Row → Type 0
-Waits lat ops rows = (i j d : ℕ) → IsDelayPair lat ops i j d → issue_cycle rows i + d ≤ issue_cycle rows j
+-- each delay is waited for, where these count
+abbrev pub WaitsWhere : Counts → Latencies → List Op → List Row → Type 0
+WaitsWhere counts lat ops rows =
+    (i j d : ℕ) → IsDelayPairWhere counts lat ops i j d → issue_cycle rows i + d ≤ issue_cycle rows j
 
-module _ (lat : Latencies) (ops : List Op) (rows : List Row) (waits : Waits lat ops rows) where
+abbrev pub Waits : Latencies → List Op → List Row → Type 0
+Waits = WaitsWhere all_count
+
+module _ {counts : Counts} (lat : Latencies) (ops : List Op) (rows : List Row) (waits : WaitsWhere counts lat ops rows) where
   -- what is used was issued so early that it has arrived
   pub used_in_time : (i k : ℕ) (r : Reg) → i < length ops → k < i → In (used (op_at ops i)) r
       → defined (op_at ops k) ≡ Some r → issue_cycle rows k + latency lat (op_at ops k) ≤ issue_cycle rows i
@@ -34,24 +37,26 @@ module _ (lat : Latencies) (ops : List Op) (rows : List Row) (waits : Waits lat 
       waits k i (latency lat (op_at ops k)) record {
         order = before;
         within = within;
-        delay = contains_from (delays lat (op_at ops k) (op_at ops i)) (latency lat (op_at ops k))
+        delay = contains_from (delays_where (counts k i) lat (op_at ops k) (op_at ops i)) (latency lat (op_at ops k))
             (in_left (when (uses_result (op_at ops k) (op_at ops i)) (latency lat (op_at ops k)))
-            (memory_delays lat (op_at ops k) (op_at ops i)) _ (in_when _ _ test));
+            (memory_delays_where (counts k i) lat (op_at ops k) (op_at ops i)) _ (in_when _ _ test));
       }
 
-  by_memory : (k i d : ℕ) → i < length ops → k < i → In (memory_delays lat (op_at ops k) (op_at ops i)) d
+  by_memory : (k i d : ℕ) → i < length ops → k < i
+      → In (memory_delays_where (counts k i) lat (op_at ops k) (op_at ops i)) d
       → issue_cycle rows k + d ≤ issue_cycle rows i
   by_memory k i d within before there = waits k i d grind (arith, contains_from, in_right)
 
-  -- what is read was stored so early that it has arrived
-  pub stored_in_time : (i k : ℕ) → i < length ops → k < i → is_store (kind (op_at ops k)) ≡ true
+  -- what is read was stored so early that it has arrived, where the two count
+  pub stored_where_counted : (i k : ℕ) → i < length ops → k < i → counts k i ≡ true → is_store (kind (op_at ops k)) ≡ true
       → reads_memory (kind (op_at ops i)) ≡ true → issue_cycle rows k + latency lat (op_at ops k) ≤ issue_cycle rows i
-  stored_in_time i k within before store reads =
+  stored_where_counted i k within before count store reads =
       by_memory k i (latency lat (op_at ops k)) within before
       (grind (arith, and_from, in_left, in_when))
 
   -- what has to come after is issued later
-  pub kept_in_order : (k i : ℕ) → i < length ops → k < i → keeps_order (kind (op_at ops k)) (kind (op_at ops i)) ≡ true
+  pub kept_in_order : (k i : ℕ) → i < length ops → k < i
+      → keeps_order_where (counts k i) (kind (op_at ops k)) (kind (op_at ops i)) ≡ true
       → issue_cycle rows k < issue_cycle rows i
   kept_in_order k i within before order =
       let later : issue_cycle rows k + 1 ≤ issue_cycle rows i =
@@ -59,11 +64,25 @@ module _ (lat : Latencies) (ops : List Op) (rows : List Row) (waits : Waits lat 
       (grind (arith, in_right, in_when)) in
       omega arith
 
+-- what is read was stored so early that it has arrived, where all count
+pub stored_in_time : (lat : Latencies) (ops : List Op) (rows : List Row) → Waits lat ops rows → (i k : ℕ)
+    → i < length ops → k < i → is_store (kind (op_at ops k)) ≡ true → reads_memory (kind (op_at ops i)) ≡ true
+    → issue_cycle rows k + latency lat (op_at ops k) ≤ issue_cycle rows i
+stored_in_time lat ops rows waits i k within before = stored_where_counted lat ops rows waits i k within before refl
+
+-- where two operations count, they are kept in order as where all do
+pub kept_where_counted : (counts : Bool) (a b : Kind) → counts ≡ true → keeps_order a b ≡ true
+    → keeps_order_where counts a b ≡ true
+kept_where_counted counts a b count keeps = rw count keeps
+
 pub read_then_store : (a b : Kind) → reads_memory a ≡ true → is_store b ≡ true → keeps_order a b ≡ true
 read_then_store a b reads store = grind (arith, false≢true)
 
 pub store_then_store : (a b : Kind) → is_store a ≡ true → is_store b ≡ true → keeps_order a b ≡ true
 store_then_store a b first second = grind (arith, false≢true)
 
-pub output_then_output : (a b : Kind) → is_output a ≡ true → is_output b ≡ true → keeps_order a b ≡ true
-output_then_output a b first second = grind (arith, false≢true, or_right)
+pub output_then_output : (counts : Bool) (a b : Kind) → is_output a ≡ true → is_output b ≡ true
+    → keeps_order_where counts a b ≡ true
+output_then_output counts a b first second =
+    let both = and_from (is_output a) (is_output b) first second in
+    and_from _ _ (or_right counts _ both) (or_right _ _ both)

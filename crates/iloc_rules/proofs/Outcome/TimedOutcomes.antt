@@ -2,7 +2,7 @@
 use Rattle.std.proofs.Common.{◌≡◌, ℕ, ◌+◌, ◌<◌, ◌≤◌, zero, suc, Bool, true, false, cond, ℤ, List, [], ◌∷◌, ◌++◌, map, length, Some, inl, inr, refl, ap, sym, ◌∙◌, subst, arith, append-nil}
 use Rattle.std.specs.Prelude.{filter, find, nat_le}
 use Rattle.std.proofs.Math.Path.{fun_ext}
-use Rattle.std.proofs.lemmas.Bool.{cases_order, le-leb}
+use Rattle.std.proofs.lemmas.Bool.{cases_order, le-leb, or_right}
 use Rattle.std.proofs.lemmas.List.{map-append}
 use Rattle.iloc_ops.specs.declared.op.Reg.{Reg}
 use Rattle.iloc_ops.specs.declared.op.Op.{Op}
@@ -19,22 +19,25 @@ use Rattle.iloc_timed.specs.Latency.{latency}
 use Rattle.iloc_timed.specs.Rows.{row_at, slots, issue_cycle, IsTable}
 use Rattle.iloc_timed.specs.Timed.{Issued, arrived, register_in, word_in, issue, issue_all, issued_before, executed_in, timed_outcome}
 use Rattle.iloc_rules.specs.Renaming.{IsRenamed}
+use Rattle.iloc_rules.specs.Delays.{Counts}
+use Rattle.iloc_rules.specs.Sound.{touched_at, IsSoundOn}
 use Rattle.iloc_rules.specs.Steps.Members.{In}
 use Rattle.iloc_rules.proofs.Basics.Members.{contains_from, in_map, from_map, in_filter, from_filter, any_same}
 use Rattle.iloc_rules.proofs.Basics.Rising.{countdown, in_countdown, from_countdown, falls_countdown, falls_from, falls_same}
 use Rattle.iloc_rules.proofs.Basics.Ordered.{ordered_filter}
 use Rattle.iloc_rules.proofs.Basics.Slots.{numbers_before, ComesLater, issued_early, early_issued, issued_within, issued_in_order, cycle_is, within}
-use Rattle.iloc_rules.proofs.Outcome.UsedEffects.{reads_memory, effect_used, only_stores_write, only_outputs_emit, latency_of_store}
+use Rattle.iloc_rules.proofs.Outcome.UsedEffects.{reads_memory, effect_used, only_stores_write, writes_touch, only_outputs_emit, latency_of_store}
 use Rattle.iloc_rules.proofs.Outcome.LookUps.{entry, look_up_same}
-use Rattle.iloc_rules.proofs.DelayPairs.WaitedFor.{Waits, used_in_time, stored_in_time, kept_in_order, read_then_store, store_then_store, output_then_output}
+use Rattle.iloc_rules.proofs.DelayPairs.WaitedFor.{WaitsWhere, used_in_time, stored_where_counted, kept_in_order, kept_where_counted, read_then_store, store_then_store, output_then_output}
 use Rattle.iloc_rules.proofs.Basics.Registers.{is_register_same}
 use Rattle.iloc_timed.proofs.WholeRuns.{some_latency}
 
--- a schedule of renamed operations in which each delay is waited for
-pub record Keeps (lat : Latencies) (ops : List Op) (rows : List Row) : Type 0 where
+-- a schedule of renamed operations in which each delay is waited for, by what is sound on this memory
+pub record Keeps (counts : Counts) (lat : Latencies) (ops : List Op) (rows : List Row) (memory : List ℤ) : Type 0 where
   pub renamed : IsRenamed ops
   pub table : IsTable ops rows
-  pub waits : Waits lat ops rows
+  pub waits : WaitsWhere counts lat ops rows
+  pub sound : IsSoundOn memory counts ops
 
 map_same : {X Y : Type 0} → (f g : X → Y) (xs : List X) → ((x : X) → In xs x → f x ≡ g x) → map f xs ≡ map g xs
 map_same f g [] same = refl
@@ -56,7 +59,8 @@ outcome_same : (fault fault' : Bool) (words words' memory memory' : List ℤ) �
     → memory ≡ memory' → cond fault Fault (Finished words memory) ≡ cond fault' Fault (Finished words' memory')
 outcome_same fault fault' words words' memory memory' same_fault same_words same_memory = cc
 
-module _ (lat : Latencies) (ops : List Op) (rows : List Row) (memory : List ℤ) (keeps : Keeps lat ops rows) where
+module _ (counts : Counts) (lat : Latencies) (ops : List Op) (rows : List Row) (memory : List ℤ)
+    (keeps : Keeps counts lat ops rows memory) where
   -- operation k as it is executed in program order
   plain : ℕ → Executed
   plain k = record {
@@ -103,16 +107,28 @@ module _ (lat : Latencies) (ops : List Op) (rows : List Row) (memory : List ℤ)
   unfolding plain
   writer_stores a k writes = only_stores_write (op_at ops k) _ _ a writes
 
+  -- it touches what it writes
+  writer_touches : (a k : ℕ) → writes_to a (plain k) ≡ true → touched_at memory ops k ≡ Some a
+  unfolding plain
+  writer_touches a k writes = writes_touch (op_at ops k) _ _ a writes
+
   definer : (r : Reg) (k : ℕ) → defines r (plain k) ≡ true → defined (op_at ops k) ≡ Some r
   unfolding plain
   definer r k is = is_register_same r (defined (op_at ops k)) is
 
-  stores_in_order : (j k : ℕ) → j < k → k < length ops → is_store (kind (op_at ops j)) ≡ true
-      → is_store (kind (op_at ops k)) ≡ true → due j < due k
+  stores_in_order : (a j k : ℕ) → j < k → k < length ops → writes_to a (plain j) ≡ true → writes_to a (plain k) ≡ true
+      → due j < due k
   unfolding due
-  stores_in_order j k less below first second =
+  stores_in_order a j k less below first second =
+      let one : is_store (kind (op_at ops j)) ≡ true = writer_stores a j first in
+      let other : is_store (kind (op_at ops k)) ≡ true = writer_stores a k second in
+      let count : counts j k ≡ true = keeps.sound.meet j k a less below record {
+        first = writer_touches a j first;
+        second = writer_touches a k second;
+        store = rw one refl;
+      } in
       let order : issue_cycle rows j < issue_cycle rows k =
-      kept_in_order lat ops rows keeps.waits j k below less (store_then_store _ _ first second) in
+      kept_in_order lat ops rows keeps.waits j k below less (kept_where_counted _ _ _ count (store_then_store _ _ one other)) in
       grind (arith, latency_of_store)
 
   registers_same : (i : ℕ) → i < length ops → (r : Reg) → In (used (op_at ops i)) r
@@ -137,31 +153,44 @@ module _ (lat : Latencies) (ops : List Op) (rows : List Row) (memory : List ℤ)
       in_time k less defines_it = used_in_time lat ops rows keeps.waits i k r here less uses defines_it
 
   words_same : (i : ℕ) → i < length ops → reads_memory (kind (op_at ops i)) ≡ true → (a : ℕ)
+      → touched_at memory ops i ≡ Some a
       → word_in memory (arrived (issue_cycle rows i) (log (issue_cycle rows i))) a
       ≡ word_after memory (before memory ops i) a
   unfolding due
-  words_same i here reads a =
+  words_same i here reads a touches =
       ap (written_or (word_at memory a)) (
       look_up_same (writes_to a) plain due i (arrived (issue_cycle rows i) (log (issue_cycle rows i)))
-      (grind (arith, from_arrived, is_before, plain, writer_stores))
-      (λ k less is. in_arrived (issue_cycle rows i) k (omega arith) (in_time k less (writer_stores a k is)))
-      (λ j k less below first second. stores_in_order j k less (omega arith) (writer_stores a j first)
-      (writer_stores a k second))
+      (grind (arith, from_arrived, is_before))
+      (λ k less is. in_arrived (issue_cycle rows i) k (omega arith) (in_time k less is))
+      (λ j k less below first second. stores_in_order a j k less (omega arith) first second)
       ∙ sym (ap (find (writes_to a)) (before_is i)))
     where
-      in_time : (k : ℕ) → k < i → is_store (kind (op_at ops k)) ≡ true → due k ≤ issue_cycle rows i
-      in_time k less stores = stored_in_time lat ops rows keeps.waits i k here less stores reads
+      in_time : (k : ℕ) → k < i → writes_to a (plain k) ≡ true → due k ≤ issue_cycle rows i
+      in_time k less writes =
+          let stores : is_store (kind (op_at ops k)) ≡ true = writer_stores a k writes in
+          stored_where_counted lat ops rows keeps.waits i k here less (keeps.sound.meet k i a less here record {
+            first = writer_touches a k writes;
+            second = touches;
+            store = rw stores refl;
+          }) stores reads
 
-      is_before : (k : ℕ) → k < length ops → issue_cycle rows k < issue_cycle rows i → is_store (kind (op_at ops k))
-          ≡ true → k < i
-      is_before k below early stores = elim (cases_order k i) [
+      is_before : (k : ℕ) → k < length ops → issue_cycle rows k < issue_cycle rows i → writes_to a (plain k) ≡ true
+          → k < i
+      is_before k below early writes = elim (cases_order k i) [
         | inl same ↦ let level : issue_cycle rows k ≡ issue_cycle rows i = ap (issue_cycle rows) same in
             absurd (omega arith)
         | inr differs ↦ elim differs [
           | inl less ↦ less
           | inr more ↦
+              let stores : is_store (kind (op_at ops k)) ≡ true = writer_stores a k writes in
+              let count : counts i k ≡ true = keeps.sound.meet i k a more below record {
+                first = touches;
+                second = writer_touches a k writes;
+                store = or_right _ _ stores;
+              } in
               let after : issue_cycle rows i < issue_cycle rows k =
-              kept_in_order lat ops rows keeps.waits i k below more (read_then_store _ _ reads stores) in
+              kept_in_order lat ops rows keeps.waits i k below more
+              (kept_where_counted _ _ _ count (read_then_store _ _ reads stores)) in
               absurd (omega arith)
         ]
       ]
@@ -217,7 +246,7 @@ module _ (lat : Latencies) (ops : List Op) (rows : List Row) (memory : List ℤ)
     | inr differs ↦ elim differs [
       | inl less ↦
           let order : issue_cycle rows x < issue_cycle rows y =
-          kept_in_order lat ops rows keeps.waits x y second less (output_then_output _ _ one other) in
+          kept_in_order lat ops rows keeps.waits x y second less (output_then_output _ _ _ one other) in
           let back : issue_cycle rows y ≤ issue_cycle rows x = later.later in
           absurd (omega arith)
       | inr more ↦ more
@@ -260,13 +289,13 @@ module _ (lat : Latencies) (ops : List Op) (rows : List Row) (memory : List ℤ)
       look_up_same (writes_to a) plain due (length ops) (log (length rows))
       (λ e there is. let at = from_log (length rows) e there in (at.0, at.1, at.3))
       (λ k below is. in_log (length rows) k below (issued_within ops rows keeps.table k below))
-      (λ j k less below first second. stores_in_order j k less below (writer_stores a j first)
-      (writer_stores a k second))
+      (stores_in_order a)
       ∙ sym (ap (find (writes_to a)) (before_is (length ops))))
 
   pub kept_is_plain : timed_outcome lat ops rows memory ≡ outcome ops memory
   kept_is_plain = grind (arith, faults_same, fun_ext, last_words_same, log_is, outcome_same, outputs_same)
 
-pub timed_is_plain : (lat : Latencies) (ops : List Op) (rows : List Row) (memory : List ℤ) → IsRenamed ops
-    → IsTable ops rows → Waits lat ops rows → timed_outcome lat ops rows memory ≡ outcome ops memory
-timed_is_plain lat ops rows memory renamed table waits = grind (arith, kept_is_plain)
+pub timed_is_plain : (counts : Counts) (lat : Latencies) (ops : List Op) (rows : List Row) (memory : List ℤ)
+    → IsRenamed ops → IsTable ops rows → WaitsWhere counts lat ops rows → IsSoundOn memory counts ops
+    → timed_outcome lat ops rows memory ≡ outcome ops memory
+timed_is_plain counts lat ops rows memory renamed table waits sound = grind (arith, kept_is_plain counts)

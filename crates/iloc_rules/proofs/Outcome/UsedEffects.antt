@@ -1,20 +1,24 @@
 -- An effect depends on the used registers, and on words only where memory is read; for `TimedOutcomes`.
-use Rattle.std.proofs.Common.{◌≡◌, ℕ, ℤ, Bool, true, false, ◌||◌, [], refl, arith}
-use Rattle.std.proofs.lemmas.Bool.{true≢false, false≢true}
+use Rattle.std.proofs.Common.{◌≡◌, ℕ, ℤ, Bool, true, false, ◌||◌, [], Option, Some, None, refl, ap, sym, ◌∙◌, arith}
+use Rattle.std.specs.Prelude.{◌+ℤ◌}
+use Rattle.std.proofs.lemmas.Bool.{true≢false, false≢true, eqb-true}
 use Rattle.iloc_ops.specs.declared.op.Reg.{Reg}
 use Rattle.iloc_ops.specs.declared.op.Op.{Op}
+use Rattle.iloc_ops.specs.declared.op.Op.TheVariants.{Load, LoadAI, Store, StoreAI, Output}
 use Rattle.iloc_ops.specs.Registers.{used}
+use Rattle.iloc_meaning.specs.declared.effect.Effect.{Effect}
 use Rattle.iloc_meaning.specs.declared.effect.Effect.TheVariants.{Gives, Writes, Emits}
 use Rattle.iloc_meaning.specs.Address.{good_address}
+use Rattle.iloc_meaning.specs.Arithmetic.{wrapped, constant}
 use Rattle.iloc_meaning.specs.Effect.{effect, at_address}
 use Rattle.iloc_meaning.specs.Trace.{is_write_to}
 use Rattle.iloc_meaning.specs.Outcome.{emitted_by}
-use Rattle.iloc_meaning.proofs.Effects.{at_address_same, at_address_cases, effect_same}
+use Rattle.iloc_meaning.proofs.Effects.{at_address_cases, effect_same}
 use Rattle.iloc_timed.specs.declared.kind.Kind.{Kind}
-use Rattle.iloc_timed.specs.declared.kind.Kind.TheVariants as K
 use Rattle.iloc_timed.specs.declared.latencies.Latencies.{Latencies}
 use Rattle.iloc_timed.specs.Kinds.{kind, is_load, is_store, is_output}
 use Rattle.iloc_timed.specs.Latency.{latency, latency_of}
+use Rattle.iloc_rules.specs.Sound.{touched}
 use Rattle.iloc_rules.specs.Steps.Members.{In}
 use Rattle.iloc_rules.proofs.Basics.Members.{in_from}
 
@@ -22,15 +26,30 @@ use Rattle.iloc_rules.proofs.Basics.Members.{in_from}
 abbrev pub reads_memory : Kind → Bool
 reads_memory k = is_load k || is_output k
 
--- words are looked at only where memory is read
-words_unread : (op : Op) (reg : Reg → ℤ) (word word' : ℕ → ℤ) → (reads_memory (kind op) ≡ true → (a : ℕ) → word a ≡ word' a)
+-- what is done at an address depends on what would be done at that one alone
+at_one_address : (o : Option ℕ) (act other : ℕ → Effect) → ((a : ℕ) → o ≡ Some a → act a ≡ other a)
+    → at_address o act ≡ at_address o other
+at_one_address None act other same = refl
+at_one_address (Some a) act other same = same a refl
+
+-- words are looked at only where memory is read, and only the one that is touched
+words_unread : (op : Op) (reg : Reg → ℤ) (word word' : ℕ → ℤ)
+    → (reads_memory (kind op) ≡ true → (a : ℕ) → touched op reg ≡ Some a → word a ≡ word' a)
     → effect op reg word ≡ effect op reg word'
-words_unread op reg word word' words = grind (arith, at_address_same)
+words_unread (Load addr dest) reg word word' words =
+    at_one_address (good_address (reg addr)) _ _ (λ a is. ap Gives (words refl a is))
+words_unread (LoadAI addr offset dest) reg word word' words =
+    at_one_address (good_address (wrapped (reg addr +ℤ constant offset))) _ _ (λ a is. ap Gives (words refl a is))
+words_unread (Output addr) reg word word' words =
+    at_one_address (good_address (constant addr)) _ _ (λ a is. ap Emits (words refl a is))
+words_unread _ reg word word' words = refl
 
 pub effect_used : (op : Op) (reg reg' : Reg → ℤ) (word word' : ℕ → ℤ) → ((r : Reg) → In (used op) r → reg r ≡ reg' r)
-    → (reads_memory (kind op) ≡ true → (a : ℕ) → word a ≡ word' a) → effect op reg word ≡ effect op reg' word'
+    → (reads_memory (kind op) ≡ true → (a : ℕ) → touched op reg' ≡ Some a → word a ≡ word' a)
+    → effect op reg word ≡ effect op reg' word'
 effect_used op reg reg' word word' regs words =
-    grind (arith, effect_same op reg reg' word word, in_from (used op), words_unread op reg' word word' words)
+    effect_same op reg reg' word word (λ r there. regs r (in_from (used op) r there)) (λ a good. refl)
+    ∙ words_unread op reg' word word' words
 
 load_writes_not : (z : ℤ) (word : ℕ → ℤ) (a : ℕ) → is_write_to a (at_address (good_address z) (λ b. Gives (word b)))
     ≡ false
@@ -39,6 +58,24 @@ load_writes_not z word a = at_address_cases (λ e. is_write_to a e ≡ false) z 
 output_writes_not : (z : ℤ) (word : ℕ → ℤ) (a : ℕ) → is_write_to a (at_address (good_address z) (λ b. Emits (word b)))
     ≡ false
 output_writes_not z word a = grind (arith, at_address_cases)
+
+-- what is written is written where it is touched
+written_there : (o : Option ℕ) (value : ℤ) (a : ℕ) → is_write_to a (at_address o (λ b. Writes b value)) ≡ true
+    → o ≡ Some a
+written_there o value a writes = grind (arith, eqb-true)
+
+pub writes_touch : (op : Op) (reg : Reg → ℤ) (word : ℕ → ℤ) (a : ℕ) → is_write_to a (effect op reg word) ≡ true
+    → touched op reg ≡ Some a
+writes_touch (Store value addr) reg word a writes = written_there (good_address (reg addr)) (reg value) a writes
+writes_touch (StoreAI value addr offset) reg word a writes =
+    written_there (good_address (wrapped (reg addr +ℤ constant offset))) (reg value) a writes
+writes_touch (Load addr dest) reg word a writes =
+    absurd (false≢true (sym (load_writes_not (reg addr) word a) ∙ writes))
+writes_touch (LoadAI addr offset dest) reg word a writes =
+    absurd (false≢true (sym (load_writes_not (wrapped (reg addr +ℤ constant offset)) word a) ∙ writes))
+writes_touch (Output addr) reg word a writes =
+    absurd (false≢true (sym (output_writes_not (constant addr) word a) ∙ writes))
+writes_touch _ reg word a writes = absurd (false≢true writes)
 
 -- what writes is a store
 pub only_stores_write : (op : Op) (reg : Reg → ℤ) (word : ℕ → ℤ) (a : ℕ) → is_write_to a (effect op reg word) ≡ true

@@ -1,5 +1,5 @@
 -- Two sources of a numbering have two places; for `rename` (`once`, `outcome`).
-use Rattle.std.proofs.Common.{◌≡◌, ◌≢◌, ◌+◌, ◌||◌, true, false, List, [], ◌∷◌, ◌++◌, ap, arith, eq-eqb, inl, inr}
+use Rattle.std.proofs.Common.{◌≡◌, ◌≢◌, ◌||◌, true, false, List, [], ◌∷◌, ◌++◌, ap, arith, eq-eqb, inl, inr}
 use Rattle.std.proofs.lemmas.Bool.{eqb-true, or_right}
 use Rattle.std.specs.List.{list_any}
 use Rattle.iloc_ops.specs.declared.op.Reg.{Reg}

@@ -4,12 +4,17 @@ use Rattle.iloc_ops.specs.declared.op.Op.{Op}
 use Rattle.iloc_timed.specs.declared.latencies.Latencies.{Latencies}
 use Rattle.iloc_timed.specs.declared.row.Row.{Row}
 use Rattle.iloc_timed.specs.Rows.{row_at}
-use Rattle.iloc_rules.specs.Greedy.{ready, chosen}
+use Rattle.iloc_rules.specs.Delays.{Counts, all_count}
+use Rattle.iloc_rules.specs.Greedy.{ready_where, chosen}
 
--- each row so far is the choice, by these priorities, from what was ready
+-- each row so far is the choice, by these priorities, from what was ready, where these count
+abbrev pub IsChosenWhere : Counts → List ℕ → Latencies → List Op → List Row → Type 0
+IsChosenWhere counts prios lat ops rows =
+    (c : ℕ) → c < length rows → row_at rows c ≡ chosen ops prios (ready_where counts lat ops rows c)
+
+-- the same where all count
 abbrev pub IsChosenSoFar : List ℕ → Latencies → List Op → List Row → Type 0
-IsChosenSoFar prios lat ops rows =
-    (c : ℕ) → c < length rows → row_at rows c ≡ chosen ops prios (ready lat ops rows c)
+IsChosenSoFar = IsChosenWhere all_count
 
 -- operation i has the higher priority, or the same and no higher number
 abbrev pub GoesBefore : List ℕ → ℕ → ℕ → Type 0
