@@ -5,8 +5,8 @@ ghost use Rattle.iloc_driver.specs.Run.{Lists};
 ghost use Rattle.iloc_driver.specs.Run.Causes.{IsCaused, of_reading};
 
 use iloc_driver::{Finding, Listed, RunFault};
-use iloc_listing::Listing;
 use iloc_lint::report_of;
+use iloc_listing::Listing;
 use iloc_text::read_text_from;
 use std::alloc::Global;
 use std::io::Read;

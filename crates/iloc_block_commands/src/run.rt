@@ -13,8 +13,8 @@ ghost use Rattle.iloc_listing.specs.Listing.{block_head};
 
 use iloc_args::Request;
 use iloc_driver::{Lister, initial_memory};
-use iloc_listing::{push_block_head, push_outcome};
 use iloc_fault::{FaultFinder, FaultPlace};
+use iloc_listing::{push_block_head, push_outcome};
 use iloc_meaning::Interpreter;
 use iloc_ops::{Block, NoMemory, Op, push_number, push_op};
 use std::alloc::Global;

@@ -11,13 +11,13 @@ ghost use Rattle.iloc_driver.specs.Priorities.{AreFor, AreIn, Own};
 ghost use Rattle.iloc_rules.specs.Renaming.{without_nops};
 
 use crate::fault::{FarmFault, RunFault};
-use iloc_listing::Listing;
 use crate::reading::priorities::Priorities;
 use crate::reading::read_ranked;
 use crate::reading::texts::Texts;
 use crate::workers::farm_out;
 use iloc_args::Request;
 use iloc_board::{AtDesk, FreeGate, Jobs, NoMemory, Receipt};
+use iloc_listing::Listing;
 use iloc_ops::{Block, Blocks, NoMemory as NoText};
 use std::alloc::Global;
 use std::io::Read;

@@ -8,8 +8,8 @@ ghost use Rattle.iloc_driver.specs.Entries.{IsListingOf, ListsRead, Adds};
 ghost use Rattle.iloc_driver.specs.Run.Causes.{IsCaused, of_file};
 
 use crate::fault::RunFault;
-use iloc_listing::Listing;
 use iloc_args::Request;
+use iloc_listing::Listing;
 use iloc_meaning::Memory;
 use iloc_ops::{Block, NoMemory};
 use iloc_text::laws::files_are_within_limits;

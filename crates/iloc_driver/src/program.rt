@@ -9,11 +9,11 @@ ghost use Rattle.iloc_driver.specs.Run.{EndsRun, ListsFrom};
 
 use crate::commands::{Commands, Finding, Listed};
 use crate::fault::{RunFault, run_status};
-use iloc_listing::{WriteFailed, write_text};
 use crate::reading::texts::Texts;
 use arrayvec::ArrayString;
 use iloc_args::{LineFault, Request, line_status, parse_line};
 use iloc_board::Receipt;
+use iloc_listing::{WriteFailed, write_text};
 use std::alloc::{AllocError, Global};
 use std::env::Args;
 use std::fmt::{Display, Write as _};

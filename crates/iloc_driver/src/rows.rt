@@ -18,10 +18,10 @@ ghost use Rattle.iloc_driver.specs.Entries.{Adds};
 
 use crate::commands::{Finding, Listed};
 use crate::fault::RunFault;
-use iloc_listing::Listing;
 use crate::reading::task::submission_apart;
 use crate::reading::texts::Texts;
 use iloc_args::Request;
+use iloc_listing::Listing;
 use iloc_ops::{Block, NoMemory};
 use iloc_rows::laws::{placed_rows_are_within_limits, submissions_are_within_limits};
 use iloc_rows::{Proposal, RowsFault, Submission, read_submission};

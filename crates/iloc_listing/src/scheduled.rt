@@ -4,8 +4,8 @@ ghost use Rattle.std.specs.List.{flat_map};
 ghost use Rattle.iloc_ops.specs.Limits.{MAX_BLOCKS};
 ghost use Rattle.iloc_listing.specs.Listing as listed;
 
-use crate::text::{FoldedText, Listing, ScheduleEntry};
 use crate::lines::{count_of, push_numbered, push_schedule, push_total};
+use crate::text::{FoldedText, Listing, ScheduleEntry};
 use bytes::BytesMut;
 use iloc_ops::{Block, NoMemory};
 use iloc_timed::{Latencies, RowWriter, Schedule};
