@@ -72,6 +72,17 @@ WRITTEN = (
     by_form("to_immediate", *(((by, X, K), lambda a, k, by=by: (f"{by}I", a, k)) for by in COMPUTED)),
     by_form("folded", (("add", K, K), lambda a, b: ("loadI", a + b))),
     by_form("made_shifts", (("multI", X, X), lambda a, k: k in POWERS and ("lshiftI", a, POWERS[k]))))
+OTHERWISE = (
+    by_form("from_immediate", *(((f"{by}I", X, X), lambda a, k, by=by: (by, a, ("loadI", k))) for by in COMPUTED)),
+    by_form("made_products", (("lshiftI", X, X), lambda a, k: k < 31 and ("multI", a, 1 << k))),
+    by_form("left_shift_split", (("lshiftI", X, X), lambda a, k: k > 1 and ("lshiftI", ("lshiftI", a, 1), k - 1))),
+    by_form("amounts_and_32", *(((by, X, X), lambda a, k, by=by: (by, a, k + 32)) for by in ("lshiftI", "rshiftI"))),
+    by_form("negative_added", (("sub", X, X), lambda a, b: ("add", a, ("sub", ZERO, b)))),
+    by_form("copied", (("add", X, X), lambda a, b: ("addI", ("add", a, b), 0))),
+    by_form("addresses_added", (("loadAI", X, X), lambda a, k: ("load", ("addI", a, k))),
+            (("storeAI", X, X, X), lambda value, a, k: ("store", value, ("addI", a, k)))),
+    by_form("addresses_known", (("loadAI", K, X), lambda a, k: ("load", ("loadI", a + k))),
+            (("storeAI", X, K, X), lambda value, a, k: ("store", value, ("loadI", a + k)))))
 POLYNOMIALS = (
     by_form("difference_negated", (("sub", X, X), lambda a, b: ("sub", ZERO, ("sub", b, a)))),
     by_form("difference_regrouped", (("sub", X, ("sub", X, X)), lambda a, b, c: ("add", ("sub", a, b), c))),

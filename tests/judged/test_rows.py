@@ -52,6 +52,19 @@ POLYNOMIALS = {
     "shifts_to_the_right": ("rshiftI r2, 1 => r5\nrshiftI r5, 2 => r5\n", "rshiftI r2, 3 => r5\n"),
     "sign_alone": ("rshiftI r2, 20 => r5\nrshiftI r5, 20 => r5\n", "rshiftI r2, 31 => r5\n"),
 }
+# Accesses at two unknown addresses, and others that fault on the same memories and leave the same words.
+ACCESSES = {
+    "stores_of_one_word_exchanged": ("store r2 => r3\nstore r2 => r4\n", "store r2 => r4\nstore r2 => r3\n"),
+    "stores_of_one_word_to_two_words_each": (
+        "store r2 => r3\nstoreAI r2 => r3, 4\nstore r2 => r4\nstoreAI r2 => r4, 4\n",
+        "storeAI r2 => r4, 4\nstore r2 => r3\nstore r2 => r4\nstoreAI r2 => r3, 4\n"),
+    "load_past_stores_of_one_word": ("store r2 => r3\nstore r2 => r4\nload r3 => r5\n" + STORED,
+                                     "store r2 => r4\nstore r2 => r3\nstore r2 => r1\n"),
+    "store_overwritten_after_another": ("store r2 => r3\nstore r1 => r4\nstore r9 => r3\n",
+                                        "store r1 => r4\nstore r9 => r3\n"),
+    "load_between_two": ("load r3 => r5\nloadAI r3, 4 => r6\nloadAI r3, 8 => r5\n" + STORED,
+                         "load r3 => r5\nloadAI r3, 8 => r5\n" + STORED),
+}
 # A block, somebody's operations that do the same, six cycles apart, and the verdict.
 SAME = {
     "itself": (LOADS_AND_STORES, LOADS_AND_STORES, "lawful"),
@@ -71,6 +84,7 @@ SAME = {
     "outputs": (TWO_OUTPUTS, TWO_OUTPUTS, "lawful"),
     "square": (SQUARE, SQUARE, "lawful"),
     **{name: (THREE + one + STORED, THREE + other + STORED, "same") for name, (one, other) in POLYNOMIALS.items()},
+    **{name: (THREE + one, THREE + other, "same") for name, (one, other) in ACCESSES.items()},
 }
 
 # A block, and somebody's operations that do something else on some memory.
@@ -78,7 +92,7 @@ UNLIKE = {
     "another_sum": (SUM, TWICE_DOUBLED + "addI r4, 13 => r4\nstore r4 => r1\n"),
     "word_that_was_not_stored": (LOADS_ELSEWHERE, FORWARDED),
     # A store to a known address stays where it is, before one to an unknown one.
-    "stores_exchanged": (LOADED + "store r1 => r1\nstore r1 => r2\n", LOADED + "store r1 => r2\nstore r1 => r1\n"),
+    "stores_exchanged": (LOADED + "store r1 => r1\nstore r9 => r2\n", LOADED + "store r9 => r2\nstore r1 => r1\n"),
     # A load whose result nobody uses can fault, where its address isn't known.
     "load_left_out": (UNUSED_LOAD, LOADED + "output 8\n"),
     "load_added": ("output 8\n", UNUSED_LOAD),

@@ -1,6 +1,7 @@
 //! A table of terms.
 ghost use Rattle.std.specs.Prelude.{◌≡◌, [], length, true, IfSome, IfOk};
 
+mod alike;
 mod epochs;
 mod memories;
 pub(crate) mod node;

@@ -1,5 +1,5 @@
 -- Words read from an epoch, and where addresses are.
-use Rattle.std.proofs.Common.{◌≡◌, ℕ, ◌==◌, true, false, Option, List, ℤ, unwrap_or, FitsSigned, w32, sym, ◌∙◌, eq-eqb, ne_eqb, arith}
+use Rattle.std.proofs.Common.{◌≡◌, ℕ, ◌==◌, true, false, Option, Some, None, List, ℤ, unwrap_or, FitsSigned, w32, refl, sym, ◌∙◌, eq-eqb, ne_eqb, arith}
 use Rattle.std.specs.Int.{cast_unsigned}
 use Rattle.std.specs.Prelude.{not, nat_eq}
 use Rattle.std.specs.Option.{option_eq}
@@ -41,3 +41,10 @@ read_at_location words nodes d memory before trie address key base found meaning
 -- two bases that the code finds equal
 pub same_base : (one other : Option ℕ) → not (option_eq nat_eq one other) ≡ false → one ≡ other
 same_base one other is = grind (arith, eqb-true)
+
+-- what two may write, if only one word, may change places
+pub alike_exchanged : (one other : Option ℤ) (word before : ℤ) → unwrap_or one word ≡ word → unwrap_or other word ≡ word
+    → unwrap_or one (unwrap_or other before) ≡ unwrap_or other (unwrap_or one before)
+alike_exchanged None other word before one_is other_is = refl
+alike_exchanged (Some a) None word before one_is other_is = refl
+alike_exchanged (Some a) (Some b) word before one_is other_is = one_is ∙ sym other_is

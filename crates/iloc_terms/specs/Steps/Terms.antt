@@ -105,6 +105,10 @@ IsUnion d under over (Some new) =
     (key : ℕ) (word : ℤ)
     → unwrap_or (d.entry new key) word ≡ unwrap_or (d.entry over key) (unwrap_or (d.entry under key) word)
 
+-- the trie has no other word than this one
+abbrev pub HasOnly : Meaning → ℕ → ℕ → Type 0
+HasOnly d trie value = (key : ℕ) → unwrap_or (d.entry trie key) (d.word value) ≡ d.word value
+
 -- the memory has the words of a trie above a base, and else those of another memory
 abbrev pub IsOver : Meaning → ℕ → Option ℕ → ℕ → ℕ → Type 0
 IsOver d memory base trie new =

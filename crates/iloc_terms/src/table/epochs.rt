@@ -11,7 +11,7 @@ use iloc_ops::NoMemory;
 
 impl Table {
     /// A memory with the words of a trie in its last epoch; `None` where that has another base.
-    fn over_in_last(
+    pub(super) fn over_in_last(
         &mut self,
         memory: u32,
         base: Option<u32>,
@@ -54,10 +54,13 @@ impl Table {
         if self.is_empty(trie) {
             return Ok(memory);
         }
-        match self.over_in_last(memory, base, trie)? {
-            Some(number) => Ok(number),
-            None => self.intern(Node::Epoch { memory, base, trie }),
+        if let Some(number) = self.over_in_last(memory, base, trie)? {
+            return Ok(number);
         }
+        if let Some(number) = self.over_alike(memory, base, trie)? {
+            return Ok(number);
+        }
+        self.epoch(memory, base, trie)
     }
 
     /// A trie to be written over a memory, without a word that is there already.

@@ -46,7 +46,7 @@ impl Table {
     }
 
     /// What the last epoch of a memory says of an address.
-    fn seen(&self, memory: u32, address: u32) -> LoadSource
+    pub(super) fn seen(&self, memory: u32, address: u32) -> LoadSource
         ensures { (words : List ℤ) (d : Meaning) → IsMeaning words self.now d → IsSeen d memory address result }
     {
         let Some(
@@ -74,11 +74,15 @@ impl Table {
     pub(crate) fn word(&mut self, memory: u32, address: u32) -> Result<u32, NoMemory>
         ensures { IfOk result (λ n. Adds self.old self.new (λ _ d. d.word n ≡ d.words memory (d.word address))) }
     {
+        let reach = self.reach();
+        if let Some(word) = self.stored(memory, address, reach) {
+            return Ok(word);
+        }
         match self.seen(memory, address) {
             LoadSource::Written(value) => Ok(value),
             LoadSource::In(memory) => {
                 let at = self.location(address);
-                let memory = self.narrowed(memory, at, self.reach())?;
+                let memory = self.narrowed(memory, at, reach)?;
                 self.intern(Node::Word { address, memory })
             }
         }
@@ -102,16 +106,15 @@ impl Table {
         ensures { IfOk result (λ yes. Adds self.old self.new (λ _ d.
             yes ≡ true → d.word value ≡ d.words memory (d.word address))) }
     {
-        match self.seen(memory, address) {
-            LoadSource::Written(word) => Ok(word == value),
-            LoadSource::In(_) => {
-                if !self.is_from(value, address) {
-                    return Ok(false);
-                }
-                let word = self.word(memory, address)?;
-                Ok(word == value)
-            }
+        let reach = self.reach();
+        if let Some(word) = self.stored(memory, address, reach) {
+            return Ok(word == value);
         }
+        if !self.is_from(value, address) {
+            return Ok(false);
+        }
+        let word = self.word(memory, address)?;
+        Ok(word == value)
     }
 
     /// A memory with a word written at an address, which isn't the one there.
