@@ -28,7 +28,7 @@ pub(crate) struct Table {
     // looks whether it does.
     forks: BTreeMap<u64, u32>,
     numbers: BTreeMap<u128, u32>,
-    // How many terms it may still make or find before its memories are no longer put in order.
+    // How many terms it may still make or find before products, long sums and memories are no longer put in order.
     steps: usize,
 }
 
@@ -45,7 +45,7 @@ impl Table {
     ghost use Rattle.iloc_terms.specs.Steps.Terms.{IsNode, Means, Adds};
     ghost use Rattle.iloc_terms.specs.Steps.Order.{IsOrdered};
 
-    /// The table without terms, whose memories are put in order for so many steps: terms made or found.
+    /// The table without terms. Products, long sums and memories are put in order for so many steps: terms made or found.
     pub(crate) fn new(alloc: Global, steps: usize) -> Table
         ensures { result ≡ [] }
     {
@@ -60,6 +60,11 @@ impl Table {
     /// How many epochs of a memory may be looked at.
     fn reach(&self) -> usize {
         self.steps.min(REACH)
+    }
+
+    /// Whether it has a step left.
+    fn has_steps(&self) -> bool {
+        self.steps > 0
     }
 
     /// Takes a step, if there is one more.

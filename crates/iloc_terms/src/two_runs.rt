@@ -14,7 +14,7 @@ use iloc_ops::NoMemory;
 use iloc_timed::{Latencies, Schedule};
 use std::alloc::Global;
 
-/// How many steps memories may take to be put in order, for each term of the plain runs.
+/// How many steps terms may take to be put in order, for each term of the plain runs.
 const STEPS_PER_TERM: usize = 4;
 
 /// How many more they may take in each block.
@@ -40,7 +40,7 @@ struct TwoRuns {
 }
 
 impl TwoRuns {
-    /// The runs of two schedules, whose memories may take so many steps to be put in order.
+    /// The runs of two schedules, whose terms may take so many steps to be put in order.
     fn of(
         alloc: Global,
         steps: usize,
@@ -80,7 +80,7 @@ impl TwoRuns {
     }
 }
 
-/// What is seen of two schedules by runs whose memories may take so many steps to be put in order, and how many
+/// What is seen of two schedules by runs whose terms may take so many steps to be put in order, and how many
 /// terms they have.
 fn seen(
     alloc: Global,
@@ -103,8 +103,8 @@ fn seen(
     Ok((Agreement::Unseen(runs.mentions(alloc)?), terms))
 }
 
-/// Compares two schedules by their runs in terms: by outcomes or by outputs alone. First memories stay as they are
-/// written, then they are put in order: that costs more, and may lack steps.
+/// Compares two schedules by their runs in terms: by outcomes or by outputs alone. First terms stay as they are
+/// made, then they are put in order: that costs more, and may lack steps.
 ///
 /// Promise: those that are found to agree do so on every memory.
 pub fn compare(

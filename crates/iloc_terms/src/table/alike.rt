@@ -43,7 +43,12 @@ impl Table {
     }
 
     /// A memory with an epoch of a trie's words over it.
-    pub(super) fn epoch(&mut self, memory: u32, base: Option<u32>, trie: u32) -> Result<u32, NoMemory>
+    pub(super) fn epoch(
+        &mut self,
+        memory: u32,
+        base: Option<u32>,
+        trie: u32,
+    ) -> Result<u32, NoMemory>
         ensures { IfOk result (λ n. Adds self.old self.new (λ _ d. IsOver d memory base trie n)) }
     {
         self.intern(Node::Epoch { memory, base, trie })

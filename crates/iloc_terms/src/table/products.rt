@@ -199,10 +199,13 @@ impl Table {
         self.multiplied_out(left, right, MOST_PAIRS)
     }
 
-    /// The product of two words, multiplied out if there are few pairs of their terms.
+    /// The product of two words, multiplied out if there are few pairs of their terms, and steps.
     fn product_of_parts(&mut self, left: u32, right: u32) -> Result<Option<u32>, NoMemory>
         ensures { IfOk result (λ product. Adds self.old self.new (λ _ d. IsProduct d product left right)) }
     {
+        if !self.has_steps() {
+            return Ok(None);
+        }
         let one = self.parts(left);
         let other = self.parts(right);
         let Some(bases) = self.product_of_bases(one.base, other.base)? else {

@@ -9,8 +9,11 @@ use iloc_meaning::arithmetic;
 use iloc_ops::NoMemory;
 use std::cmp::Ordering;
 
-/// How many terms a sum or a multiple copies at most. Where more would be copied, a base is an atom itself.
+/// How many terms a sum or a multiple copies at most while there are steps, and without. Where more would be copied, a
+/// base is an atom itself.
 const MOST_COPIED: u32 = 32;
+
+const FEW_COPIED: u32 = 1;
 
 /// The first term of a base, and the base of the others.
 #[derive(Clone, Copy)]
@@ -30,6 +33,15 @@ struct FirstTerm {
 }
 
 impl Table {
+    /// How many terms a sum or a multiple may copy.
+    fn most_copied(&self) -> u32 {
+        if self.has_steps() {
+            MOST_COPIED
+        } else {
+            FEW_COPIED
+        }
+    }
+
     /// A base as a term and a rest.
     pub(super) fn term(&self, base: u32) -> Term
         ensures { (memory : List ℤ) (d : Meaning) → IsMeaning memory self.now d
@@ -137,7 +149,8 @@ impl Table {
         ensures { IfOk result (λ base. Adds self.old self.new (λ _ d.
             base_word d base ≡ wrapped (base_word d left +ℤ base_word d right))) }
     {
-        if let Some(sum) = self.merged(left, right, MOST_COPIED)? {
+        let most = self.most_copied();
+        if let Some(sum) = self.merged(left, right, most)? {
             return Ok(sum);
         }
         let Some(one) = left else {
@@ -187,7 +200,8 @@ impl Table {
         let Some(some) = base else {
             return Ok(None);
         };
-        match self.multiple(base, by, MOST_COPIED)? {
+        let most = self.most_copied();
+        match self.multiple(base, by, most)? {
             Some(multiple) => Ok(multiple),
             None => self.with_term(None, some, by),
         }
