@@ -9,10 +9,10 @@ use iloc_meaning::arithmetic;
 use iloc_ops::NoMemory;
 use std::cmp::Ordering;
 
-/// How many terms a sum or a multiple copies at most while there are steps, and without. Where more would be copied, a
-/// base is an atom itself.
+/// How many terms a sum or a multiple copies at most. Where more would be copied, a base is an atom itself.
 const MOST_COPIED: u32 = 32;
 
+/// How many it copies at most without steps.
 const FEW_COPIED: u32 = 1;
 
 /// The first term of a base, and the base of the others.
