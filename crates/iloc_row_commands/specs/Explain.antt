@@ -13,6 +13,7 @@ use Rattle.iloc_listing.specs.Schedules.{IsTheGreedy}
 use Rattle.iloc_driver.specs.declared.commands.Finding.{Finding}
 use Rattle.iloc_args.specs.declared.request.Request.{Request}
 use Rattle.iloc_rows.specs.EitherSlot.{placed}
+pub mod Departure
 pub mod Explained
 
 -- The entry of block k and its proposal: the block's number and its name, and what explains the proposal, beside the block's

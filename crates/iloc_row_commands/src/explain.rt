@@ -5,6 +5,7 @@ ghost use Rattle.iloc_ops.specs.Limits.{MAX_BLOCKS};
 ghost use Rattle.iloc_row_commands.specs.declared.explain.explained.ExplainedRows.{ExplainedRows as explained_rows};
 ghost use Rattle.iloc_listing.specs.Limits.{most_proposed_cycles};
 
+mod departure;
 mod explained;
 
 use explained::{ExplainedRows, KnownBlock, push_rows_explanation};
@@ -89,11 +90,12 @@ impl RowLister for RowsExplainer {
         let known = KnownBlock {
             block,
             graph: &self.graph,
+            heuristic: priority,
             ours: &ours,
             latencies,
             blocks: self.blocks,
         };
-        let found = push_rows_explanation(alloc, text, &known, proposal, priority)?;
+        let found = push_rows_explanation(alloc, text, &known, proposal)?;
         self.scheduler.take_back(ours);
         Ok(found)
     }

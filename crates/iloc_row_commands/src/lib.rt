@@ -4,6 +4,7 @@
 mod check;
 mod explain;
 mod json;
+pub mod laws;
 mod totals;
 mod trace;
 

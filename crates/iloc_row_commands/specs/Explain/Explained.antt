@@ -9,6 +9,7 @@ use Rattle.iloc_timed.specs.Schedule.{Table, IsFirstBadRow}
 use Rattle.iloc_rows.specs.declared.proposal.Proposed.{Proposed}
 use Rattle.iloc_rows.specs.declared.proposal.unread.Unread.{Unread}
 use Rattle.iloc_rules.specs.declared.heuristic.Heuristic.{Heuristic}
+use Rattle.iloc_rules.specs.Heuristics.{priorities_by}
 use Rattle.iloc_rules.specs.Renaming.{without_nops}
 use Rattle.iloc_validation.specs.ByTheBook.{IsByTheBook, IssueTheSame}
 use Rattle.iloc_validation.specs.OwnRows.{AreOwnRows}
@@ -16,17 +17,22 @@ use Rattle.iloc_explain.specs.Listing.{IsExplanation}
 use Rattle.iloc_facts.specs.declared.fact.Reasons.{Reasons}
 use Rattle.iloc_facts.specs.Reasons.{AreReasons}
 use Rattle.iloc_row_commands.specs.declared.explain.explained.ExplainedRows.{ExplainedRows}
+use Rattle.iloc_row_commands.specs.Explain.Departure.{departure, departure_line}
 use Rattle.iloc_verdict.specs.Entry.Listing.{bad_row}
 use Rattle.iloc_verdict.specs.Entry.Reasons.{reasons_told}
 use Rattle.iloc_verdict.specs.Unread.{IsUnreadLine}
 
--- Rows by the book are explained by the block's own operations in their slots, beside which the lines show what is issued.
+-- Rows by the book are explained by the block's own operations in their slots, beside which the lines show what is issued; then
+-- comes the first row that leaves the greedy choice, if one does.
 pub record AreExplainedBy (heuristic : Heuristic) (lat : Latencies) (block ops : List Op) (rows : List Row) (text : List ℕ)
     : Type 0 where
   pub own : Table
   pub issued : List Op
   pub are_own : AreOwnRows lat block ops rows own issued
-  pub explains : IsExplanation heuristic lat block own.ops own.rows issued text
+  pub explanation : List ℕ
+  pub explains : IsExplanation heuristic lat block own.ops own.rows issued explanation
+  pub listed : text
+      ≡ explanation ++ departure_line issued (departure (priorities_by heuristic lat own.ops) lat own.ops own.rows)
 
 -- `  not lawful`, and below it why
 abbrev pub not_lawful : List ℕ → List ℕ

@@ -1,13 +1,18 @@
 //! Why the rows that are proposed for a block take their cycles.
 ghost use Rattle.std.specs.Prelude.{ℕ, ◌≡◌, ◌≤◌, ◌<◌, ◌++◌, true, List, length, IfOk, OnOk};
 ghost use Rattle.iloc_timed.specs.Rows.{IsTable};
-ghost use Rattle.iloc_rules.specs.Lawful.{IsLawful};
+ghost use Rattle.iloc_rules.specs.Greedy.{IsGreedyBy};
+ghost use Rattle.iloc_rules.specs.Heuristics.{priorities_by};
+ghost use Rattle.iloc_rules.specs.Renaming.{renamed};
+ghost use Rattle.iloc_explain.specs.Listing.{IsExplanation};
 ghost use Rattle.iloc_sched.specs.Graph.GraphOf.{of_block};
 ghost use Rattle.iloc_validation.specs.ByTheBook.{IssueTheSame};
 ghost use Rattle.iloc_verdict.specs.Entry.Listing.{bad_row};
 ghost use Rattle.iloc_verdict.specs.Entry.Reasons.{reasons_told};
+ghost use Rattle.iloc_row_commands.specs.Explain.Departure.{departure, departure_line};
 ghost use Rattle.iloc_row_commands.specs.Explain.Explained.{not_lawful, IsRowsExplanation, IsSaidOf, HaveUnread};
 
+use crate::explain::departure::{departure_of, push_departure};
 use iloc_facts::Reasons;
 use iloc_ops::{Block, NoMemory, Op};
 use iloc_reasons::reasons_of;
@@ -15,7 +20,7 @@ use iloc_rows::{Proposal, Unread};
 use iloc_rules::Heuristic;
 use iloc_sched::Graph;
 use iloc_timed::{Latencies, MAX_ROWS, Row, Schedule, cycles_of};
-use iloc_validation::{Decision, decide, own_rows};
+use iloc_validation::{Decision, OwnRows, decide, own_rows};
 use iloc_verdict::{push_bad_row, push_reasons, push_unread_line};
 use iloc_view_commands::explain_by_graph;
 use std::alloc::Global;
@@ -26,13 +31,16 @@ pub(crate) struct KnownBlock<'a> {
     pub(crate) block: &'a Block,
     /// Its graph.
     pub(crate) graph: &'a Graph,
-    /// Our schedule of it.
+    /// By what our schedule of it is greedy.
+    pub(crate) heuristic: Heuristic,
+    /// That schedule.
     pub(crate) ours: &'a Schedule,
     /// The latencies of the machine.
     pub(crate) latencies: &'a Latencies,
     /// How many blocks there are.
     pub(crate) blocks: usize,
-    pub(crate) ghost lawful: { IsLawful latencies.now block.now.ops ours.now.ops ours.now.rows },
+    pub(crate) ghost greedy: { IsGreedyBy (priorities_by heuristic latencies.now ours.now.ops) latencies.now block.now.ops
+        ours.now.ops ours.now.rows },
     pub(crate) ghost drawn: { graph.now ≡ of_block latencies.now block.now.ops },
 }
 
@@ -71,19 +79,40 @@ fn push_unread_rows(alloc: Global, text: &mut Vec<u8>, unread: &Unread) -> Resul
     push_unread_line(alloc, text, unread)
 }
 
+/// Appends what explains rows by the book, in the block's own numbers, and where they leave the greedy choice.
+fn push_own(
+    alloc: Global,
+    text: &mut Vec<u8>,
+    known: &KnownBlock<'_>,
+    own: &OwnRows,
+) -> Result<(), NoMemory>
+    requires names { own.now.schedule.ops ≡ renamed known.now.block.now.ops }
+    requires issued { length own.now.issued.items ≡ length own.now.schedule.ops }
+    ensures { OnOk result ((explanation : List ℕ)
+        × IsExplanation known.now.heuristic known.now.latencies.now known.now.block.now.ops own.now.schedule.ops
+        own.now.schedule.rows own.now.issued.items explanation
+        × (text.new.items ≡ text.old.items ++ explanation ++ departure_line own.now.issued.items
+        (departure (priorities_by known.now.heuristic known.now.latencies.now own.now.schedule.ops) known.now.latencies.now
+        own.now.schedule.ops own.now.schedule.rows))) }
+{
+    let (schedule, issued) = (&own.schedule, &own.issued);
+    let (block, graph) = (known.block, known.graph);
+    explain_by_graph(alloc, text, block, graph, schedule, issued, known.heuristic)?;
+    push_departure(text, departure_of(schedule, known.ours), issued)
+}
+
 /// Appends what is said of a schedule that somebody made for a block, beside ours, and answers whether it is by the book.
 fn push_said(
     alloc: Global,
     text: &mut Vec<u8>,
     known: &KnownBlock<'_>,
     theirs: &Schedule,
-    heuristic: Heuristic,
 ) -> Result<bool, NoMemory>
     requires table { IsTable theirs.now.ops theirs.now.rows }
     requires few_rows { length theirs.now.rows ≤ MAX_ROWS }
     ensures said { IfOk result (λ is_lawful. (entry : List ℕ)
-        × IsSaidOf is_lawful heuristic known.now.latencies.now known.now.block.now.ops theirs.now.ops theirs.now.rows
-        entry × (text.new.items ≡ text.old.items ++ entry)) }
+        × IsSaidOf is_lawful known.now.heuristic known.now.latencies.now known.now.block.now.ops theirs.now.ops
+        theirs.now.rows entry × (text.new.items ≡ text.old.items ++ entry)) }
     ensures own { IfOk result (λ is_lawful.
         IssueTheSame known.now.ours.now.ops known.now.ours.now.rows theirs.now.ops theirs.now.rows
         → is_lawful ≡ true) }
@@ -92,8 +121,7 @@ fn push_said(
     match decide(alloc, block, known.ours, theirs, latencies, known.blocks)? {
         Decision::Lawful(pairing) => {
             let own = own_rows(alloc, block, theirs, known.ours.ops(), &pairing)?;
-            let (schedule, issued) = (&own.schedule, &own.issued);
-            explain_by_graph(alloc, text, block, known.graph, schedule, issued, heuristic)?;
+            push_own(alloc, text, known, &own)?;
             Ok(true)
         }
         Decision::Unlawful => {
@@ -115,11 +143,10 @@ fn push_read_rows(
     text: &mut Vec<u8>,
     known: &KnownBlock<'_>,
     proposal: Proposal,
-    heuristic: Heuristic,
 ) -> Result<bool, NoMemory>
     ensures said { IfOk result (λ is_lawful. (entry : List ℕ)
-        × IsSaidOf is_lawful heuristic known.now.latencies.now known.now.block.now.ops proposal.ops proposal.rows entry
-        × (text.new.items ≡ text.old.items ++ entry)) }
+        × IsSaidOf is_lawful known.now.heuristic known.now.latencies.now known.now.block.now.ops proposal.ops proposal.rows
+        entry × (text.new.items ≡ text.old.items ++ entry)) }
     ensures own { IfOk result (λ is_lawful.
         IssueTheSame known.now.ours.now.ops known.now.ours.now.rows proposal.ops proposal.rows → is_lawful ≡ true) }
 {
@@ -129,12 +156,13 @@ fn push_read_rows(
     }
     let theirs = proposal.into_schedule();
     prove!(theirs.rows().len() <= MAX_ROWS);
-    push_said(alloc, text, known, &theirs, heuristic)
+    push_said(alloc, text, known, &theirs)
 }
 
 /// Appends what explains the rows that are proposed for a block, beside our schedule of it, after the block's head. Rows by the
-/// book are explained as the schedule of the block that they are, with each operation as the block has it and as it is issued;
-/// of others it is said that they aren't lawful, and why, or that this isn't decided.
+/// book are explained as the schedule of the block that they are, with each operation as the block has it and as it is issued,
+/// and the first row that leaves the greedy choice is named; of others it is said that they aren't lawful, and why, or that this
+/// isn't decided.
 ///
 /// Promise: what is appended explains the rows, which then are by the book, or tells facts of rows that aren't; and what our
 /// schedule issues is explained.
@@ -143,11 +171,10 @@ pub(crate) fn push_rows_explanation(
     text: &mut Vec<u8>,
     known: &KnownBlock<'_>,
     proposal: Proposal,
-    heuristic: Heuristic,
 ) -> Result<ExplainedRows, NoMemory>
     ensures { IfOk result (λ found. (entry : List ℕ)
-        × IsRowsExplanation heuristic known.now.latencies.now known.now.block.now.ops known.now.ours.now proposal found
-        entry × (text.new.items ≡ text.old.items ++ entry)) }
+        × IsRowsExplanation known.now.heuristic known.now.latencies.now known.now.block.now.ops known.now.ours.now proposal
+        found entry × (text.new.items ≡ text.old.items ++ entry)) }
 {
     let (ops, rows) = (proposal.ops(), proposal.rows());
     let cycles = cycles_of(ops, rows, known.latencies);
@@ -158,6 +185,6 @@ pub(crate) fn push_rows_explanation(
             cycles,
         });
     }
-    let is_lawful = push_read_rows(alloc, text, known, proposal, heuristic)?;
+    let is_lawful = push_read_rows(alloc, text, known, proposal)?;
     Ok(ExplainedRows { is_lawful, cycles })
 }

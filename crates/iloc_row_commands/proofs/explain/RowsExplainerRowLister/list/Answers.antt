@@ -48,7 +48,7 @@ rows_listed heuristic lat k b s p one text headed lined more said name greedy na
 
 pub invariant_of-known : goal.invariant_of-known
 invariant_of-known c = record {
-  lawful = (c.in_ok-ours.ensures _ _ c.in_ok-refill.ensures.graph).greedy.lawful;
+  greedy = (c.in_ok-ours.ensures _ _ c.in_ok-refill.ensures.graph).greedy;
   drawn = c.in_ok-refill.ensures.graph;
 }
 

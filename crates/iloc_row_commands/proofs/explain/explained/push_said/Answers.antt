@@ -1,6 +1,4 @@
-use Rattle.std.proofs.Common.{ap, inl, inr, refl, subst}
-use Rattle.iloc_sched.specs.Graph.GraphOf.{GraphOf}
-use Rattle.iloc_explain.specs.Listing.{IsExplanation}
+use Rattle.std.proofs.Common.{◌∙◌, append_assoc, inl, inr, refl}
 use Rattle.iloc_verdict.specs.Entry.Reasons.{reasons_told}
 use Rattle.iloc_row_commands.specs.Explain.Explained.{not_lawful}
 use Rattle.iloc_row_commands.proofs.explain.explained.push_said.Goals as goal
@@ -8,36 +6,31 @@ use Rattle.iloc_row_commands.proofs.explain.explained.push_said.Goals as goal
 pub own_rows-requires-clause-right : goal.own_rows-requires-clause-right
 own_rows-requires-clause-right c = (c.args.known.now.latencies.now, rw c.in-Lawful.is at c.in_ok-pairing.ensures.right)
 
-pub explain_by_graph-requires-clause-graph : goal.explain_by_graph-requires-clause-graph
-explain_by_graph-requires-clause-graph c = ap (λ (g : GraphOf). g.ops) c.args.known.now.drawn
-
-pub explain_by_graph-requires-clause-names : goal.explain_by_graph-requires-clause-names
-explain_by_graph-requires-clause-names c =
+pub push_own-requires-clause-names : goal.push_own-requires-clause-names
+push_own-requires-clause-names c =
     (c.in_ok-own-in-Lawful.ensures c.args.known.now.latencies.now
     (rw c.in-Lawful.is at c.in_ok-pairing.ensures.right)).names
 
-pub explain_by_graph-requires-clause-issued : goal.explain_by_graph-requires-clause-issued
-explain_by_graph-requires-clause-issued c =
-    rw c.deref.ensures.value
-    ((c.in_ok-own-in-Lawful.ensures c.args.known.now.latencies.now
-    (rw c.in-Lawful.is at c.in_ok-pairing.ensures.right)).many)
+pub push_own-requires-clause-issued : goal.push_own-requires-clause-issued
+push_own-requires-clause-issued c =
+    (c.in_ok-own-in-Lawful.ensures c.args.known.now.latencies.now
+    (rw c.in-Lawful.is at c.in_ok-pairing.ensures.right)).many
 
-pub returns-in_ok-explain_by_graph-in-Lawful-clause-said : goal.returns-in_ok-explain_by_graph-in-Lawful-clause-said
-returns-in_ok-explain_by_graph-in-Lawful-clause-said c =
-    let known = c.args.known.now in
+pub returns-in_ok-push_own-in-Lawful-clause-said : goal.returns-in_ok-push_own-in-Lawful-clause-said
+returns-in_ok-push_own-in-Lawful-clause-said c =
     let own = c.in_ok-own-in-Lawful.own in
-    let told = c.in_ok-explain_by_graph-in-Lawful.ensures in (
-      told.0,
+    let told = c.in_ok-push_own-in-Lawful.ensures in (
+      _,
       record {
         own = own.schedule;
         issued = own.issued.items;
-        are_own = c.in_ok-own-in-Lawful.ensures known.latencies.now
+        are_own = c.in_ok-own-in-Lawful.ensures c.args.known.now.latencies.now
             (rw c.in-Lawful.is at c.in_ok-pairing.ensures.right);
-        explains =
-            subst (λ (g : GraphOf). IsExplanation c.args.heuristic g.latencies known.block.now.ops own.schedule.ops
-            own.schedule.rows own.issued.items told.0) known.drawn (rw c.deref.ensures.value at told.1);
+        explanation = told.0;
+        explains = told.1;
+        listed = refl;
       },
-      told.2,
+      told.2 ∙ append_assoc c.args.text.now.items told.0 _,
     )
 
 pub returns-in_ok-push_why-in-Unlawful-clause-said : goal.returns-in_ok-push_why-in-Unlawful-clause-said
