@@ -23,7 +23,7 @@ NUMBER = re.compile(r"\d+")
 VERDICT = re.compile(r"block (\d+) (\S+) ([a-z]+) cycles (\d+) ours (\d+)(?: best \d+ bound \d+)? least (\d+)"
                      r"(?: claimed \d+)?")
 WRONG_ROW = re.compile(r"(?:added \d+: |see |line \d+, )?row (\d+): .+")
-NOTHING = re.compile(r"total \d+.*")
+NOTHING = re.compile(r"total \d+.*|row \d+: the choice would take .+")     # of which nothing is drawn
 UNLAWFUL = re.compile(r"not lawful|undecided")
 REASON = re.compile(r"(?:row|line|left out|added|see|and) .+")
 

@@ -3,17 +3,26 @@ with the reason that it gives."""
 import random
 import re
 
-from harness.program import TOP, ending, stored, told
+from forms import USUAL
+from harness.program import TESTED, TOP, ending, stored, told
 from harness.suite import Check, table
+from judged.labs import Given
+from judged.students import longer_waits, one_a_row, other_priorities, ours, own_names, units_exchanged
 from judged.test_apart import CLASS, parts
 from judged.test_rows import SAME, UNLIKE, VERDICTS, spread
-from oracle.drawn import lab_block
-from oracle.operations import text_of
+from oracle.drawn import lab_block, made_block
+from oracle.judge import proposed
+from oracle.operations import text_of, words_for
+from oracle.scheduler import ORDERS, Schedule
 
 PASSED, FAILED = 0, 5
 UNLAWFUL = b"  not lawful"
 REASON = re.compile(rb"  (?:left out|added|see|and|line|row) ")
 PATH = re.compile(rb"[+=~](\d+)")
+ISSUED = re.compile(r"(\d+) cycle (\d+) unit ([01]) .+ ; (.+)")
+DRAWN, ALL_DRAWN = 2000, 20_000
+A_FILE = 20     # blocks
+LAWFUL = (ours, own_names, other_priorities, one_a_row, longer_waits, units_exchanged)
 
 
 def own_blocks():
@@ -95,11 +104,46 @@ def in_either_slot():
         yield told(taken)
 
 
+def left(schedule, lines):
+    """What comes after the lines of a block's operations and its path, by the oracle, which takes the rows from these lines."""
+    issued = [ISSUED.fullmatch(line).groups() for line in lines[:len(schedule.ops)]]
+    departure = schedule.departure({int(j): (int(cycle), int(unit)) for j, cycle, unit, _ in issued})
+    if departure is None:
+        return []
+    row, chosen = departure
+    return [f"row {row}: the choice would take {' ; '.join('nop' if j is None else f'{j} {issued[j][3]}' for j in chosen)}"]
+
+
+def wrongly_left(blocks, schedules, handed_in, words):
+    rows = b"".join(proposed(k, f"B{k}", rows) for k, rows in enumerate(handed_in, 1))
+    got = ending(["explain", "--task", stored("left.iloc", text_of(blocks)), *words], rows)[1].decode()
+    entries = [it.splitlines() for it in re.split(r"^(?:block|total) .*\n", got, flags=re.M)[1:-1]]
+    if len(entries) != len(blocks):
+        yield f"{len(entries)} entries of {len(blocks)}: {got!r}"
+    for number, (schedule, lines) in enumerate(zip(schedules, entries), 1):
+        if lines[:1] != ["  undecided"]:
+            end = len(schedule.ops) + 3     # of the lines on operations, cycles, chain and path
+            if lines[end:] != left(schedule, lines) or len(lines) < end:
+                yield f"{rows!r}: block {number}: {lines[end:]} in place of {left(schedule, lines)}"
+
+
+def left_by_drawn_rows():
+    """Rows of six kinds, by any order and latencies: the first that isn't the choice is named, and what is."""
+    for seed in range((DRAWN if TESTED.is_short else ALL_DRAWN) // A_FILE):
+        chance = random.Random(f"left {seed}")
+        latencies, by = {name: chance.randint(1, 9) for name in USUAL}, chance.choice(ORDERS)
+        blocks = [chance.choice((made_block, lab_block))(chance) for _ in range(A_FILE)]
+        schedules = [Schedule(ops, latencies, by) for ops in blocks]
+        rows = [chance.choice(LAWFUL)(chance, Given(schedule)) for schedule in schedules]
+        yield from wrongly_left(blocks, schedules, rows, ["--priority", by, *words_for(latencies)])
+
+
 def explained_cases():
     yield Check("explained/own_as_ours", own_as_ours)
     yield Check("explained/rows_as_checked", rows_as_checked)
     yield Check("explained/class_as_checked", class_as_checked)
     yield Check("explained/in_either_slot", in_either_slot)
+    yield Check("explained/left_by_drawn_rows", left_by_drawn_rows)
 
 
 load_tests = table(explained_cases)

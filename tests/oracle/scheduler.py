@@ -86,18 +86,31 @@ class Schedule:
         return max([0, *(self.places[i][0] + d for i, d in self.before[j])])
 
     def issue(self, cycle):
-        """Issues in this cycle the first that is ready, and the first that may go beside it."""
-        waiting = [j for j in range(len(self.ops)) if j not in self.places
-                   and all(i in self.places for i, _ in self.before[j]) and self.ready(j) <= cycle]
-        waiting.sort(key=lambda j: (-self.ranks[j], j))
-        first = next(iter(waiting), None)
-        second = next((j for j in waiting[1:] if beside(self.ops[first], self.ops[j])), None)
-        for chosen in ((first, second), (second, first)):
-            row = [None if j is None else self.ops[j] for j in chosen]
-            if keeps_units(row):
-                break
-        self.rows.append(row)
+        """Issues in this cycle what is chosen from what is ready."""
+        chosen = self.chosen(j for j in range(len(self.ops)) if j not in self.places
+                             and all(i in self.places for i, _ in self.before[j]) and self.ready(j) <= cycle)
+        self.rows.append(self.row(chosen))
         self.places.update((j, (cycle, unit)) for unit, j in enumerate(chosen) if j is not None)
+
+    def chosen(self, ready):
+        """The first of what is ready, and the first that may go beside it, by unit."""
+        ranked = sorted(ready, key=lambda j: (-self.ranks[j], j))
+        first = next(iter(ranked), None)
+        second = next((j for j in ranked[1:] if beside(self.ops[first], self.ops[j])), None)
+        return next(it for it in ((first, second), (second, first)) if keeps_units(self.row(it)))
+
+    def row(self, chosen):
+        return [None if j is None else self.ops[j] for j in chosen]
+
+    def departure(self, places):
+        """Of rows with the operations in these places: the first that takes something else than is chosen from what is ready
+        in these rows, and what is chosen, by unit."""
+        for cycle in range(1 + max((it for it, _ in places.values()), default=-1)):
+            chosen = self.chosen(j for j, (issued, _) in places.items() if issued >= cycle
+                                 and all(places[i][0] + d <= cycle for i, d in self.before[j]))
+            if {*chosen} - {None} != {j for j, (issued, _) in places.items() if issued == cycle}:
+                return cycle, chosen
+        return None
 
     def after(self, j, ready):
         ended = {i for i, d in self.before[j] if self.places[i][0] + d == ready}
