@@ -116,7 +116,7 @@ class Reasons:
 
     def are(self, lines):
         """Whether these lines say so: what is left out and added first, then facts by row, eight of them before `and N more`; those
-        that name an operation of the block come last."""
+        that name an operation of the block come after the others, and results that are less likely to be wrong last."""
         counts = [found for line in lines if (found := COUNTS.fullmatch(line))]
         facts = lines[len(counts):]
         wanted = ["left out"] * bool(self.left_out) + ["added"] * bool(self.added)
@@ -127,7 +127,9 @@ class Reasons:
             if len(facts) != MOST_FACTS:
                 return False
         rows = [(" for operation " in line, int(re.search(r"row (\d+)", line)[1])) for line in facts]
-        return len(facts) <= MOST_FACTS and rows == sorted(rows) and all(map(self.is_fact, facts))
+        are_in_order = any(rows[:n] == sorted(rows[:n]) and rows[n:] == sorted(rows[n:])
+                           and all(line.endswith(" never read") for line in facts[n:]) for n in range(len(rows) + 1))
+        return len(facts) <= MOST_FACTS and are_in_order and all(map(self.is_fact, facts))
 
     def are_counted(self, found):
         what, count, row, op, left_out = found.groups()

@@ -172,8 +172,8 @@ fn reasons_by(alloc: Global, sides: &Sides) -> Result<Reasons, NoMemory>
 }
 
 /// Why rows that somebody made for a block aren't issued as it asks for: which operations are left out or added, and facts
-/// of the rows, by row, last which operations stand for others. Which facts are listed is a choice that promises nothing; it
-/// names the operations at fault.
+/// of the rows, by row; then which operations stand for others, and last what is less likely to be wrong. Which facts are
+/// listed is a choice that promises nothing; it names the operations at fault.
 ///
 /// Promise: what is said to be left out or added is, and each line is a fact of the rows.
 pub fn reasons_of(

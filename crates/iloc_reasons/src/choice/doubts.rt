@@ -167,43 +167,57 @@ fn is_lower(known: &Known, k: usize, place: usize, u: usize) -> bool {
     }
 }
 
-/// What is claimed of an operation that reads at a place something else than this one brings, in a register of others where
-/// nobody reads it. If where it is wanted its result would be in the way of others or be replaced, or that register isn't the
-/// first that is free, the reader is at fault; if it is replaced where it is, it is itself.
-fn astray(
-    known: &Known,
-    lives: &Lives,
-    doubt: &Doubt,
-    u: usize,
-    found: &mut Vec<Claim>,
-) -> Result<(), NoMemory> {
-    let k = doubt.claim.k;
-    let due = known.sides.cycles(u).map_or(0, |cycles| cycles.1);
-    let is_reader = lives.is_read(known, k, doubt.place, due)
-        || is_later(known, k, doubt.place, due)
-        || is_lower(known, k, doubt.place, u);
-    if !is_reader {
-        let what = What::NeverRead;
-        found.push(Claim { k: u, what })?;
-    }
-    if is_reader || !lives.is_over(known, u, k) {
-        found.push(doubt.claim)?;
-    }
-    Ok(())
+/// What is claimed of operations in doubt.
+#[derive(Drop)]
+pub(crate) struct Resolved {
+    pub claims: Vec<Claim>,
+    /// What is claimed of operations that are less likely to be at fault.
+    pub unlikely: Vec<Claim>,
 }
 
-/// What is claimed of an operation in doubt.
-fn resolve(
-    known: &Known,
-    lives: &Lives,
-    misread: &BTreeMap<usize, usize>,
-    doubt: &Doubt,
-    found: &mut Vec<Claim>,
-) -> Result<(), NoMemory> {
-    match doubt.cause {
-        Cause::Elsewhere(u) if misread.get(&u).is_none() => Ok(found.push(doubt.claim)?),
-        Cause::Astray(u) => astray(known, lives, doubt, u, found),
-        _ => Ok(()),
+impl Resolved {
+    /// Notes which is at fault: an operation that reads something else at a place than operation u brings, or u, whose register
+    /// is that of others, where nobody reads it. If where it is wanted its result would be in the way of others or be replaced,
+    /// the reader is; if it is replaced where it is, u is. Else either may be: the reader rather, if u has the lower register.
+    fn astray(
+        &mut self,
+        known: &Known,
+        lives: &Lives,
+        doubt: &Doubt,
+        u: usize,
+    ) -> Result<(), NoMemory> {
+        let (reader, place) = (doubt.claim, doubt.place);
+        let due = known.sides.cycles(u).map_or(0, |cycles| cycles.1);
+        let what = What::NeverRead;
+        let unread = Claim { k: u, what };
+        if lives.is_read(known, reader.k, place, due) || is_later(known, reader.k, place, due) {
+            return Ok(self.claims.push(reader)?);
+        }
+        if lives.is_over(known, u, reader.k) {
+            return Ok(self.claims.push(unread)?);
+        }
+        self.claims.push(reader)?;
+        if is_lower(known, reader.k, place, u) {
+            self.unlikely.push(unread)?;
+        } else {
+            self.claims.push(unread)?;
+        }
+        Ok(())
+    }
+
+    /// Notes what is claimed of an operation in doubt.
+    fn resolve(
+        &mut self,
+        known: &Known,
+        lives: &Lives,
+        misread: &BTreeMap<usize, usize>,
+        doubt: &Doubt,
+    ) -> Result<(), NoMemory> {
+        match doubt.cause {
+            Cause::Elsewhere(u) if misread.get(&u).is_none() => Ok(self.claims.push(doubt.claim)?),
+            Cause::Astray(u) => self.astray(known, lives, doubt, u),
+            _ => Ok(()),
+        }
     }
 }
 
@@ -213,12 +227,15 @@ pub(crate) fn undoubted(
     known: &Known,
     doubts: &[Doubt],
     claims: &[Claim],
-) -> Result<Vec<Claim>, NoMemory> {
+) -> Result<Resolved, NoMemory> {
     let misread = misread(alloc, known, claims)?;
     let lives = Lives::of(alloc, known)?;
-    let mut found = Vec::new(alloc);
+    let mut found = Resolved {
+        claims: Vec::new(alloc),
+        unlikely: Vec::new(alloc),
+    };
     for doubt in doubts {
-        resolve(known, &lives, &misread, doubt, &mut found)?;
+        found.resolve(known, &lives, &misread, doubt)?;
     }
     Ok(found)
 }

@@ -434,13 +434,16 @@ impl Walk<'_> {
         }
     }
 
-    /// What is claimed of all operations.
+    /// What is claimed of all operations: by row, then what stands for others, and last what is less likely.
     fn all_claims(&self) -> Result<Vec<Claim>, NoMemory> {
         let known = self.known();
         let undoubted = undoubted(self.alloc, &known, &self.said.doubts, &self.said.claims)?;
         let mut claims = with_orders(self.alloc, &known, &self.said.moved, &self.said.claims)?;
-        claims.extend_from_slice(&undoubted)?;
-        Ok(claims)
+        claims.extend_from_slice(&undoubted.claims)?;
+        let mut listed = self.by_row(&claims)?;
+        let unlikely = self.by_row(&undoubted.unlikely)?;
+        listed.extend_from_slice(&unlikely)?;
+        Ok(listed)
     }
 
     /// What is claimed, by row, each once; last what stands for others.
@@ -484,9 +487,8 @@ impl Walk<'_> {
 
     /// What is claimed; of those that are missing the first that is short is named.
     pub(crate) fn choice(&self) -> Result<Choice, NoMemory> {
-        let all = self.all_claims()?;
         Ok(Choice {
-            claims: self.telling(self.by_row(&all)?)?,
+            claims: self.telling(self.all_claims()?)?,
             left_out: self.missing.first_short(),
             added: self.said.unlike,
         })
