@@ -19,7 +19,6 @@ use Rattle.iloc_rules.proofs.Basics.IssueCycles.{issued_by, row_at_past}
 use Rattle.iloc_rules.proofs.Basics.Members.{empty_from, from_all, from_range, map_same}
 use Rattle.iloc_rules.proofs.Basics.Slots.{cycle_is, from_holds, holds_from, issued_within, stands_there}
 use Rattle.iloc_rules.proofs.Choice.Ready.{SameBelow, ready_means, ready_same}
-use Rattle.iloc_row_commands.specs.declared.explain.departure.Departure.{Departure}
 use Rattle.iloc_row_commands.specs.Explain.Departure.{choice_at, departure, leaves_choice, take_the_same}
 
 -- what one of two such rows holds, the other does
