@@ -178,7 +178,8 @@ pub(crate) struct Resolved {
 impl Resolved {
     /// Notes which is at fault: an operation that reads something else at a place than operation u brings, or u, whose register
     /// is that of others, where nobody reads it. If where it is wanted its result would be in the way of others or be replaced,
-    /// the reader is; if it is replaced where it is, u is. Else either may be: the reader rather, if u has the lower register.
+    /// the reader is, and rather the reader if u has the lower register; else u, and perhaps the reader, unless the result is
+    /// replaced where it is.
     fn astray(
         &mut self,
         known: &Known,
@@ -193,14 +194,13 @@ impl Resolved {
         if lives.is_read(known, reader.k, place, due) || is_later(known, reader.k, place, due) {
             return Ok(self.claims.push(reader)?);
         }
-        if lives.is_over(known, u, reader.k) {
-            return Ok(self.claims.push(unread)?);
-        }
-        self.claims.push(reader)?;
         if is_lower(known, reader.k, place, u) {
-            self.unlikely.push(unread)?;
-        } else {
-            self.claims.push(unread)?;
+            self.claims.push(reader)?;
+            return Ok(self.unlikely.push(unread)?);
+        }
+        self.claims.push(unread)?;
+        if !lives.is_over(known, u, reader.k) {
+            self.claims.push(reader)?;
         }
         Ok(())
     }

@@ -440,7 +440,7 @@ impl Walk<'_> {
         let undoubted = undoubted(self.alloc, &known, &self.said.doubts, &self.said.claims)?;
         let mut claims = with_orders(self.alloc, &known, &self.said.moved, &self.said.claims)?;
         claims.extend_from_slice(&undoubted.claims)?;
-        let mut listed = self.by_row(&claims)?;
+        let mut listed = self.telling(self.by_row(&claims)?)?;
         let unlikely = self.by_row(&undoubted.unlikely)?;
         listed.extend_from_slice(&unlikely)?;
         Ok(listed)
@@ -488,7 +488,7 @@ impl Walk<'_> {
     /// What is claimed; of those that are missing the first that is short is named.
     pub(crate) fn choice(&self) -> Result<Choice, NoMemory> {
         Ok(Choice {
-            claims: self.telling(self.all_claims()?)?,
+            claims: self.all_claims()?,
             left_out: self.missing.first_short(),
             added: self.said.unlike,
         })
