@@ -1,5 +1,6 @@
 pub mod Arguments
 pub mod Commands
+pub mod Files
 pub mod Fits
 pub mod Flags
 pub mod Getters

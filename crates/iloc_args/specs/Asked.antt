@@ -1,5 +1,5 @@
 -- What the words of a command line ask for, as a function of these words.
-use Rattle.std.specs.Prelude.{ℕ, Bool, false, List, [], map, Option, find, codes, option_and_then, option_map, unwrap_or}
+use Rattle.std.specs.Prelude.{ℕ, Bool, false, if◌then◌else◌, List, [], map, Option, None, find, codes, option_and_then, option_map, unwrap_or}
 use Rattle.std.specs.Option.{option_map_or}
 use Rattle.std.specs.Str.{bytes_eq}
 use Rattle.std.specs.Str.Parse.{digits_value, without_leading_plus}
@@ -7,6 +7,7 @@ use Rattle.std.specs.String.{string_bytes}
 use Rattle.clap.specs.Words.{Row, Text, first_of, many_of, one_of, subcommand_of}
 use Rattle.iloc_args.specs.Command.{Subcommand, entries, farm_app}
 use Rattle.iloc_args.specs.Priority.{priority_word}
+use Rattle.iloc_args.specs.Ranking.{ranks_by_own}
 use Rattle.iloc_args.specs.declared.request.Request.{Request}
 use Rattle.iloc_args.specs.declared.request.Task.{Task}
 
@@ -80,6 +81,10 @@ flag_in id rows = option_map_or (λ text. bytes_eq text (codes "true")) (one_of 
 abbrev pub text_or : Text → Text → List Row → Text
 text_or otherwise id rows = unwrap_or (first_of id rows) otherwise
 
+-- the file of priorities that the matches name, for a task that can rank by it
+abbrev pub priorities_in : Task → List Row → Option Text
+priorities_in task rows = if ranks_by_own task then first_of (codes "priorities") rows else None
+
 -- a task with its options, by the matches of the command's arguments
 abbrev pub asked_as : Task → List Row → Asked
 asked_as task rows = record {
@@ -91,7 +96,7 @@ asked_as task rows = record {
   store = number_or 5 (codes "store") rows;
   mult = number_or 3 (codes "mult") rows;
   priority = text_or (codes "chain") (codes "priority") rows;
-  priorities_file = first_of (codes "priorities") rows;
+  priorities_file = priorities_in task rows;
   nodes = number_if (codes "nodes") rows;
   csv = flag_in (codes "csv") rows;
   json = flag_in (codes "json") rows;

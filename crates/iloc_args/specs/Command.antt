@@ -151,12 +151,12 @@ counts_entry = record {
   rules = workers_rule ∷ latency_rules ++ priority_rule ∷ priorities_rule ∷ csv_rule ∷ [];
 }
 
--- `compare [--nodes N] [--workers N] [--load N] [--store N] [--mult N] [--csv]`
+-- `compare [--nodes N] [--workers N] [--load N] [--store N] [--mult N] [--priorities FILE] [--csv]`
 abbrev pub compare_entry : Subcommand
 compare_entry = record {
   name = codes "compare";
   task = Compare;
-  rules = search_rule ∷ workers_rule ∷ latency_rules ++ csv_rule ∷ [];
+  rules = search_rule ∷ workers_rule ∷ latency_rules ++ priorities_rule ∷ csv_rule ∷ [];
 }
 
 -- `optimize [--nodes N] [--workers N] [--load N] [--store N] [--mult N]`
@@ -167,12 +167,12 @@ optimize_entry = record {
   rules = nodes_rule ∷ workers_rule ∷ latency_rules;
 }
 
--- `explain [--load N] [--store N] [--mult N] [--priority NAME] [--task FILE] [--either-slot] [--cycles]`
+-- `explain [--workers N] [--load N] [--store N] [--mult N] [--priority NAME] [--priorities FILE] [--task FILE] [--either-slot] [--cycles]`
 abbrev pub explain_entry : Subcommand
 explain_entry = record {
   name = codes "explain";
   task = Explain;
-  rules = latency_rules ++ priority_rule ∷ task_rule ∷ either_slot_rule ∷ cycles_rule ∷ [];
+  rules = workers_rule ∷ latency_rules ++ priority_rule ∷ priorities_rule ∷ task_rule ∷ either_slot_rule ∷ cycles_rule ∷ [];
 }
 
 -- `check [--at N] [WORD].. [--load N] [--store N] [--mult N] [--nodes N] [--task FILE] [--either-slot] [--lawful] [--operations] [--outputs] [--csv] [--json]`

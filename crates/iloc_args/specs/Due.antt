@@ -1,5 +1,5 @@
 -- What a command line comes to: a request, or one of the faults.
-use Rattle.std.specs.Prelude.{◌≡◌, ◌≢◌, ◌⊎◌, ◌<◌, ◌≤◌, ◌+◌, ◌*◌, ◌%◌, ◌&&◌, true, ℕ, List, [], Some, length}
+use Rattle.std.specs.Prelude.{◌≡◌, ◌≢◌, ◌⊎◌, ◌<◌, ◌≤◌, ◌+◌, ◌*◌, ◌%◌, ◌&&◌, true, is_some, ℕ, List, [], Some, length}
 use Rattle.clap.specs.Kinds.{IsAmong, Kinds}
 use Rattle.clap.specs.Words.{Text, fault_of}
 use Rattle.clap.specs.declared.error.kind.ErrorKind.{ErrorKind}
@@ -9,7 +9,7 @@ use Rattle.iloc_args.specs.Asked.{Asked, asked}
 use Rattle.iloc_args.specs.Command.{farm_app}
 use Rattle.iloc_args.specs.Priority.{IsNoPriority}
 use Rattle.iloc_args.specs.declared.fault.LineFault.{LineFault}
-use Rattle.iloc_args.specs.declared.fault.LineFault.TheVariants.{Help, Refused, BadStart, TooManyWords, NoSuchPriority, TwoForms, NoMemory}
+use Rattle.iloc_args.specs.declared.fault.LineFault.TheVariants.{Help, Refused, BadStart, TooManyWords, NoSuchPriority, TwoForms, TwoFiles, NoMemory}
 
 -- what the parser finds wrong with the words: the kinds of the first step that fails, and none
 -- where it takes them
@@ -43,6 +43,12 @@ pub record AsksForTwoForms (a : Asked) : Type 0 where
   pub fits : a.at + 4 * length a.words ≤ 4 * WORDS
   pub both : a.csv && a.json ≡ true
 
+-- the words fit into the memory, and numbers are to rank the operations of blocks that are in a file of their own
+pub record AsksForTwoFiles (a : Asked) : Type 0 where
+  pub aligned : a.at % 4 ≡ 0
+  pub fits : a.at + 4 * length a.words ≤ 4 * WORDS
+  pub both : is_some a.priorities_file && is_some a.task_file ≡ true
+
 -- an error of this kind is a text that was asked for
 abbrev pub IsAskedFor : ErrorKind → Type 0
 IsAskedFor kind = (kind ≡ DisplayHelp) ⊎ (kind ≡ DisplayVersion)
@@ -56,4 +62,5 @@ IsDue words (BadStart at) = (a : Asked) × Asks words a × StartsAmiss at a
 IsDue words TooManyWords = (a : Asked) × Asks words a × Overflows a
 IsDue words NoSuchPriority = (a : Asked) × Asks words a × RanksByNone a
 IsDue words TwoForms = (a : Asked) × Asks words a × AsksForTwoForms a
+IsDue words TwoFiles = (a : Asked) × Asks words a × AsksForTwoFiles a
 IsDue words NoMemory = Unit {0}

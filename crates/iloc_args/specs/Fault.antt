@@ -3,7 +3,7 @@ use Rattle.std.specs.Prelude.{ℕ, List, ◌++◌, codes}
 use Rattle.std.specs.List.{join_by}
 use Rattle.std.specs.String.{string_bytes}
 use Rattle.iloc_args.specs.declared.fault.LineFault.{LineFault}
-use Rattle.iloc_args.specs.declared.fault.LineFault.TheVariants.{Help, Refused, BadStart, TooManyWords, NoSuchPriority, TwoForms, NoMemory}
+use Rattle.iloc_args.specs.declared.fault.LineFault.TheVariants.{Help, Refused, BadStart, TooManyWords, NoSuchPriority, TwoForms, TwoFiles, NoMemory}
 use Rattle.iloc_args.specs.Priority.{priority_word}
 use Rattle.iloc_rules.specs.Heuristics.Listed.{heuristics}
 
@@ -15,6 +15,7 @@ line_text (BadStart at) = codes "--at is not a multiple of 4"
 line_text TooManyWords = codes "the words do not fit into memory"
 line_text NoSuchPriority = codes "--priority is none of " ++ join_by priority_word (codes ", ") heuristics
 line_text TwoForms = codes "--csv and --json exclude each other"
+line_text TwoFiles = codes "--priorities and --task exclude each other"
 line_text NoMemory = codes "out of memory"
 
 -- the exit status of a fault
@@ -25,4 +26,5 @@ status_of (BadStart at) = 2
 status_of TooManyWords = 2
 status_of NoSuchPriority = 2
 status_of TwoForms = 2
+status_of TwoFiles = 2
 status_of NoMemory = 3

@@ -3,4 +3,5 @@ pub mod Command
 pub mod Due
 pub mod Fault
 pub mod Priority
+pub mod Ranking
 pub mod Steps

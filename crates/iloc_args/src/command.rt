@@ -211,6 +211,12 @@ const PRIORITIES: Argument = Argument::File(
     "Rank operations by the numbers in FILE, a line for each block, instead of --priority",
 );
 
+/// `--priorities` of a command that compares them with others.
+const PRIORITIES_TOO: Argument = Argument::File(
+    "priorities",
+    "Rank operations by the numbers in FILE too, a line for each block",
+);
+
 const TASK: Argument = Argument::File(
     "task",
     "Read the blocks from FILE, and only rows from standard input",
@@ -345,6 +351,7 @@ const COMMANDS: [Entry; 11] = [
             LOAD,
             STORE,
             MULT,
+            PRIORITIES_TOO,
             CSV,
         ],
     },
@@ -361,10 +368,12 @@ const COMMANDS: [Entry; 11] = [
         about: "Schedule each block, and print why the schedule takes its cycles",
         usage: "ilocfarm explain [OPTIONS] < BLOCKS",
         arguments: &[
+            Argument::Workers,
             LOAD,
             STORE,
             MULT,
             Argument::Priority,
+            PRIORITIES,
             TASK,
             EITHER_SLOT_WITH_TASK,
             CYCLES,

@@ -27,6 +27,8 @@ pub enum LineFault {
     NoSuchPriority,
     /// A listing is asked for as a table and as JSON.
     TwoForms,
+    /// A file is named for priorities, and one for the blocks apart from their rows.
+    TwoFiles,
     /// The growth of a list or a text was refused.
     NoMemory,
 }
@@ -44,6 +46,7 @@ impl Display for LineFault {
             LineFault::TooManyWords => f.write_str("the words do not fit into memory"),
             LineFault::NoSuchPriority => { f.write_str(NO_SUCH_PRIORITY) }
             LineFault::TwoForms => f.write_str("--csv and --json exclude each other"),
+            LineFault::TwoFiles => f.write_str("--priorities and --task exclude each other"),
             LineFault::NoMemory => f.write_str("out of memory"),
         }
     }
@@ -99,7 +102,8 @@ pub fn line_status(fault: &LineFault) -> u8
         | LineFault::BadStart(_)
         | LineFault::TooManyWords
         | LineFault::NoSuchPriority
-        | LineFault::TwoForms => 2,
+        | LineFault::TwoForms
+        | LineFault::TwoFiles => 2,
         LineFault::NoMemory => 3,
     }
 }

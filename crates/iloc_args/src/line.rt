@@ -1,13 +1,15 @@
 //! Reading a command line.
-ghost use Rattle.std.specs.Prelude.{◌≡◌, ◌≤◌, ◌&&◌, IfErr, IfOk, MatchOption, OnOk, [], codes, map, option_map, true};
+ghost use Rattle.std.specs.Prelude.{◌≡◌, ◌≤◌, ◌&&◌, IfErr, IfOk, MatchOption, OnOk, [], codes, false, is_some, map, option_map, true};
+ghost use Rattle.std.specs.Option.{ForSome};
 ghost use Rattle.std.specs.String.{string_bytes};
 ghost use Rattle.clap.specs.Words.{first_of, found_of, has_subcommand, rows_of, subcommand_of};
 ghost use Rattle.clap.specs.Words.{subcommand_rows_of};
-ghost use Rattle.iloc_args.specs.Asked.{asked_as, asked_in, flag_in, number_if, number_or, numbers_in, text_or};
+ghost use Rattle.iloc_args.specs.Asked.{asked_as, asked_in, flag_in, number_if, number_or, numbers_in, priorities_in, text_or};
 ghost use Rattle.iloc_args.specs.Command.{farm_app};
 ghost use Rattle.iloc_args.specs.Due.{Asks, IsDue, faults_in};
 ghost use Rattle.iloc_args.specs.Priority.{IsNoPriority, priority_word};
-ghost use Rattle.iloc_args.specs.Steps.Refusing.{IsOutOfRange};
+ghost use Rattle.iloc_args.specs.Ranking.{ranks_by_own};
+ghost use Rattle.iloc_args.specs.Steps.Refusing.{IsOutOfRange, NamesTwo};
 ghost use Rattle.iloc_args.specs.Steps.Taken.{HoldValues, HoldsFlag, HoldsIn};
 ghost use Rattle.iloc_timed.specs.Latency.{IsLatency};
 
@@ -39,8 +41,8 @@ const DEFAULT_PRIORITY: &str = "chain";
 ///
 /// `Help` or `Refused` with the parser's text where it gives no matches, `BadStart` where the words
 /// would not start at a multiple of 4, else `TooManyWords` where they would end beyond the memory,
-/// else `NoSuchPriority` where no heuristic has the name, else `TwoForms` where both a table and JSON are asked for, and
-/// `NoMemory` where a growth was refused.
+/// else `NoSuchPriority` where no heuristic has the name, else `TwoForms` where both a table and JSON are asked for, else
+/// `TwoFiles` where priorities are given for blocks in a file of their own, and `NoMemory` where a growth was refused.
 pub fn parse_line<S: AsStr>(alloc: Global, words: &[S]) -> Result<Request, LineFault>
     ensures ok { IfOk result (λ request. Asks (map S.text words.now) (asked_in request)) }
     ensures err { IfErr result (IsDue (map S.text words.now)) }
@@ -73,6 +75,7 @@ fn matches_of<'a, S: AsStr>(alloc: Global, words: &'a [S]) -> Result<ArgMatches<
 }
 
 /// The request for a task, by the matches of the command's arguments.
+#[tactic(auto, using(crate::proofs::Files::out_of_range))]
 fn request_in(alloc: Global, task: Task, given: &ArgMatches<'_>) -> Result<Request, LineFault>
     requires { HoldValues (rows_of (found_of given.now)) }
     ensures ok { IfOk result (λ request.
@@ -95,6 +98,7 @@ fn request_in(alloc: Global, task: Task, given: &ArgMatches<'_>) -> Result<Reque
     if are_both(csv, json) {
         return Err(LineFault::TwoForms);
     }
+    let (priorities_file, task_file) = files_in(alloc, task, given)?;
     Ok(Request {
         task,
         workers: workers_in(given),
@@ -102,11 +106,11 @@ fn request_in(alloc: Global, task: Task, given: &ArgMatches<'_>) -> Result<Reque
         words,
         latencies: latencies_in(given),
         priority,
-        priorities_file: file_in(alloc, given, "priorities")?,
+        priorities_file,
         nodes: nodes_in(given),
         csv,
         json,
-        task_file: file_in(alloc, given, "task")?,
+        task_file,
         lawful: flag_in(given, "lawful"),
         operations: flag_in(given, "operations"),
         outputs: flag_in(given, "outputs"),
@@ -205,6 +209,57 @@ fn flag_in(given: &ArgMatches<'_>, flag: &str) -> bool
     ensures { result ≡ flag_in flag.now (rows_of (found_of given.now)) }
 {
     given.get_flag(flag)
+}
+
+/// Whether a task can rank by somebody's own numbers.
+fn ranks_by_own(task: Task) -> bool
+    ensures { result ≡ ranks_by_own task }
+{
+    match task {
+        Task::Schedule | Task::Counts | Task::Compare | Task::Explain => true,
+        Task::Run | Task::Simulate | Task::Trace | Task::Optimize => false,
+        Task::Check | Task::Graph | Task::Lint => false,
+    }
+}
+
+/// The name of the file of priorities, if the task can rank by it and it is given.
+fn priorities_in(
+    alloc: Global,
+    task: Task,
+    given: &ArgMatches<'_>,
+) -> Result<Option<String>, AllocError>
+    ensures value { IfOk result (λ name.
+        option_map string_bytes name ≡ priorities_in task (rows_of (found_of given.now))) }
+    ensures ranks { IfOk result (λ name. ForSome name (λ _. ranks_by_own task ≡ true)) }
+{
+    if ranks_by_own(task) {
+        file_in(alloc, given, "priorities")
+    } else {
+        Ok(None)
+    }
+}
+
+/// The files that `--priorities` and `--task` name, which exclude each other.
+#[tactic(auto, using(crate::proofs::Files::both_named))]
+fn files_in(
+    alloc: Global,
+    task: Task,
+    given: &ArgMatches<'_>,
+) -> Result<(Option<String>, Option<String>), LineFault>
+    ensures numbers { IfOk result (λ files.
+        option_map string_bytes files.0 ≡ priorities_in task (rows_of (found_of given.now))) }
+    ensures blocks { IfOk result (λ files.
+        option_map string_bytes files.1 ≡ first_of (codes "task") (rows_of (found_of given.now))) }
+    ensures ranks { IfOk result (λ files. ForSome files.0 (λ _. ranks_by_own task ≡ true)) }
+    ensures one { IfOk result (λ files. is_some files.0 && is_some files.1 ≡ false) }
+    ensures err { IfErr result (NamesTwo (asked_as task (rows_of (found_of given.now)))) }
+{
+    let priorities = priorities_in(alloc, task, given)?;
+    let blocks = file_in(alloc, given, "task")?;
+    if are_both(priorities.is_some(), blocks.is_some()) {
+        return Err(LineFault::TwoFiles);
+    }
+    Ok((priorities, blocks))
 }
 
 /// The name of the file that an option names, if it is given.

@@ -1,7 +1,9 @@
 //! What a command line asks the program to do.
-ghost use Rattle.std.specs.Prelude.{◌≡◌, ◌+◌, ◌*◌, ◌%◌, ◌≤◌, ◌&&◌, false, length};
+ghost use Rattle.std.specs.Prelude.{◌≡◌, ◌+◌, ◌*◌, ◌%◌, ◌≤◌, ◌&&◌, true, false, is_some, length};
+ghost use Rattle.std.specs.Option.{ForSome};
 ghost use Rattle.iloc_meaning.specs.Address.{LAST_ADDRESS};
 ghost use Rattle.iloc_meaning.specs.Memory.{WORDS};
+ghost use Rattle.iloc_args.specs.Ranking.{ranks_by_own};
 
 use iloc_rules::Heuristic;
 use iloc_timed::Latencies;
@@ -48,7 +50,8 @@ pub struct Request {
     pub latencies: Latencies,
     /// By what the ready operations are ranked.
     pub priority: Heuristic,
-    /// The name of the file that holds the numbers by which they are ranked instead.
+    /// The name of the file that holds the numbers by which they are ranked instead; only for `Schedule`, `Counts`, `Compare` and
+    /// `Explain`, and never beside `task_file`.
     pub priorities_file: Option<String>,
     /// How many nodes a search for the best schedule has for each number of cycles that is tried, if there is a search.
     pub nodes: Option<u32>,
@@ -75,5 +78,7 @@ pub struct Request {
     ghost aligned: { at % 4 ≡ 0 },
     ghost in_memory: { at ≤ LAST_ADDRESS },
     ghost one_form: { csv && json ≡ false },
+    ghost ranks: { ForSome priorities_file (λ _. ranks_by_own task ≡ true) },
+    ghost one_file: { is_some priorities_file && is_some task_file ≡ false },
     ghost fits: { at + 4 * length words.items ≤ 4 * WORDS },
 }
