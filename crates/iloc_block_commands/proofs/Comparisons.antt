@@ -1,14 +1,15 @@
 -- What is found of a block by each heuristic.
-use Rattle.std.proofs.Common.{◌≡◌, ◌==◌, ◌<◌, ◌≤◌, ℕ, Bool, true, List, [], ◌∷◌, ◌++◌, ◌+◌, take, get_or, append_assoc, append-nil, inl, inr, None, length, refl, sym, ap, ap₂, subst, ◌∙◌, arith}
+use Rattle.std.proofs.Common.{◌≡◌, ◌==◌, ◌<◌, ◌≤◌, ℕ, Bool, true, false, List, [], ◌∷◌, ◌++◌, ◌+◌, take, get_or, append_assoc, append-nil, inl, inr, None, Option, Some, length, refl, sym, ap, ap₂, subst, ◌∙◌, arith}
 use Rattle.std.proofs.lemmas.Bool.{and_parts, cases_lt, eqb-true}
 use Rattle.std.proofs.lemmas.List.{ext_get_or, get_or-set_other, get_or-set_same, get_or_default, take_more}
 use Rattle.std.proofs.lemmas.Grind.{flat_map-append}
 use Rattle.std.specs.List.{list_all, range_with_len}
 use Rattle.iloc_rules.specs.Steps.Members.{In}
 use Rattle.iloc_rules.proofs.Basics.Members.{in_range_from}
-use Rattle.std.specs.Prelude.{slice_index, slice_set}
+use Rattle.std.specs.Prelude.{codes, slice_index, slice_set}
 use Rattle.iloc_ops.specs.Limits.{MAX_OPS}
 use Rattle.iloc_ops.specs.declared.file.Block.{Block}
+use Rattle.iloc_ops.specs.declared.op.Op.{Op}
 use Rattle.iloc_timed.specs.declared.latencies.Latencies.{Latencies}
 use Rattle.iloc_timed.specs.Schedule.{Table}
 use Rattle.iloc_rules.specs.Heuristics.{priorities_by}
@@ -17,10 +18,10 @@ use Rattle.iloc_rules.specs.Least.{least}
 use Rattle.iloc_rules.specs.declared.heuristic.Heuristic.{Heuristic}
 use Rattle.iloc_rules.specs.declared.heuristic.Heuristic.TheVariants.{Chain}
 use Rattle.iloc_bound.proofs.LeastBound.{least_bound}
-use Rattle.iloc_block_commands.specs.Compare.{AreCounts, IsComparedCycles, column, columns, cycles_by, place}
+use Rattle.iloc_block_commands.specs.Compare.{AreCounts, IsComparedCycles, IsOwnCount, column, columns, compare_ending, cycles_by, fewest, optimal, place, sums_line, tally_line}
 use Rattle.iloc_listing.specs.Listing.{cycles_of}
 use Rattle.iloc_listing.specs.Limits.{most_cycles}
-use Rattle.iloc_listing.specs.Schedules.{IsCount}
+use Rattle.iloc_listing.specs.Schedules.{IsCount, IsCountBy}
 use Rattle.iloc_listing.proofs.Schedules.{cycles_few_by}
 use Rattle.iloc_block_commands.specs.declared.compare.ComparedCycles.{ComparedCycles}
 
@@ -34,10 +35,10 @@ bound_small heuristic lat b n count short =
     cycles_few_by (priorities_by heuristic lat s.ops) lat b.ops s count.greedy.greedy short in
     omega arith
 
--- the cycles by a heuristic are one number
-one_count : (heuristic : Heuristic) (lat : Latencies) (b : Block) (n m : ℕ) → IsCount heuristic lat b n
-    → IsCount heuristic lat b m → n ≡ m
-one_count heuristic lat b n m is is' =
+-- the cycles by priorities are one number
+one_count : (prios : List Op → List ℕ) (lat : Latencies) (b : Block) (n m : ℕ) → IsCountBy prios lat b n
+    → IsCountBy prios lat b m → n ≡ m
+one_count prios lat b n m is is' =
     is.counted ∙ (ap (cycles_of lat) (is'.greedy.only is.schedule is.greedy.greedy) ∙ sym is'.counted)
 
 -- Places
@@ -87,6 +88,25 @@ columns_more csv number before text next i n d within so_far is more =
     ∙ sym (flat_map-append f (take i heuristics) (h ∷ []))
     ∙ ap (columns csv number) (sym (take_more heuristics i d within)))
 
+-- five parts of a line, one after another
+pub line_pushed : (text a b c d e head bounded cycled owned whole : List ℕ) → head ≡ text ++ a → bounded ≡ head ++ b
+    → cycled ≡ bounded ++ c → owned ≡ cycled ++ d → whole ≡ owned ++ e → whole ≡ text ++ (a ++ b ++ c ++ d ++ e)
+line_pushed text a b c d e head bounded cycled owned whole p q r s t = rw (t, s, r, q, p) (simp append_assoc)
+
+-- the totals, one line after another
+pub totals_pushed : (csv : Bool) (nodes : Option ℕ) (own named : Bool) (found : List ComparedCycles)
+    (text summed tallied whole : List ℕ) → csv ≡ false → own ≡ named → summed ≡ text ++ sums_line nodes own found
+    → tallied ≡ summed ++ tally_line (codes "fewest") own fewest found
+    → whole ≡ tallied ++ tally_line (codes "optimal") own optimal found → whole ≡ text ++ compare_ending csv nodes named found
+totals_pushed csv nodes own named found text summed tallied whole plain same p q r =
+    let sums : List ℕ = sums_line nodes own found in
+    let few : List ℕ = tally_line (codes "fewest") own fewest found in
+    let best : List ℕ = tally_line (codes "optimal") own optimal found in
+    let all : whole ≡ text ++ (sums ++ few ++ best) =
+    r ∙ (ap (λ t. t ++ best) (q ∙ ap (λ t. t ++ few) p)
+    ∙ (ap (λ t. t ++ best) (append_assoc text sums few) ∙ append_assoc text (sums ++ few) best)) in
+    rw (plain, sym same) all
+
 -- one count more
 pub counts_more : (lat : Latencies) (b : Block) (cycles : List ℕ) (n m : ℕ) (d : Heuristic) → length cycles ≡ length heuristics
     → n < length heuristics
@@ -123,14 +143,23 @@ one_list lat b xs ys is is' =
     let h : Heuristic = get_or heuristics i Chain in
     let at : place h ≡ i = place_of i (omega (arith, is.all)) in
     ap (slice_index xs) (sym at)
-    ∙ one_count h lat b (slice_index xs (place h)) (slice_index ys (place h)) (is.each h) (is'.each h)
+    ∙ one_count (priorities_by h lat) lat b (slice_index xs (place h)) (slice_index ys (place h)) (is.each h) (is'.each h)
     ∙ ap (slice_index ys) at)
 
+-- and one number by priorities of its own
+one_own : (lat : Latencies) (numbers : Option (List ℕ)) (b : Block) (c c' : Option ℕ) → IsOwnCount lat numbers b c
+    → IsOwnCount lat numbers b c' → c ≡ c'
+one_own lat None b c c' is is' = is ∙ sym is'
+one_own lat (Some numbers) b None c' is is' = absurd is
+one_own lat (Some numbers) b (Some n) None is is' = absurd is'
+one_own lat (Some numbers) b (Some n) (Some m) is is' = ap (λ x. Some x) (one_count (λ _. numbers) lat b n m is is')
+
 -- there is one comparison of a block without a search
-pub one_comparison : (lat : Latencies) (b : Block) (c c' : ComparedCycles) → IsComparedCycles lat None b c
-    → IsComparedCycles lat None b c' → c ≡ c'
-one_comparison lat b c c' is is' =
+pub one_comparison : (lat : Latencies) (numbers : Option (List ℕ)) (b : Block) (c c' : ComparedCycles)
+    → IsComparedCycles lat None numbers b c → IsComparedCycles lat None numbers b c' → c ≡ c'
+one_comparison lat numbers b c c' is is' =
     let bounds : c.least ≡ c'.least = is.bound ∙ sym is'.bound in
     let none : c.sought ≡ c'.sought = is.sought ∙ sym is'.sought in
     let all : c.cycles ≡ c'.cycles = one_list lat b c.cycles c'.cycles is.counts is'.counts in
-    λ i. record { least = bounds i; sought = none i; cycles = all i }
+    let mine : c.own ≡ c'.own = one_own lat numbers b c.own c'.own is.own is'.own in
+    λ i. record { least = bounds i; sought = none i; cycles = all i; own = mine i }

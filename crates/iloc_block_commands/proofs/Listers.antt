@@ -15,7 +15,7 @@ use Rattle.iloc_meaning.specs.declared.outcome.Outcome.{Outcome}
 use Rattle.iloc_timed.specs.Timed.{timed_outcome}
 use Rattle.iloc_rules.proofs.Outcome.LawfulOutcomes.{lawful_same_outcome}
 use Rattle.iloc_args.specs.declared.request.Request.{Request}
-use Rattle.iloc_block_commands.specs.Compare.{IsCompareEntry, IsCompareListing, IsComparedCycles, compare_ending, compare_header, compare_line}
+use Rattle.iloc_block_commands.specs.Compare.{IsCompareEntry, IsCompareListing, IsComparedCycles, compare_line, ending_for, opening_for}
 use Rattle.iloc_block_commands.specs.Counts.{IsCountEntry, IsCountListing, count_ending, count_header}
 use Rattle.iloc_listing.specs.Listing.{count_line, bound_comment, cycles_of, entries, opening_as, outcome_entry, schedule_entry, shown_entry, words_or_fault}
 use Rattle.iloc_block_commands.specs.Optimize.{IsOptimizeEntry}
@@ -137,12 +137,11 @@ counted_listing request own blocks found text are whole =
 
 -- and of what was compared
 pub compared_listing : (request : Request) (own : Own) (blocks : List Block) (found : List ComparedCycles) (text : List ℕ)
-    → AreListed (by_own (λ own k b c. IsComparedCycles request.latencies request.nodes b c) own) blocks found
-    → text ≡ (opening_as request.csv (compare_header request.nodes) ++ entries (compare_line request.csv) 1 blocks found)
-    ++ compare_ending request.csv request.nodes found
+    → AreListed (by_own (λ own k b c. IsComparedCycles request.latencies request.nodes own b c) own) blocks found
+    → text ≡ (opening_for request ++ entries (compare_line request.csv) 1 blocks found) ++ ending_for request found
     → IsCompareListing request own blocks text
 compared_listing request own blocks found text are whole =
-    lined_listing (IsCompareEntry request) (λ k. IsComparedCycles request.latencies request.nodes) (compare_line request.csv)
-    (λ k b c compares. record { compares = compares; listed = refl })
-    (opening_as request.csv (compare_header request.nodes)) (compare_ending request.csv request.nodes) blocks found text are
-    whole
+    lined_listing (λ k. IsCompareEntry request (own_of own k) k)
+    (λ k. IsComparedCycles request.latencies request.nodes (own_of own k)) (compare_line request.csv)
+    (λ k b c compares. record { compares = compares; listed = refl }) (opening_for request) (ending_for request) blocks found
+    text are whole

@@ -1,5 +1,6 @@
--- `compare` lists the bound on each block's cycles, and the cycles of its schedules by each heuristic.
-use Rattle.std.specs.Prelude.{ℕ, ◌≡◌, ◌==◌, nat_le, Bool, true, false, if◌then◌else◌, List, [], ◌++◌, slice_index, sum_by, length, Option, Some, None, codes}
+-- `compare` lists the bound on each block's cycles, and the cycles of its schedules by each heuristic and by its own priorities, if
+-- it has some.
+use Rattle.std.specs.Prelude.{ℕ, ◌≡◌, ◌==◌, ◌&&◌, nat_le, Bool, true, false, if◌then◌else◌, is_some, List, [], ◌++◌, slice_index, sum_by, length, MatchOption, Option, Some, None, codes}
 use Rattle.std.specs.List.{flat_map, list_all, position_or_len}
 use Rattle.std.specs.Str.{bytes_eq}
 use Rattle.std.specs.Option.{option_map_or}
@@ -16,9 +17,9 @@ use Rattle.iloc_args.specs.declared.request.Request.{Request}
 use Rattle.iloc_block_commands.specs.declared.compare.ComparedCycles.{ComparedCycles}
 use Rattle.iloc_driver.specs.Entries.{IsListingAfter}
 use Rattle.iloc_listing.specs.Listing.{entries, field, head_as, opening_as}
-use Rattle.iloc_listing.specs.Schedules.{IsCount}
+use Rattle.iloc_listing.specs.Schedules.{IsCount, IsCountBy}
 use Rattle.iloc_driver.specs.Command.{Command, shared_by}
-use Rattle.iloc_driver.specs.Priorities.{Own}
+use Rattle.iloc_driver.specs.Priorities.{Own, own_of}
 use Rattle.iloc_optimum.specs.Optimum.{IsSoughtIf}
 
 -- the place of a heuristic among them, by its word
@@ -34,11 +35,19 @@ pub record AreCounts (lat : Latencies) (b : Block) (cycles : List ℕ) : Type 0 
   pub all : length cycles ≡ length heuristics
   pub each : (heuristic : Heuristic) → IsCount heuristic lat b (slice_index cycles (place heuristic))
 
--- the bound on the block's cycles, what is found of them where the request has nodes, and those of its schedules
-pub record IsComparedCycles (lat : Latencies) (nodes : Option ℕ) (b : Block) (c : ComparedCycles) : Type 0 where
+-- how many the block's schedule takes by its own priorities, if it has some
+abbrev pub IsOwnCount : Latencies → Option (List ℕ) → Block → Option ℕ → Type 0
+IsOwnCount lat None b count = count ≡ None
+IsOwnCount lat (Some numbers) b count = MatchOption count ⊥ (IsCountBy (λ _. numbers) lat b)
+
+-- the bound on the block's cycles, what is found of them where the request has nodes, and those of its schedules, also by these
+-- priorities of its own if it has some
+pub record IsComparedCycles (lat : Latencies) (nodes : Option ℕ) (numbers : Option (List ℕ)) (b : Block) (c : ComparedCycles)
+    : Type 0 where
   pub bound : c.least ≡ least lat b.ops
   pub sought : IsSoughtIf nodes lat b.ops c.sought
   pub counts : AreCounts lat b c.cycles
+  pub own : IsOwnCount lat numbers b c.own
 
 -- the bound that is known: what a search proves, or else `least`
 abbrev pub bound_of : ComparedCycles → ℕ
@@ -48,17 +57,25 @@ bound_of c = option_map_or (λ s. s.bound) c.sought c.least
 abbrev pub best_of : ComparedCycles → ℕ
 best_of c = option_map_or (λ s. s.best) c.sought 0
 
--- whether the schedule by no heuristic takes fewer
+-- whether none of the schedules takes fewer
 abbrev pub is_fewest : ℕ → ComparedCycles → Bool
-is_fewest cycles c = list_all (nat_le cycles) c.cycles
+is_fewest cycles c = list_all (nat_le cycles) c.cycles && option_map_or (nat_le cycles) c.own true
 
--- 1 for a block where that by this heuristic has the fewest
-abbrev pub fewest_by : Heuristic → ComparedCycles → ℕ
-fewest_by heuristic c = if is_fewest (cycles_by heuristic c) c then 1 else 0
+-- 1 for a block where one of so many cycles has the fewest
+abbrev pub fewest : ℕ → ComparedCycles → ℕ
+fewest cycles c = if is_fewest cycles c then 1 else 0
 
--- 1 for a block whose schedule by this heuristic takes as many as the bound: then no lawful schedule takes fewer
-abbrev pub optimal_by : Heuristic → ComparedCycles → ℕ
-optimal_by heuristic c = if cycles_by heuristic c == bound_of c then 1 else 0
+-- 1 for a block where one takes as many as the bound: then no lawful schedule takes fewer
+abbrev pub optimal : ℕ → ComparedCycles → ℕ
+optimal cycles c = if cycles == bound_of c then 1 else 0
+
+-- what is counted of the schedule by this heuristic
+abbrev pub counted_by : (ℕ → ComparedCycles → ℕ) → Heuristic → ComparedCycles → ℕ
+counted_by counted heuristic c = counted (cycles_by heuristic c) c
+
+-- and of that by the block's own priorities, if it has some
+abbrev pub counted_own : (ℕ → ComparedCycles → ℕ) → ComparedCycles → ℕ
+counted_own counted c = option_map_or (λ cycles. counted cycles c) c.own 0
 
 -- a number by its heuristic
 abbrev pub column : Bool → Heuristic → ℕ → List ℕ
@@ -77,15 +94,21 @@ sought_columns csv (Some s) = field csv (codes "bound") s.bound ++ field csv (co
 abbrev pub bounds_columns : Bool → ComparedCycles → List ℕ
 bounds_columns csv c = field csv (codes "least") c.least ++ sought_columns csv c.sought
 
+-- ` own C`, or `,C` in a table, where the block has priorities of its own
+abbrev pub own_column : Bool → Option ℕ → List ℕ
+own_column csv None = []
+own_column csv (Some cycles) = field csv (codes "own") cycles
+
 -- `block K NAME least L chain C ..`, or `K,NAME,L,C,..` in a table
 abbrev pub compare_line : Bool → ℕ → Option (List ℕ) → ComparedCycles → List ℕ
 compare_line csv k name c =
     head_as csv k name ++ bounds_columns csv c ++ columns csv (λ heuristic. cycles_by heuristic c) heuristics
-    ++ codes "\n"
+    ++ own_column csv c.own ++ codes "\n"
 
 -- the entry of block k: its comparison, which is found
-pub record IsCompareEntry (request : Request) (k : ℕ) (b : Block) (entry : List ℕ) (found : ComparedCycles) : Type 0 where
-  pub compares : IsComparedCycles request.latencies request.nodes b found
+pub record IsCompareEntry (request : Request) (own : Option (List ℕ)) (k : ℕ) (b : Block) (entry : List ℕ)
+    (found : ComparedCycles) : Type 0 where
+  pub compares : IsComparedCycles request.latencies request.nodes own b found
   pub listed : entry ≡ compare_line request.csv k b.name found
 
 -- the words for the heuristics, each after a comma
@@ -97,13 +120,24 @@ abbrev pub heading : Option ℕ → List ℕ
 heading None = codes "block,name,least"
 heading (Some nodes) = codes "block,name,least,bound,best"
 
--- what a table begins with
-abbrev pub compare_header : Option ℕ → List ℕ
-compare_header nodes = heading nodes ++ names ++ codes "\n"
+-- what follows them where the request names priorities
+abbrev pub own_name : Bool → List ℕ
+own_name false = []
+own_name true = codes ",own"
 
--- the sums for each heuristic
-abbrev pub sums_of : (Heuristic → ComparedCycles → ℕ) → List ComparedCycles → List ℕ
-sums_of counted found = columns false (λ heuristic. sum_by (counted heuristic) found) heuristics
+-- what a table begins with
+abbrev pub compare_header : Option ℕ → Bool → List ℕ
+compare_header nodes own = heading nodes ++ names ++ own_name own ++ codes "\n"
+
+-- the sum for the blocks' own priorities, where the request names some
+abbrev pub own_sum : Bool → (ℕ → ComparedCycles → ℕ) → List ComparedCycles → List ℕ
+own_sum false counted found = []
+own_sum true counted found = field false (codes "own") (sum_by (counted_own counted) found)
+
+-- the sums for each heuristic, and that one
+abbrev pub sums_of : Bool → (ℕ → ComparedCycles → ℕ) → List ComparedCycles → List ℕ
+sums_of own counted found =
+    columns false (λ heuristic. sum_by (counted_by counted heuristic) found) heuristics ++ own_sum own counted found
 
 -- ` bound B best C` of all together, where the request has nodes
 abbrev pub sought_sums : Option ℕ → List ComparedCycles → List ℕ
@@ -116,38 +150,43 @@ abbrev pub bounds_total : Option ℕ → List ComparedCycles → List ℕ
 bounds_total nodes found = codes "total least " ++ decimal (sum_by (λ c. c.least) found) ++ sought_sums nodes found
 
 -- and `chain C ..`
-abbrev pub sums_line : Option ℕ → List ComparedCycles → List ℕ
-sums_line nodes found = bounds_total nodes found ++ sums_of cycles_by found ++ codes "\n"
+abbrev pub sums_line : Option ℕ → Bool → List ComparedCycles → List ℕ
+sums_line nodes own found = bounds_total nodes found ++ sums_of own (λ cycles _. cycles) found ++ codes "\n"
 
 -- `LABEL chain N .. of B`, with the number of blocks
-abbrev pub tally_line : List ℕ → (Heuristic → ComparedCycles → ℕ) → List ComparedCycles → List ℕ
-tally_line label counted found =
-    label ++ sums_of counted found ++ codes " of " ++ decimal (length found) ++ codes "\n"
+abbrev pub tally_line : List ℕ → Bool → (ℕ → ComparedCycles → ℕ) → List ComparedCycles → List ℕ
+tally_line label own counted found =
+    label ++ sums_of own counted found ++ codes " of " ++ decimal (length found) ++ codes "\n"
 
 -- the sums, and how many blocks have the fewest cycles or the bound
-abbrev pub compare_totals : Option ℕ → List ComparedCycles → List ℕ
-compare_totals nodes found =
-    sums_line nodes found ++ tally_line (codes "fewest") fewest_by found ++ tally_line (codes "optimal") optimal_by found
+abbrev pub compare_totals : Option ℕ → Bool → List ComparedCycles → List ℕ
+compare_totals nodes own found =
+    sums_line nodes own found ++ tally_line (codes "fewest") own fewest found ++ tally_line (codes "optimal") own optimal found
 
 -- these, which a table has not
-abbrev pub compare_ending : Bool → Option ℕ → List ComparedCycles → List ℕ
-compare_ending true nodes found = []
-compare_ending false nodes found = compare_totals nodes found
+abbrev pub compare_ending : Bool → Option ℕ → Bool → List ComparedCycles → List ℕ
+compare_ending true nodes own found = []
+compare_ending false nodes own found = compare_totals nodes own found
 
--- the listing of these blocks for the request
+-- what comes before the blocks for a request, and after them
+abbrev pub opening_for : Request → List ℕ
+opening_for request = opening_as request.csv (compare_header request.nodes (is_some request.priorities_file))
+
+abbrev pub ending_for : Request → List ComparedCycles → List ℕ
+ending_for request found = compare_ending request.csv request.nodes (is_some request.priorities_file) found
+
+-- the listing of these blocks for the request, with their own priorities if there are some
 abbrev pub IsCompareListing : Request → Own → List Block → List ℕ → Type 0
 IsCompareListing request own blocks text =
-    IsListingAfter (IsCompareEntry request) (opening_as request.csv (compare_header request.nodes))
-    (compare_ending request.csv request.nodes) blocks text
+    IsListingAfter (λ k. IsCompareEntry request (own_of own k) k) (opening_for request) (ending_for request) blocks text
 
 -- that of blocks of which this is compared
 abbrev pub listing_of_compared : Request → List Block → List ComparedCycles → List ℕ
 listing_of_compared request blocks found =
-    (opening_as request.csv (compare_header request.nodes) ++ entries (compare_line request.csv) 1 blocks found)
-    ++ compare_ending request.csv request.nodes found
+    (opening_for request ++ entries (compare_line request.csv) 1 blocks found) ++ ending_for request found
 
 -- workers hand back all that is compared
 abbrev pub compare_command : Command
 compare_command =
-    shared_by (λ request own k b c. IsComparedCycles request.latencies request.nodes b c) (cycles_by Chain) listing_of_compared
+    shared_by (λ request own k b c. IsComparedCycles request.latencies request.nodes own b c) (cycles_by Chain) listing_of_compared
     IsCompareListing

@@ -1,5 +1,6 @@
-//! `compare`: the bound on blocks' cycles, and the cycles of their schedules by each heuristic.
-ghost use Rattle.std.specs.Prelude.{◌≡◌, ◌≤◌, ◌<◌, ◌^◌, ◌++◌, false, length, sum_by, IfOk, OnOk};
+//! `compare`: the bound on blocks' cycles, and the cycles of their schedules by each heuristic and by their own priorities.
+ghost use Rattle.std.specs.Prelude.{◌≡◌, ◌≤◌, ◌<◌, ◌^◌, ◌++◌, false, length, nat_le, sum_by, IfOk, IfSome, OnOk};
+ghost use Rattle.std.specs.List.{list_all};
 ghost use Rattle.std.specs.Option.{option_copied};
 ghost use Rattle.iloc_ops.specs.Limits.{MAX_BLOCKS};
 ghost use Rattle.iloc_ops.specs.declared.file.Block.{Block as block_value};
@@ -8,10 +9,9 @@ ghost use Rattle.iloc_sched.specs.Graph.GraphOf.{of_block};
 ghost use Rattle.iloc_rules.specs.Heuristics.Listed.{heuristics};
 ghost use Rattle.iloc_rules.specs.declared.heuristic.Heuristic.{Heuristic as heuristic_value};
 ghost use Rattle.iloc_block_commands.specs.Compare as compare;
-ghost use Rattle.iloc_block_commands.specs.Compare.{AreCounts};
-ghost use Rattle.iloc_listing.specs.Listing.{opening_as};
-ghost use Rattle.iloc_listing.specs.Schedules.{IsCount};
-ghost use Rattle.iloc_block_commands.specs.Steps.Tallies.{counted, limit_of};
+ghost use Rattle.iloc_block_commands.specs.Compare.{AreCounts, IsOwnCount};
+ghost use Rattle.iloc_listing.specs.Schedules.{IsCount, IsCountBy};
+ghost use Rattle.iloc_block_commands.specs.Steps.Tallies.{added, counted};
 
 use iloc_args::{Request, priority_name};
 use iloc_bound::least_of;
@@ -23,7 +23,7 @@ use iloc_rules::{HEURISTIC_COUNT, HEURISTICS, Heuristic, Sought};
 use iloc_sched::{Graph, Scheduler};
 use std::alloc::Global;
 
-/// The bound on a block's cycles, and the cycles of its schedules by each heuristic.
+/// The bound on a block's cycles, and the cycles of its schedules by each heuristic and by its own priorities.
 #[derive(Clone, Copy, Drop)]
 pub struct ComparedCycles {
     /// How many cycles a lawful schedule takes at least.
@@ -32,6 +32,8 @@ pub struct ComparedCycles {
     pub sought: Option<Sought>,
     /// How many each schedule takes, in the order in which the heuristics are listed.
     pub cycles: [u32; HEURISTIC_COUNT],
+    /// How many that by the block's own priorities takes, if it has some.
+    pub own: Option<u32>,
 }
 
 /// How many cycles a lawful schedule is known to take at least.
@@ -55,10 +57,21 @@ fn best_of(comparison: &ComparedCycles) -> u32
 }
 
 /// Whether the schedule by no heuristic takes fewer.
+fn is_fewest_by_name(cycles: u32, comparison: &ComparedCycles) -> bool
+    ensures { result ≡ list_all (nat_le cycles) comparison.now.cycles }
+{
+    comparison.cycles.iter().all(|other| cycles <= *other)
+}
+
+/// Whether none of the schedules takes fewer.
 fn is_fewest(cycles: u32, comparison: &ComparedCycles) -> bool
     ensures { result ≡ compare.is_fewest cycles comparison.now }
 {
-    comparison.cycles.iter().all(|other| cycles <= *other)
+    let by_name = is_fewest_by_name(cycles, comparison);
+    match comparison.own {
+        Some(own) => by_name && cycles <= own,
+        None => by_name,
+    }
 }
 
 /// What is summed over blocks.
@@ -66,19 +79,17 @@ fn is_fewest(cycles: u32, comparison: &ComparedCycles) -> bool
 enum Tally {
     /// The cycles of their schedules.
     Cycles,
-    /// In how many the schedule by no other heuristic takes fewer.
+    /// In how many no other schedule takes fewer.
     Fewest,
     /// In how many the schedule takes as many as the bound that is known.
     Optimal,
 }
 
 impl Tally {
-    /// What one block adds for the heuristic at this place.
-    fn of(self, place: usize, comparison: &ComparedCycles) -> u32
-        requires { place < length heuristics }
-        ensures { (h : heuristic_value) → place ≡ compare.place h → result ≡ counted self h comparison.now }
+    /// What one block adds for a schedule of so many cycles.
+    fn of(self, cycles: u32, comparison: &ComparedCycles) -> u32
+        ensures { result ≡ counted self cycles comparison.now }
     {
-        let cycles = comparison.cycles[place];
         match self {
             Tally::Cycles => cycles,
             Tally::Fewest => u32::from(is_fewest(cycles, comparison)),
@@ -86,15 +97,35 @@ impl Tally {
         }
     }
 
-    /// What all add.
+    /// What one block adds for the heuristic at this place.
+    fn at(self, place: usize, comparison: &ComparedCycles) -> u32
+        requires { place < length heuristics }
+        ensures { (h : heuristic_value) → place ≡ compare.place h
+            → result ≡ compare.counted_by (counted self) h comparison.now }
+    {
+        self.of(comparison.cycles[place], comparison)
+    }
+
+    /// What one block adds for its own priorities, if it has some.
+    fn of_own(self, comparison: &ComparedCycles) -> u32
+        ensures { result ≡ compare.counted_own (counted self) comparison.now }
+    {
+        match comparison.own {
+            Some(cycles) => self.of(cycles, comparison),
+            None => 0,
+        }
+    }
+
+    /// What all add for the heuristic at this place.
     fn sum(self, place: usize, found: &[ComparedCycles]) -> u64
         requires there { place < length heuristics }
         requires few { length found.now ≤ MAX_BLOCKS }
-        ensures { (h : heuristic_value) → place ≡ compare.place h → result ≡ sum_by (counted self h) found.now }
+        ensures { (h : heuristic_value) → place ≡ compare.place h
+            → result ≡ sum_by (compare.counted_by (counted self) h) found.now }
     {
         let mut sum = 0;
         for comparison in found {
-            sum += u64::from(self.of(place, comparison));
+            sum += u64::from(self.at(place, comparison));
         }
         sum
     }
@@ -102,31 +133,34 @@ impl Tally {
 
 /// What is summed over blocks, whatever the heuristic.
 #[derive(Clone, Copy)]
-enum Limit {
+enum Total {
     /// The bounds by the formula.
     Least,
     /// The bounds that are known.
     Bound,
     /// The cycles of the best schedules that are found.
     Best,
+    /// This, of the schedules by the blocks' own priorities.
+    Own(Tally),
 }
 
-impl Limit {
+impl Total {
     /// What one block adds.
     fn of(self, comparison: &ComparedCycles) -> u32
-        ensures { result ≡ limit_of self comparison.now }
+        ensures { result ≡ added self comparison.now }
     {
         match self {
-            Limit::Least => comparison.least,
-            Limit::Bound => bound_of(comparison),
-            Limit::Best => best_of(comparison),
+            Total::Least => comparison.least,
+            Total::Bound => bound_of(comparison),
+            Total::Best => best_of(comparison),
+            Total::Own(tally) => tally.of_own(comparison),
         }
     }
 
     /// What all add.
     fn sum(self, found: &[ComparedCycles]) -> u64
         requires { length found.now ≤ MAX_BLOCKS }
-        ensures { result ≡ sum_by (limit_of self) found.now }
+        ensures { result ≡ sum_by (added self) found.now }
     {
         let mut sum = 0;
         for comparison in found {
@@ -160,15 +194,42 @@ fn push_cycles(text: &mut Vec<u8>, csv: bool, comparison: &ComparedCycles) -> Re
     Ok(())
 }
 
+/// Appends the cycles by the block's own priorities, if it has some.
+fn push_own(text: &mut Vec<u8>, csv: bool, own: Option<u32>) -> Result<(), NoMemory>
+    ensures { OnOk result (text.new.items ≡ text.old.items ++ compare.own_column csv own) }
+{
+    if let Some(cycles) = own {
+        push_field(text, csv, "own", u64::from(cycles))?;
+    }
+    Ok(())
+}
+
 /// Appends for each heuristic what is summed over all blocks.
-fn push_sums(text: &mut Vec<u8>, tally: Tally, found: &[ComparedCycles]) -> Result<(), NoMemory>
+fn push_sums_by(text: &mut Vec<u8>, tally: Tally, found: &[ComparedCycles]) -> Result<(), NoMemory>
     requires { length found.now ≤ MAX_BLOCKS }
-    ensures { OnOk result (text.new.items ≡ text.old.items
-        ++ compare.columns false (λ heuristic. sum_by (counted tally heuristic) found.now) heuristics) }
+    ensures { OnOk result (text.new.items ≡ text.old.items ++ compare.columns false
+        (λ heuristic. sum_by (compare.counted_by (counted tally) heuristic) found.now) heuristics) }
 {
     for (place, heuristic) in HEURISTICS.iter().enumerate() {
         let sum = tally.sum(place, found);
         push_number_by(text, false, *heuristic, sum)?;
+    }
+    Ok(())
+}
+
+/// Appends for each heuristic what is summed over all blocks, and for their own priorities, if they have some.
+fn push_sums(
+    text: &mut Vec<u8>,
+    own: bool,
+    tally: Tally,
+    found: &[ComparedCycles],
+) -> Result<(), NoMemory>
+    requires { length found.now ≤ MAX_BLOCKS }
+    ensures { OnOk result (text.new.items ≡ text.old.items ++ compare.sums_of own (counted tally) found.now) }
+{
+    push_sums_by(text, tally, found)?;
+    if own {
+        push_field(text, false, "own", Total::Own(tally).sum(found))?;
     }
     Ok(())
 }
@@ -207,6 +268,7 @@ fn push_comparison(
     push_head(text, csv, number, name)?;
     push_bounds(text, csv, comparison)?;
     push_cycles(text, csv, comparison)?;
+    push_own(text, csv, comparison.own)?;
     text.push(b'\n')?;
     Ok(())
 }
@@ -221,8 +283,8 @@ fn push_sought_sums(
     ensures { OnOk result (text.new.items ≡ text.old.items ++ compare.sought_sums nodes found.now) }
 {
     if nodes.is_some() {
-        push_field(text, false, "bound", Limit::Bound.sum(found))?;
-        push_field(text, false, "best", Limit::Best.sum(found))?;
+        push_field(text, false, "bound", Total::Bound.sum(found))?;
+        push_field(text, false, "best", Total::Best.sum(found))?;
     }
     Ok(())
 }
@@ -236,7 +298,7 @@ fn push_bounds_total(
     requires { length found.now ≤ MAX_BLOCKS }
     ensures { OnOk result (text.new.items ≡ text.old.items ++ compare.bounds_total nodes found.now) }
 {
-    push_numbered(text, b"total least ", Limit::Least.sum(found), b"")?;
+    push_numbered(text, b"total least ", Total::Least.sum(found), b"")?;
     push_sought_sums(text, nodes, found)
 }
 
@@ -244,13 +306,14 @@ fn push_bounds_total(
 fn push_sums_line(
     text: &mut Vec<u8>,
     nodes: Option<u32>,
+    own: bool,
     found: &[ComparedCycles],
 ) -> Result<(), NoMemory>
     requires { length found.now ≤ MAX_BLOCKS }
-    ensures { OnOk result (text.new.items ≡ text.old.items ++ compare.sums_line nodes found.now) }
+    ensures { OnOk result (text.new.items ≡ text.old.items ++ compare.sums_line nodes own found.now) }
 {
     push_bounds_total(text, nodes, found)?;
-    push_sums(text, Tally::Cycles, found)?;
+    push_sums(text, own, Tally::Cycles, found)?;
     text.push(b'\n')?;
     Ok(())
 }
@@ -259,34 +322,35 @@ fn push_sums_line(
 fn push_tally_line(
     text: &mut Vec<u8>,
     label: &[u8],
+    own: bool,
     tally: Tally,
     found: &[ComparedCycles],
 ) -> Result<(), NoMemory>
     requires { length found.now ≤ MAX_BLOCKS }
     ensures { OnOk result
-        (text.new.items ≡ text.old.items ++ compare.tally_line label.now (counted tally) found.now) }
+        (text.new.items ≡ text.old.items ++ compare.tally_line label.now own (counted tally) found.now) }
 {
     text.extend_from_slice(label)?;
-    push_sums(text, tally, found)?;
+    push_sums(text, own, tally, found)?;
     push_numbered(text, b" of ", found.len() as u64, b"\n")
 }
 
 /// Appends what all blocks add up to, but in a table.
 fn push_totals(
     text: &mut Vec<u8>,
-    csv: bool,
-    nodes: Option<u32>,
+    request: &Request,
     found: &[ComparedCycles],
 ) -> Result<(), NoMemory>
     requires { length found.now ≤ MAX_BLOCKS }
-    ensures { OnOk result (text.new.items ≡ text.old.items ++ compare.compare_ending csv nodes found.now) }
+    ensures { OnOk result (text.new.items ≡ text.old.items ++ compare.ending_for request.now found.now) }
 {
-    if csv {
+    if request.csv {
         return Ok(());
     }
-    push_sums_line(text, nodes, found)?;
-    push_tally_line(text, b"fewest", Tally::Fewest, found)?;
-    push_tally_line(text, b"optimal", Tally::Optimal, found)
+    let own = request.priorities_file.is_some();
+    push_sums_line(text, request.nodes, own, found)?;
+    push_tally_line(text, b"fewest", own, Tally::Fewest, found)?;
+    push_tally_line(text, b"optimal", own, Tally::Optimal, found)
 }
 
 /// Appends the name of each heuristic, with a comma before it.
@@ -310,27 +374,34 @@ fn heading(nodes: Option<u32>) -> &'static [u8]
     }
 }
 
+/// What follows that where the request names priorities.
+fn own_name(own: bool) -> &'static [u8]
+    ensures { result.now ≡ compare.own_name own }
+{
+    if own { b",own" } else { b"" }
+}
+
 /// Appends what a table begins with.
-fn push_header(text: &mut Vec<u8>, nodes: Option<u32>) -> Result<(), NoMemory>
-    ensures { OnOk result (text.new.items ≡ text.old.items ++ compare.compare_header nodes) }
+fn push_header(text: &mut Vec<u8>, nodes: Option<u32>, own: bool) -> Result<(), NoMemory>
+    ensures { OnOk result (text.new.items ≡ text.old.items ++ compare.compare_header nodes own) }
 {
     text.extend_from_slice(heading(nodes))?;
     push_names(text)?;
+    text.extend_from_slice(own_name(own))?;
     Ok(text.push(b'\n')?)
 }
 
 /// Appends it, if a table is asked for.
-fn push_opening(text: &mut Vec<u8>, csv: bool, nodes: Option<u32>) -> Result<(), NoMemory>
-    ensures { OnOk result
-        (text.new.items ≡ text.old.items ++ opening_as csv (compare.compare_header nodes)) }
+fn push_opening(text: &mut Vec<u8>, request: &Request) -> Result<(), NoMemory>
+    ensures { OnOk result (text.new.items ≡ text.old.items ++ compare.opening_for request.now) }
 {
-    if csv {
-        push_header(text, nodes)?;
+    if request.csv {
+        push_header(text, request.nodes, request.priorities_file.is_some())?;
     }
     Ok(())
 }
 
-/// Schedules each block by each heuristic, and answers how many cycles the schedules take.
+/// Schedules each block by each heuristic and its own priorities, and answers how many cycles the schedules take.
 #[derive(Drop)]
 pub struct CompareLister {
     graph: Graph,
@@ -361,6 +432,34 @@ fn counts(scheduler: &mut Scheduler, graph: &Graph) -> Result<[u32; HEURISTIC_CO
     Ok(cycles)
 }
 
+/// How many cycles the schedule of this graph's block by these numbers takes.
+fn count_by(scheduler: &mut Scheduler, graph: &Graph, numbers: &[u32]) -> Result<u32, NoMemory>
+    requires { length numbers.now ≡ length graph.now.ops }
+    ensures { IfOk result (λ cycles. (lat : latencies_value) (block : block_value) → graph.now ≡ of_block lat block.ops
+        → IsCountBy (λ _. numbers.now) lat block cycles) }
+{
+    let schedule = scheduler.lend(graph, numbers)?;
+    let cycles = count_of(&schedule, graph.latencies());
+    scheduler.take_back(schedule);
+    Ok(cycles)
+}
+
+/// The same, if there are some.
+fn own_count(
+    scheduler: &mut Scheduler,
+    graph: &Graph,
+    own: Option<&[u32]>,
+) -> Result<Option<u32>, NoMemory>
+    requires { IfSome (option_copied own) (λ numbers. length numbers ≡ length graph.now.ops) }
+    ensures { IfOk result (λ count. (lat : latencies_value) (block : block_value) → graph.now ≡ of_block lat block.ops
+        → IsOwnCount lat (option_copied own.entry) block count) }
+{
+    match own {
+        Some(numbers) => Ok(Some(count_by(scheduler, graph, numbers)?)),
+        None => Ok(None),
+    }
+}
+
 impl FarmedLister for CompareLister {
     ghost use Rattle.iloc_rules.specs.declared.heuristic.Heuristic.TheVariants.{Chain};
     ghost use Rattle.iloc_block_commands.specs.Compare.{IsCompareListing, IsComparedCycles, cycles_by, listing_of_compared};
@@ -370,7 +469,7 @@ impl FarmedLister for CompareLister {
 
     type Answer = ComparedCycles;
 
-    ghost answers = { λ request _ _ block found. IsComparedCycles request.latencies request.nodes block found };
+    ghost answers = { λ request own _ block found. IsComparedCycles request.latencies request.nodes own block found };
 
     ghost cycles_in = { λ found. cycles_by Chain found };
 
@@ -390,7 +489,7 @@ impl FarmedLister for CompareLister {
         &mut self,
         alloc: Global,
         request: &Request,
-        _own: Option<&[u32]>,
+        own: Option<&[u32]>,
         _number: usize,
         block: &Block,
     ) -> Result<ComparedCycles, NoMemory> {
@@ -398,10 +497,12 @@ impl FarmedLister for CompareLister {
         let least = least_of(alloc, &self.graph)?;
         let sought = self.optimizer.seek_if(block, &self.graph, request.nodes)?;
         let cycles = counts(&mut self.scheduler, &self.graph)?;
+        let own = own_count(&mut self.scheduler, &self.graph, own)?;
         Ok(ComparedCycles {
             least: least as u32,
             sought,
             cycles,
+            own,
         })
     }
 
@@ -419,16 +520,16 @@ impl FarmedLister for CompareLister {
         requires many { length found.items ≡ length blocks }
         ensures made { IfOk result (λ text. text ≡ listing_of_compared request.now blocks found.items) }
         ensures right { IfOk result (λ text. (own : Own)
-            → AreListed (by_own (λ _ _ block each. IsComparedCycles request.now.latencies request.now.nodes block each) own)
+            → AreListed (by_own (λ own _ block each. IsComparedCycles request.now.latencies request.now.nodes own block each) own)
             blocks found.items → IsCompareListing request.now own blocks text) }
     {
         let mut text = Vec::new(alloc);
-        push_opening(&mut text, request.csv, request.nodes)?;
+        push_opening(&mut text, request)?;
         for (index, block) in blocks.as_slice().iter().enumerate() {
             let name = block.name.as_ref();
             push_comparison(&mut text, request.csv, index + 1, name, &found[index])?;
         }
-        push_totals(&mut text, request.csv, request.nodes, &found)?;
+        push_totals(&mut text, request, &found)?;
         Ok(Listing::of_text(alloc, text))
     }
 }

@@ -1,5 +1,5 @@
 -- What is counted as optimal is.
-use Rattle.std.proofs.Common.{◌≡◌, ◌==◌, ℕ, Bool, true, false, if◌then◌else◌, Option, Some, None, refl, sym, ap, subst, ◌∙◌, arith}
+use Rattle.std.proofs.Common.{◌≡◌, ◌==◌, ℕ, Bool, true, false, if◌then◌else◌, List, Option, Some, None, refl, sym, ap, subst, ◌∙◌, arith}
 use Rattle.std.proofs.lemmas.Bool.{eqb-true}
 use Rattle.std.specs.Option.{option_map_or}
 use Rattle.iloc_ops.specs.declared.file.Block.{Block}
@@ -8,17 +8,16 @@ use Rattle.iloc_rules.specs.Least.{least}
 use Rattle.iloc_bound.proofs.LeastBound.{least_bound}
 use Rattle.iloc_rules.specs.declared.sought.Sought.{Sought}
 use Rattle.iloc_optimum.specs.Bound.{IsBound}
-use Rattle.iloc_block_commands.specs.Compare.{IsComparedCycles, bound_of, cycles_by, optimal_by}
+use Rattle.iloc_block_commands.specs.Compare.{IsComparedCycles, bound_of, optimal}
 use Rattle.iloc_optimum.specs.Optimum.{IsSoughtIf}
 use Rattle.iloc_farm.specs.Laws.{CountedOptimaAreOptimal}
 use Rattle.iloc_listing.specs.Listing.{cycles_of}
-use Rattle.iloc_listing.specs.Schedules.{IsCount}
 use Rattle.iloc_block_commands.specs.declared.compare.ComparedCycles.{ComparedCycles}
 
 -- the bound that is known holds
-bound_holds : (lat : Latencies) (nodes : Option ℕ) (b : Block) (c : ComparedCycles) → IsComparedCycles lat nodes b c
-    → IsBound lat b.ops (bound_of c)
-bound_holds lat nodes b c is = go nodes c.sought is.sought
+bound_holds : (lat : Latencies) (nodes : Option ℕ) (numbers : Option (List ℕ)) (b : Block) (c : ComparedCycles)
+    → IsComparedCycles lat nodes numbers b c → IsBound lat b.ops (bound_of c)
+bound_holds lat nodes numbers b c is = go nodes c.sought is.sought
   where
     go : (nodes : Option ℕ) (sought : Option Sought) → IsSoughtIf nodes lat b.ops sought
         → IsBound lat b.ops (option_map_or (λ (s : Sought). s.bound) sought c.least)
@@ -34,13 +33,12 @@ is_one false n one is = absurd (omega (arith, one, is))
 
 -- a schedule that is counted as optimal is
 pub counted_optima : CountedOptimaAreOptimal
-counted_optima lat nodes b c is heuristic counted s greedy =
-    let count : IsCount heuristic lat b (cycles_by heuristic c) = is.counts.each heuristic in
-    let reached : cycles_by heuristic c ≡ bound_of c =
-    eqb-true (cycles_by heuristic c) (bound_of c) (is_one (cycles_by heuristic c == bound_of c) (optimal_by heuristic c) counted refl) in
+counted_optima lat nodes numbers b c is prios cycles count counted s greedy =
+    let reached : cycles ≡ bound_of c =
+    eqb-true cycles (bound_of c) (is_one (cycles == bound_of c) (optimal cycles c) counted refl) in
     let same : s ≡ count.schedule = count.greedy.only s greedy in
     let reaches : bound_of c ≡ cycles_of lat s = sym reached ∙ (count.counted ∙ ap (cycles_of lat) (sym same)) in
     record {
       lawful = greedy.lawful;
-      fewest = subst (IsBound lat b.ops) reaches (bound_holds lat nodes b c is);
+      fewest = subst (IsBound lat b.ops) reaches (bound_holds lat nodes numbers b c is);
     }

@@ -1,6 +1,7 @@
 -- What is listed of one input does not depend on the workers, and greedy schedules can be listed.
 use Rattle.std.proofs.Common.{◌≡◌, ℕ, List, Option, IsTrue, sym, arith}
 use Rattle.std.proofs.Math.Path.{transport}
+use Rattle.std.specs.Prelude.{is_some}
 use Rattle.std.specs.declared.alloc.Global.{Global}
 use Rattle.std.specs.declared.string.String.{String}
 use Rattle.iloc_ops.specs.declared.file.Block.{Block}
@@ -10,11 +11,14 @@ use Rattle.iloc_args.specs.declared.request.Request.{Request}
 use Rattle.iloc_args.specs.declared.request.Task.{Task}
 use Rattle.iloc_block_commands.specs.declared.compare.ComparedCycles.{ComparedCycles}
 use Rattle.iloc_row_commands.specs.Check.{Checks}
-use Rattle.iloc_block_commands.specs.Compare.{IsCompareEntry}
+use Rattle.iloc_block_commands.specs.Compare.{IsCompareEntry, IsCompareListing, compare_ending, compare_header, ending_for, opening_for}
 use Rattle.iloc_row_commands.specs.Explain.{Explains, ExplainsRows}
 use Rattle.iloc_row_commands.specs.Trace.{Traces, TracesRows}
 use Rattle.iloc_farm.specs.Commands.{command_of}
 use Rattle.iloc_farm.specs.Laws.{AskAlike, ChecksIgnoreWorkers, GreedySchedulesCanBeListed, ListedOptimaAreOptimal, ListingsIgnoreWorkers, OptimaIgnoreWorkers}
+use Rattle.iloc_driver.specs.Entries.{IsListingAfter}
+use Rattle.iloc_listing.specs.Listing.{opening_as}
+use Rattle.iloc_driver.specs.Priorities.{Own, own_of}
 use Rattle.iloc_driver.specs.Run.Apart.{Held}
 use Rattle.iloc_driver.specs.Run.{IsListingFor, ListsAs, takes_rows}
 use Rattle.iloc_driver.specs.declared.commands.Finding.{Finding}
@@ -30,12 +34,22 @@ ignore_workers r q alike settled input blocks blocks' denotes denotes' own text 
     (transport (λ i. IsListingFor command_of (one_task i) q own (same i) text') lists')
 
 -- a comparison of the one request is one of the other
-compares_alike : (r q : Request) → AskAlike r q → (k : ℕ) (b : Block) (entry : List ℕ) (found : ComparedCycles)
-    → IsCompareEntry r k b entry found → IsCompareEntry q k b entry found
-compares_alike r q alike k b entry found is = grind (arith, transport)
+compares_alike : (r q : Request) → AskAlike r q → (own : Option (List ℕ)) (k : ℕ) (b : Block) (entry : List ℕ)
+    (found : ComparedCycles) → IsCompareEntry r own k b entry found → IsCompareEntry q own k b entry found
+compares_alike r q alike own k b entry found is = grind (arith, transport)
+
+-- and so with listings of them
+compared_alike : (r q : Request) → AskAlike r q → (own : Own) (blocks : List Block) (text : List ℕ)
+    → IsCompareListing r own blocks text → IsCompareListing q own blocks text
+compared_alike r q alike own blocks text is =
+    transport (λ i. IsListingAfter (λ k. IsCompareEntry q (own_of own k) k)
+    (opening_as (alike.csv i) (compare_header (alike.nodes i) (is_some (alike.priorities_file i))))
+    (compare_ending (alike.csv i) (alike.nodes i) (is_some (alike.priorities_file i))) blocks text)
+    (listing_after_also (λ k. IsCompareEntry r (own_of own k) k) (λ k. IsCompareEntry q (own_of own k) k)
+    (λ k. compares_alike r q alike (own_of own k) k) (opening_for r) (ending_for r) blocks text is)
 
 pub optima_ignore_workers : OptimaIgnoreWorkers
-optima_ignore_workers = grind (arith, compares_alike, listing_after_also, transport)
+optima_ignore_workers = grind (arith, compared_alike, transport)
 
 pub listed_optima : ListedOptimaAreOptimal
 listed_optima = grind arith

@@ -11,6 +11,7 @@ use Rattle.iloc_timed.specs.declared.latencies.Latencies.{Latencies}
 use Rattle.iloc_timed.specs.declared.row.Row.{Row}
 use Rattle.iloc_timed.specs.Cycles.{cycles}
 use Rattle.iloc_timed.specs.Schedule.{Table}
+use Rattle.iloc_rules.specs.Greedy.{IsGreedyBy}
 use Rattle.iloc_rules.specs.Least.{least}
 use Rattle.iloc_rules.specs.declared.heuristic.Heuristic.{Heuristic}
 use Rattle.iloc_optimum.specs.Bound.{IsOptimal}
@@ -30,14 +31,14 @@ use Rattle.iloc_driver.specs.declared.commands.Finding.TheVariants.{Passed}
 use Rattle.iloc_driver.specs.declared.program.Ending.{Ending}
 use Rattle.iloc_driver.specs.Run.Apart.{Held, ReadsApart}
 use Rattle.iloc_row_commands.specs.Check.{ListsChecked, form_as}
-use Rattle.iloc_block_commands.specs.Compare.{IsComparedCycles, optimal_by}
+use Rattle.iloc_block_commands.specs.Compare.{IsComparedCycles, optimal}
 use Rattle.iloc_block_commands.specs.Optimize.{IsOptimizeEntry}
 use Rattle.iloc_block_commands.specs.declared.compare.ComparedCycles.{ComparedCycles}
 use Rattle.iloc_listing.specs.Listing.{total_cycles}
 use Rattle.iloc_driver.specs.Priorities.{Own}
 use Rattle.iloc_driver.specs.Program.{Args, AskFor, Ends}
 use Rattle.iloc_driver.specs.Run.{IsListing, IsListingFor, ListsFrom, takes_rows}
-use Rattle.iloc_listing.specs.Schedules.{AreGreedyAs, IsGreedyAs}
+use Rattle.iloc_listing.specs.Schedules.{AreGreedyAs, IsCountBy}
 
 -- the requests ask for the same, but maybe of other workers
 pub record AskAlike (r q : Request) : Type 0 where
@@ -85,11 +86,12 @@ ListedOptimaAreOptimal = (lat : Latencies) (k : ℕ) (b : Block) (entry : List �
     → (is : IsOptimizeEntry lat k b entry cycles) → cycles ≡ is.best.bound
     → IsOptimal lat b.ops is.best.schedule.ops is.best.schedule.rows
 
--- a greedy schedule that is counted as optimal beside its comparison is so among the lawful ones of its block
+-- a schedule, greedy by whatever priorities, that is counted as optimal beside a comparison of its block is so among the lawful ones
 abbrev pub CountedOptimaAreOptimal : Type 0
-CountedOptimaAreOptimal = (lat : Latencies) (nodes : Option ℕ) (b : Block) (c : ComparedCycles)
-    → IsComparedCycles lat nodes b c → (heuristic : Heuristic) → optimal_by heuristic c ≡ 1
-    → (s : Table) → IsGreedyAs heuristic lat b.ops s → IsOptimal lat b.ops s.ops s.rows
+CountedOptimaAreOptimal = (lat : Latencies) (nodes : Option ℕ) (numbers : Option (List ℕ)) (b : Block) (c : ComparedCycles)
+    → IsComparedCycles lat nodes numbers b c → (prios : List Op → List ℕ) (cycles : ℕ) → IsCountBy prios lat b cycles
+    → optimal cycles c ≡ 1 → (s : Table) → IsGreedyBy (prios s.ops) lat b.ops s.ops s.rows
+    → IsOptimal lat b.ops s.ops s.rows
 
 -- what is listed of blocks as what comes of their schedules is what is listed as what comes of them, where it isn't asked at
 -- which place they fault

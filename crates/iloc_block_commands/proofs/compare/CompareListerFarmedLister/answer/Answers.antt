@@ -1,14 +1,21 @@
 use Rattle.std.proofs.Common.{◌≤◌, ap, arith, subst, ◌∙◌}
+use Rattle.std.specs.Prelude.{option_copied}
 use Rattle.iloc_sched.specs.Graph.GraphOf.{GraphOf}
 use Rattle.iloc_rules.specs.Least.{least, least_of}
 use Rattle.iloc_rules.specs.declared.heuristic.Heuristic.TheVariants.{Chain}
 use Rattle.iloc_optimum.specs.Optimum.{IsSoughtIf}
 use Rattle.iloc_listing.specs.Limits.{most_cycles}
 use Rattle.iloc_block_commands.proofs.Comparisons.{bound_small}
+use Rattle.iloc_block_commands.proofs.Listers.{each_ranked}
 use Rattle.iloc_block_commands.proofs.compare.CompareListerFarmedLister.answer.Goals as goal
 
 pub seek_if-requires : goal.seek_if-requires
 seek_if-requires c = ap (λ (g : GraphOf). g.ops) c.in_ok-refill.ensures.graph
+
+pub own_count-requires : goal.own_count-requires
+own_count-requires c =
+    each_ranked (option_copied c.args.own) c.args.request.now.latencies c.args.block.now _ c.in_ok-refill.ensures.graph
+    c.requires.each
 
 pub overflow_cast-result : goal.overflow_cast-result
 overflow_cast-result c =
@@ -29,4 +36,5 @@ returns c =
       sought = subst (λ (g : GraphOf). IsSoughtIf c.args.request.now.nodes g.latencies block.ops c.in_ok-sought.sought) graph
           c.in_ok-sought.ensures;
       counts = c.in_ok-cycles.ensures lat block graph;
+      own = c.in_ok-own.ensures lat block graph;
     }

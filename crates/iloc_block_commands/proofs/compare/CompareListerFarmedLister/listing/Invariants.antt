@@ -1,11 +1,10 @@
 use Rattle.std.proofs.Common.{◌≡◌, ◌+◌, ◌++◌, drop}
-use Rattle.iloc_block_commands.specs.Compare.{compare_header, compare_line}
-use Rattle.iloc_listing.specs.Listing.{entries, opening_as}
+use Rattle.iloc_block_commands.specs.Compare.{compare_line, opening_for}
+use Rattle.iloc_listing.specs.Listing.{entries}
 use Rattle.iloc_block_commands.proofs.compare.CompareListerFarmedLister.listing.Given as goal
 
 abbrev pub invariant-loop-index : goal.invariant-loop-index
 invariant-loop-index l =
     l.text.items
     ++ entries (compare_line l.request.csv) (l.index + 1) (drop l.index l.block-items) (drop l.index l.found.items)
-    ≡ opening_as l.request.csv (compare_header l.request.nodes)
-    ++ entries (compare_line l.request.csv) 1 l.block-items l.found.items
+    ≡ opening_for l.request ++ entries (compare_line l.request.csv) 1 l.block-items l.found.items

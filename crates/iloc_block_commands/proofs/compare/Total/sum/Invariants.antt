@@ -1,9 +1,9 @@
 use Rattle.std.proofs.Common.{◌≡◌, ◌≤◌, ◌*◌, sum_by, take}
-use Rattle.iloc_block_commands.specs.Steps.Tallies.{limit_of}
-use Rattle.iloc_block_commands.proofs.compare.Limit.sum.Given as goal
+use Rattle.iloc_block_commands.specs.Steps.Tallies.{added}
+use Rattle.iloc_block_commands.proofs.compare.Total.sum.Given as goal
 
 abbrev pub invariant-loop-comparison : goal.invariant-loop-comparison
 invariant-loop-comparison l = record {
-  sum_so_far : l.sum ≡ sum_by (limit_of l.self) (take l.comparison-index l.found);
+  sum_so_far : l.sum ≡ sum_by (added l.self) (take l.comparison-index l.found);
   few : l.sum ≤ 4294967295 * l.comparison-index;
 }
