@@ -4,12 +4,11 @@ use Rattle.iloc_ops.specs.declared.file.Block.{Block}
 use Rattle.iloc_timed.specs.declared.latencies.Latencies.{Latencies}
 use Rattle.iloc_optimum.specs.declared.optimizer.Optimum.{Optimum}
 use Rattle.iloc_optimum.specs.Optimum.{IsOptimumOf}
-use Rattle.iloc_listing.specs.Listing.{bound_comment, cycles_of, schedule_entry, total_of_all}
+use Rattle.iloc_listing.specs.Listing.{bound_comment, cycles_of, listing_of_entries, schedule_entry, total_of_all}
 use Rattle.iloc_args.specs.declared.request.Request.{Request}
 use Rattle.iloc_driver.specs.Command.{Command, shared_by}
 use Rattle.iloc_driver.specs.Priorities.{Own}
 use Rattle.iloc_driver.specs.Entries.{IsListingOf}
-use Rattle.iloc_block_commands.specs.Schedule.{listing_of_entries}
 use Rattle.iloc_listing.specs.declared.text.ScheduleEntry.{ScheduleEntry}
 
 -- The entry of block k: some lawful schedule that has the block's outcome on every memory and takes at most as many cycles as

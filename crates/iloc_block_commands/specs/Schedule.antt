@@ -1,10 +1,9 @@
 -- `schedule` lists each block's schedule.
-use Rattle.std.specs.Prelude.{◌≡◌, ◌++◌, ℕ, List, Option, map}
-use Rattle.std.specs.List.{flat_map}
+use Rattle.std.specs.Prelude.{◌≡◌, ℕ, List, Option}
 use Rattle.iloc_ops.specs.declared.file.Block.{Block}
 use Rattle.iloc_timed.specs.Schedule.{Table}
 use Rattle.iloc_args.specs.declared.request.Request.{Request}
-use Rattle.iloc_listing.specs.Listing.{cycles_of, schedule_entry, total_of_all}
+use Rattle.iloc_listing.specs.Listing.{cycles_of, listing_of_entries, schedule_entry, total_of_all}
 use Rattle.iloc_listing.specs.Schedules.{IsTheGreedyBy, ranks}
 use Rattle.iloc_driver.specs.Command.{Command, shared_by}
 use Rattle.iloc_driver.specs.Priorities.{Own, own_of}
@@ -23,10 +22,6 @@ pub record IsScheduleEntry (request : Request) (own : Option (List ℕ)) (k : �
 -- the listing of these blocks for the request, with their own priorities if there are some
 abbrev pub IsScheduleListing : Request → Own → List Block → List ℕ → Type 0
 IsScheduleListing request own blocks text = IsListingOf (λ k. IsScheduleEntry request (own_of own k) k) total_of_all blocks text
-
--- these entries, and the cycles of all
-abbrev pub listing_of_entries : List ScheduleEntry → List ℕ
-listing_of_entries entries = flat_map (λ e. e.text) entries ++ total_of_all (map (λ e. e.cycles) entries)
 
 -- workers hand back the entries
 abbrev pub schedule_command : Command

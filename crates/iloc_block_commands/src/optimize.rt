@@ -20,7 +20,7 @@ pub struct OptimizeLister {
 
 impl FarmedLister for OptimizeLister {
     ghost use Rattle.iloc_block_commands.specs.Optimize.{IsOptimizeEntry, IsOptimizeListing};
-    ghost use Rattle.iloc_block_commands.specs.Schedule.{listing_of_entries};
+    ghost use Rattle.iloc_listing.specs.Listing.{listing_of_entries};
     ghost use Rattle.iloc_driver.specs.Entries.{AreListed};
     ghost use Rattle.iloc_driver.specs.Priorities.{Own};
     ghost use Rattle.iloc_driver.specs.Work.{by_own};

@@ -42,7 +42,8 @@ pub struct ScheduleLister {
 }
 
 impl FarmedLister for ScheduleLister {
-    ghost use Rattle.iloc_block_commands.specs.Schedule.{IsScheduleEntry, IsScheduleListing, listing_of_entries};
+    ghost use Rattle.iloc_block_commands.specs.Schedule.{IsScheduleEntry, IsScheduleListing};
+    ghost use Rattle.iloc_listing.specs.Listing.{listing_of_entries};
     ghost use Rattle.iloc_driver.specs.Entries.{AreListed};
     ghost use Rattle.iloc_driver.specs.Priorities.{Own};
     ghost use Rattle.iloc_driver.specs.Work.{by_own};

@@ -4,7 +4,7 @@ use Rattle.iloc_board.specs.Finished.{ReceiptView}
 use Rattle.iloc_args.specs.declared.request.Request.{Request}
 use Rattle.iloc_driver.specs.Run.Apart.{Held}
 use Rattle.iloc_driver.specs.Run.Causes.{IsCaused, causes_of}
-use Rattle.iloc_driver.specs.Command.{Command, Input}
+use Rattle.iloc_driver.specs.Command.{Command, Input, listers_of}
 use Rattle.iloc_driver.specs.Run.{AreOwn, ListsBy, input_of}
 use Rattle.iloc_driver.specs.Work.{HasReceiptFrom}
 use Rattle.iloc_driver.specs.declared.commands.Listed.{Listed}
@@ -17,5 +17,6 @@ ComesTo command held request old new result =
     let input : Input = input_of command request.task_file in
     MatchResult result
     (λ (r : Listed × Option ReceiptView). ListsBy command input request.task_file held request old new r.0.finding r.0.text
-    × HasReceiptFrom command.listers (command.lists request) (AreOwn command held request) request old new r.0.text r.1)
+    × HasReceiptFrom (listers_of command.listers input) (command.lists request) (AreOwn command held request) request old new
+    r.0.text r.1)
     (IsCaused (causes_of command input request.task_file held request old new))

@@ -31,6 +31,11 @@ pub data Listers : Type 1 where
   Shared : (A : Type 0) → (Request → Option (List ℕ) → ℕ → Block → A → Type 0) → (A → ℕ)
       → (Request → List Block → List A → List ℕ) → Listers
 
+-- who lists what a command reads: of rows one thread
+abbrev pub listers_of : Listers → Input → Listers
+listers_of listers OfFile = listers
+listers_of listers _ = Alone
+
 -- the file of priorities that is read for a request: where workers list the blocks
 abbrev pub priorities_file : Listers → Request → Option (String Global)
 priorities_file Alone request = None
@@ -74,7 +79,6 @@ shared_by {A} answers cycles_in made_of lists =
 abbrev pub of_rows : (Request → List Block → List Proposed → Finding → List ℕ → Type 0) → Command
 of_rows says = record of_no_file { input = OfRows; takes_task = true; says = says }
 
--- one that lists files so, but where a request names a file says this of rows for that file's blocks
-abbrev pub of_files_or_rows : (Request → List Block → List ℕ → Type 0)
-    → (Request → List Block → List Proposed → Finding → List ℕ → Type 0) → Command
-of_files_or_rows lists says = record (of_files lists) { takes_task = true; says = says }
+-- one that lists files as this one does, but where a request names a file says this of rows for that file's blocks
+abbrev pub of_files_or_rows : Command → (Request → List Block → List Proposed → Finding → List ℕ → Type 0) → Command
+of_files_or_rows files says = record files { takes_task = true; says = says }

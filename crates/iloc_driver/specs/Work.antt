@@ -8,10 +8,10 @@ use Rattle.iloc_board.specs.Finished.{IsDoneBy, ReceiptView}
 use Rattle.iloc_board.specs.Working.{IsDone}
 use Rattle.iloc_args.specs.declared.request.Request.{Request}
 use Rattle.iloc_args.specs.declared.request.Task.{Task}
-use Rattle.iloc_driver.specs.Command.{Alone, Command, Listers, Shared}
+use Rattle.iloc_driver.specs.Command.{Alone, Command, Listers, Shared, listers_of}
 use Rattle.iloc_driver.specs.Entries.{ListsRead, OfBlock}
 use Rattle.iloc_driver.specs.Priorities.{Own, own_of}
-use Rattle.iloc_driver.specs.Run.{AreOwn, IsListingFor}
+use Rattle.iloc_driver.specs.Run.{AreOwn, IsListingFor, input_of}
 use Rattle.iloc_driver.specs.Run.Apart.{Held}
 
 -- So many workers did all jobs. The receipt has one journal of each, in order, and each was told that no job is left. By these
@@ -51,5 +51,5 @@ HasReceiptFrom (Shared A answers cycles_in made_of) is_listing are_own request o
 abbrev pub HasReceipt : (Task → Command) → Task → Held → Request → Option (List ℕ) → Option (List ℕ) → List ℕ
     → Option ReceiptView → Type 0
 HasReceipt command_of t held request old new text receipt =
-    HasReceiptFrom (command_of t).listers (IsListingFor command_of t request) (AreOwn (command_of t) held request) request old new
-    text receipt
+    HasReceiptFrom (listers_of (command_of t).listers (input_of (command_of t) request.task_file))
+    (IsListingFor command_of t request) (AreOwn (command_of t) held request) request old new text receipt

@@ -163,7 +163,7 @@ pub fn of_file_or_rows<F: Lister, L: RowLister, T: Texts, R: Read>(
     reader: &mut R,
     request: &Request,
 ) -> Result<(Listed, Option<Receipt>), RunFault>
-    ensures { ComesTo (of_files_or_rows (λ asked. IsListingOf (F.lists asked) F.ending)
+    ensures { ComesTo (of_files_or_rows (of_files (λ asked. IsListingOf (F.lists asked) F.ending))
         (ListsProposed L.lists L.opening L.ending L.passes)) (T.held texts.now) request.now
         (R.remaining reader.old) (R.remaining reader.new) result }
 {
@@ -171,5 +171,32 @@ pub fn of_file_or_rows<F: Lister, L: RowLister, T: Texts, R: Read>(
         of_rows::<L, T, R>(alloc, texts, reader, request)
     } else {
         alone::<F, R>(alloc, reader, request)
+    }
+}
+
+/// What a command whose blocks workers share lists of the reader's file or, where the request names a file, of rows for that
+/// file's blocks; with the receipt for their work, if they were workers.
+pub fn shared_or_rows<
+    F: FarmedLister + Send + Sync,
+    L: RowLister,
+    H: Threads + Wait + Sync,
+    T: Texts,
+    R: Read,
+>(
+    rt: &H,
+    alloc: Global,
+    texts: &T,
+    reader: &mut R,
+    request: &Request,
+) -> Result<(Listed, Option<Receipt>), RunFault>
+where
+    F::Answer: Send,
+    ensures { ComesTo (of_files_or_rows (shared_by F.answers F.cycles_in F.made_of F.lists)
+        (ListsProposed L.lists L.opening L.ending L.passes)) (T.held texts.now) request.now
+        (R.remaining reader.old) (R.remaining reader.new) result }
+{
+    match &request.task_file {
+        None => shared::<F, H, T, R>(rt, alloc, texts, reader, request),
+        Some(_) => of_rows::<L, T, R>(alloc, texts, reader, request),
     }
 }

@@ -10,7 +10,9 @@ mod reading;
 mod rows;
 mod workers;
 
-pub use commands::{Commands, Finding, Listed, alone, of_file_or_rows, of_rows, shared};
+pub use commands::{
+    Commands, Finding, Listed, alone, of_file_or_rows, of_rows, shared, shared_or_rows,
+};
 pub use farmed::FarmedLister;
 pub use fault::{
     FarmFault, FileFault, NumbersFault, PrioritiesFault, RunFault, TaskFault, run_status,

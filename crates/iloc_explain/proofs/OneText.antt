@@ -6,7 +6,6 @@ use Rattle.iloc_timed.specs.declared.latencies.Latencies.{Latencies}
 use Rattle.iloc_timed.specs.declared.row.Row.{Row}
 use Rattle.iloc_timed.specs.Cycles.{cycles}
 use Rattle.iloc_timed.specs.Rows.{issue_cycle, row_at}
-use Rattle.iloc_rules.specs.Heuristics.{priorities_by}
 use Rattle.iloc_rules.specs.Least.{least}
 use Rattle.iloc_rules.specs.Renaming.{without_nops}
 use Rattle.iloc_explain.specs.declared.explanation.Explained.{Explained}
@@ -130,14 +129,14 @@ lines_same prios lat ops rows k (e ∷ es) (f ∷ fs) (op ∷ block) (new ∷ re
     let R : ℕ → Type 0 = λ n. IsExplained prios lat ops rows n x in subst R next (also (suc j) x at)))
 
 pub one_explanation : SchedulesHaveOneExplanation
-one_explanation heuristic lat block ops rows issued text text' is also =
+one_explanation prios lat block ops rows issued text text' is also =
     let long : length is.explained ≡ length also.explained = is.are_explained.all ∙ sym also.are_explained.all in
     let lines : explained_lines 0 is.explained (without_nops block) issued ≡ explained_lines 0 also.explained (without_nops block) issued =
-    lines_same (priorities_by heuristic lat ops) lat ops rows 0 is.explained also.explained (without_nops block) issued long
+    lines_same prios lat ops rows 0 is.explained also.explained (without_nops block) issued long
     (λ j e at. let here : j ≡ 0 + j = omega arith in
-    let R : ℕ → Type 0 = λ n. IsExplained (priorities_by heuristic lat ops) lat ops rows n e in subst R here (is.are_explained.each j e at))
+    let R : ℕ → Type 0 = λ n. IsExplained prios lat ops rows n e in subst R here (is.are_explained.each j e at))
     (λ j e at. let here : j ≡ 0 + j = omega arith in
-    let R : ℕ → Type 0 = λ n. IsExplained (priorities_by heuristic lat ops) lat ops rows n e in subst R here (also.are_explained.each j e at)) in
+    let R : ℕ → Type 0 = λ n. IsExplained prios lat ops rows n e in subst R here (also.are_explained.each j e at)) in
     let chain : is.chain ≡ also.chain = longest_same lat ops is.chain also.chain is.is_longest also.is_longest in
     let path : is.path ≡ also.path = path_same lat ops rows is.path also.path is.is_path also.is_path in
     is.listed ∙ (ap₂ (λ ls ch. ls ++ cycles_line (cycles lat ops rows) (least lat block) ++ chain_line ch ++ path_line is.path) lines chain

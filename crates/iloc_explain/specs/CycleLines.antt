@@ -8,8 +8,6 @@ use Rattle.iloc_timed.specs.declared.row.Row.{Row}
 use Rattle.iloc_timed.specs.Cycles.{cycles}
 use Rattle.iloc_timed.specs.Rows.{row_at}
 use Rattle.iloc_rules.specs.Greedy.{first_of_all, ready}
-use Rattle.iloc_rules.specs.declared.heuristic.Heuristic.{Heuristic}
-use Rattle.iloc_rules.specs.Heuristics.{priorities_by}
 use Rattle.iloc_rules.specs.Least.{least}
 use Rattle.iloc_explain.specs.declared.ready_list.TheConstants.{MOST_LISTED}
 use Rattle.iloc_explain.specs.Holding.{held_by, keeper}
@@ -95,8 +93,8 @@ module _ (prios : List ℕ) (lat : Latencies) (ops : List Op) (rows : List Row) 
   abbrev pub cycle_lines : List ℕ
   cycle_lines = flat_map line_from (range_with_len 0 (length rows))
 
--- What is listed of these operations in these rows, a schedule of the block that is ranked by a heuristic: a line for each cycle,
+-- What is listed of these operations in these rows, a schedule of the block that these priorities rank: a line for each cycle,
 -- and the cycles with their lower bound.
-abbrev pub ready_listing : Heuristic → Latencies → List Op → List Op → List Row → List ℕ
-ready_listing heuristic lat block ops rows =
-    cycle_lines (priorities_by heuristic lat ops) lat ops rows ++ cycles_line (cycles lat ops rows) (least lat block)
+abbrev pub ready_listing : List ℕ → Latencies → List Op → List Op → List Row → List ℕ
+ready_listing prios lat block ops rows =
+    cycle_lines prios lat ops rows ++ cycles_line (cycles lat ops rows) (least lat block)

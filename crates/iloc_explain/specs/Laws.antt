@@ -6,7 +6,6 @@ use Rattle.iloc_timed.specs.declared.latencies.Latencies.{Latencies}
 use Rattle.iloc_timed.specs.declared.row.Row.{Row}
 use Rattle.iloc_timed.specs.Cycles.{cycles}
 use Rattle.iloc_timed.specs.Rows.{empty_row, issue_cycle, row_at}
-use Rattle.iloc_rules.specs.declared.heuristic.Heuristic.{Heuristic}
 use Rattle.iloc_rules.specs.Greedy.{IsGreedyBy}
 use Rattle.iloc_rules.specs.Lawful.{IsLawful}
 use Rattle.iloc_explain.specs.declared.holding.Holder.TheVariants.{Nothing}
@@ -29,9 +28,9 @@ LinesGiveTheRows = (prios : List ℕ) (lat : Latencies) (block ops : List Op) (r
 
 -- there is one text that explains a schedule of a block
 abbrev pub SchedulesHaveOneExplanation : Type 0
-SchedulesHaveOneExplanation = (heuristic : Heuristic) (lat : Latencies) (block ops : List Op) (rows : List Row)
-    (issued : List Op) (text text' : List ℕ) → IsExplanation heuristic lat block ops rows issued text
-    → IsExplanation heuristic lat block ops rows issued text' → text ≡ text'
+SchedulesHaveOneExplanation = (prios : List ℕ) (lat : Latencies) (block ops : List Op) (rows : List Row)
+    (issued : List Op) (text text' : List ℕ) → IsExplanation prios lat block ops rows issued text
+    → IsExplanation prios lat block ops rows issued text' → text ≡ text'
 
 -- the stretches of the path of a lawful schedule take its cycles together
 abbrev pub PathsSumToTheCycles : Type 0

@@ -9,8 +9,6 @@ use Rattle.iloc_timed.specs.declared.latencies.Latencies.{Latencies}
 use Rattle.iloc_timed.specs.declared.row.Row.{Row}
 use Rattle.iloc_timed.specs.Cycles.{cycles}
 use Rattle.iloc_rules.specs.Renaming.{without_nops}
-use Rattle.iloc_rules.specs.declared.heuristic.Heuristic.{Heuristic}
-use Rattle.iloc_rules.specs.Heuristics.{priorities_by}
 use Rattle.iloc_rules.specs.Least.{least}
 use Rattle.iloc_explain.specs.declared.explanation.Explained.{Explained}
 use Rattle.iloc_explain.specs.declared.explanation.Unit.{Unit as unit_type}
@@ -84,13 +82,13 @@ abbrev pub cycles_line : ℕ → ℕ → List ℕ
 cycles_line taken bound =
     codes "cycles " ++ decimal taken ++ codes " least " ++ decimal bound ++ optimal_mark taken bound ++ codes "\n"
 
--- The text explains these operations in these rows, a schedule of the block that is ranked by a heuristic: a line for
+-- The text explains these operations in these rows, a schedule of the block that these priorities rank: a line for
 -- each operation, the cycles with their lower bound, a longest chain of delays, and what binds in this schedule. The lines
 -- show each operation as it is issued, which for a schedule of ours is as it stands there.
-pub record IsExplanation (heuristic : Heuristic) (lat : Latencies) (block ops : List Op) (rows : List Row) (issued : List Op)
+pub record IsExplanation (prios : List ℕ) (lat : Latencies) (block ops : List Op) (rows : List Row) (issued : List Op)
     (text : List ℕ) : Type 0 where
   pub explained : List Explained
-  pub are_explained : AreExplained (priorities_by heuristic lat ops) lat ops rows explained
+  pub are_explained : AreExplained prios lat ops rows explained
   pub chain : List ℕ
   pub is_longest : IsLongestChain lat ops chain
   pub path : List Stretch

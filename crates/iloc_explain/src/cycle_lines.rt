@@ -281,7 +281,7 @@ pub fn push_ready_list(
     requires names { schedule.now.ops ≡ renamed block.now.ops }
     requires measured { AreMeasures latencies.now schedule.now.ops measures.now }
     ensures { OnOk result (text.new.items ≡ text.old.items
-        ++ ready_listing measures.now.heuristic latencies.now block.now.ops schedule.now.ops schedule.now.rows) }
+        ++ ready_listing measures.now.ranks.items latencies.now block.now.ops schedule.now.ops schedule.now.rows) }
 {
     let Measures {
         chains,

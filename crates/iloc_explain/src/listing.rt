@@ -166,7 +166,7 @@ pub fn push_explanation(
     requires names { schedule.now.ops ≡ renamed block.now.ops }
     requires measured { AreMeasures latencies.now schedule.now.ops measures.now }
     requires issued { length issued.now ≡ length schedule.now.ops }
-    ensures { OnOk result ((entry : List ℕ) × IsExplanation measures.now.heuristic latencies.now block.now.ops
+    ensures { OnOk result ((entry : List ℕ) × IsExplanation measures.now.ranks.items latencies.now block.now.ops
         schedule.now.ops schedule.now.rows issued.now entry × (text.new.items ≡ text.old.items ++ entry)) }
 {
     let Measures {

@@ -1,12 +1,8 @@
 //! What an explanation needs to know of a block's operations.
-use iloc_rules::Heuristic;
-
 /// What is known of a block's renamed operations.
 #[derive(Debug, Drop)]
 pub struct Measures {
-    /// By what they are ranked.
-    pub heuristic: Heuristic,
-    /// By operation its priority by that.
+    /// By operation the number that ranks it.
     pub ranks: Vec<u32>,
     /// By operation the longest chain of delays from it, up to the end of the block.
     pub chains: Vec<u32>,

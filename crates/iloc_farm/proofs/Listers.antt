@@ -1,12 +1,11 @@
 -- Requests that ask alike list one text.
 use Rattle.std.proofs.Common.{◌≡◌, ℕ, Bool, true, false, List, ◌++◌, Option, Some, None, refl, sym, ap, ap₂, ◌∙◌, arith}
 use Rattle.std.proofs.Math.Path.{transport}
-use Rattle.std.specs.Prelude.{codes}
+use Rattle.std.specs.Prelude.{codes, is_some}
 use Rattle.iloc_ops.specs.declared.file.Block.{Block}
 use Rattle.iloc_ops.specs.declared.op.Op.{Op}
 use Rattle.iloc_timed.specs.Schedule.{Table}
 use Rattle.iloc_timed.specs.declared.latencies.Latencies.{Latencies}
-use Rattle.iloc_rules.specs.declared.heuristic.Heuristic.{Heuristic}
 use Rattle.iloc_explain.proofs.OneText.{one_explanation}
 use Rattle.iloc_graph.specs.Listing.{IsCluster}
 use Rattle.iloc_graph.proofs.OneText.{one_cluster}
@@ -15,7 +14,7 @@ use Rattle.iloc_meaning.specs.Outcome.{outcome}
 use Rattle.iloc_args.specs.declared.request.Request.{Request}
 use Rattle.iloc_args.specs.declared.request.Task.{Task}
 use Rattle.iloc_args.specs.declared.request.Task.TheVariants as task
-use Rattle.iloc_block_commands.specs.Compare.{IsCompareEntry, compare_ending, compare_header}
+use Rattle.iloc_block_commands.specs.Compare.{IsCompareEntry, IsComparedCycles, compare_ending, compare_header, compare_line, ending_for, opening_for}
 use Rattle.iloc_block_commands.specs.Counts.{IsCountEntry, count_ending, count_header}
 use Rattle.iloc_view_commands.specs.Explain.{IsExplainEntry, IsSaid}
 use Rattle.iloc_view_commands.specs.Graph.{IsGraphEntry, drawing_end, opening_at}
@@ -41,11 +40,11 @@ pub one_memory : (r q : Request) → AskAlike r q → initial_memory r ≡ initi
 one_memory r q alike = ap (λ at. words_from at r.words.items) alike.at ∙ ap (λ ws. words_from q.at ws) alike.words
 
 -- one text is said of a schedule
-one_said : (by_cycle : Bool) (heuristic : Heuristic) (lat : Latencies) (block : List Op) (s : Table) (text text' : List ℕ)
-    → IsSaid by_cycle heuristic lat block s text → IsSaid by_cycle heuristic lat block s text' → text ≡ text'
-one_said true heuristic lat block s text text' said said' = said ∙ sym said'
-one_said false heuristic lat block s text text' said said' =
-    one_explanation heuristic lat block s.ops s.rows s.ops text text' said said'
+one_said : (by_cycle : Bool) (prios : List ℕ) (lat : Latencies) (block : List Op) (s : Table) (text text' : List ℕ)
+    → IsSaid by_cycle prios lat block s text → IsSaid by_cycle prios lat block s text' → text ≡ text'
+one_said true prios lat block s text text' said said' = said ∙ sym said'
+one_said false prios lat block s text text' said said' =
+    one_explanation prios lat block s.ops s.rows s.ops text text' said said'
 
 module _ (r q : Request) (alike : AskAlike r q) (k : ℕ) (b : Block) where
   run_same : (e e' : List ℕ) (f f' : Unit {0}) → IsRunEntry r k b e f → IsRunEntry q k b e' f' → (e ≡ e') × (f ≡ f')
@@ -81,17 +80,23 @@ module _ (r q : Request) (alike : AskAlike r q) (k : ℕ) (b : Block) where
       → (e ≡ e') × (c ≡ c')
   count_same own e e' c c' is is' = grind (arith, cycles_same, same_ranked)
 
-  compare_same : r.nodes ≡ None → (e e' : List ℕ) (c c' : ComparedCycles) → IsCompareEntry r k b e c
-      → IsCompareEntry q k b e' c' → (e ≡ e') × (c ≡ c')
-  compare_same settled e e' c c' is is' = grind (arith, one_comparison, transport)
+  compare_same : (own : Option (List ℕ)) → r.nodes ≡ None → (e e' : List ℕ) (c c' : ComparedCycles) → IsCompareEntry r own k b e c
+      → IsCompareEntry q own k b e' c' → (e ≡ e') × (c ≡ c')
+  compare_same own settled e e' c c' is is' =
+      let none : q.nodes ≡ None = sym alike.nodes ∙ settled in
+      let same : c ≡ c' = one_comparison q.latencies own b c c'
+      (transport (λ i. IsComparedCycles (alike.latencies i) (settled i) own b c) is.compares)
+      (transport (λ i. IsComparedCycles q.latencies (none i) own b c') is'.compares) in
+      (is.listed ∙ (ap₂ (λ csv x. compare_line csv k b.name x) alike.csv same ∙ sym is'.listed), same)
 
-  explain_same : (e e' : List ℕ) (c c' : ℕ) → IsExplainEntry r k b e c → IsExplainEntry q k b e' c'
-      → (e ≡ e') × (c ≡ c')
-  explain_same e e' c c' is is' =
-      let same = same_schedule is.schedule is'.schedule is.greedy is'.greedy in
+  explain_same : (own : Option (List ℕ)) (e e' : List ℕ) (c c' : ℕ) → IsExplainEntry r own k b e c
+      → IsExplainEntry q own k b e' c' → (e ≡ e') × (c ≡ c')
+  explain_same own e e' c c' is is' =
+      let same = same_ranked own is.schedule is'.schedule is.greedy is'.greedy in
       let text : is.text ≡ is'.text =
-      one_said q.by_cycle q.priority q.latencies b.ops is'.schedule is.text is'.text
-      (transport (λ i. IsSaid (alike.by_cycle i) (alike.priority i) (alike.latencies i) b.ops (same i) is.text) is.said) is'.said in (
+      one_said q.by_cycle (ranks q.priority q.latencies own is'.schedule.ops) q.latencies b.ops is'.schedule is.text is'.text
+      (transport (λ i. IsSaid (alike.by_cycle i) (ranks (alike.priority i) (alike.latencies i) own (same i).ops)
+      (alike.latencies i) b.ops (same i) is.text) is.said) is'.said in (
         is.listed ∙ (ap (λ t. block_head k b.name ++ codes "\n" ++ t) text ∙ sym is'.listed),
         cycles_same is.schedule is'.schedule c c' same is.counted is'.counted,
       )
@@ -130,14 +135,15 @@ of_one_task task.Counts r q alike settled own blocks text text' lists lists' =
     (opening_as q.csv count_header) (count_ending r.csv) (count_ending q.csv) blocks text text'
     (ap (λ csv. opening_as csv count_header) alike.csv) (ap count_ending alike.csv) lists lists'
 of_one_task task.Compare r q alike settled own blocks text text' lists lists' =
-    one_listing_after (IsCompareEntry r) (IsCompareEntry q)
-    (λ k b. compare_same r q alike k b (without_nodes r.nodes settled)) (opening_as r.csv (compare_header r.nodes))
-    (opening_as q.csv (compare_header q.nodes)) (compare_ending r.csv r.nodes) (compare_ending q.csv q.nodes) blocks text text'
-    (ap₂ (λ csv nodes. opening_as csv (compare_header nodes)) alike.csv alike.nodes) (ap₂ compare_ending alike.csv alike.nodes)
-    lists lists'
+    one_listing_after (λ k. IsCompareEntry r (own_of own k) k) (λ k. IsCompareEntry q (own_of own k) k)
+    (λ k b. compare_same r q alike k b (own_of own k) (without_nodes r.nodes settled)) (opening_for r) (opening_for q)
+    (ending_for r) (ending_for q) blocks text text'
+    (λ i. opening_as (alike.csv i) (compare_header (alike.nodes i) (is_some (alike.priorities_file i))))
+    (λ i. compare_ending (alike.csv i) (alike.nodes i) (is_some (alike.priorities_file i))) lists lists'
 of_one_task task.Optimize r q alike settled own blocks text text' lists lists' = absurd cc
 of_one_task task.Explain r q alike settled own blocks text text' lists lists' =
-    one_listing (IsExplainEntry r) (IsExplainEntry q) (explain_same r q alike) total_of_all blocks text text' lists lists'
+    one_listing (λ k. IsExplainEntry r (own_of own k) k) (λ k. IsExplainEntry q (own_of own k) k)
+    (λ k b. explain_same r q alike k b (own_of own k)) total_of_all blocks text text' lists lists'
 of_one_task task.Graph r q alike settled own blocks text text' lists lists' =
     one_listing (IsGraphEntry r) (IsGraphEntry q) (graph_same r q alike) drawing_end blocks text text' lists lists'
 of_one_task task.Check r q alike settled own blocks text text' lists lists' = absurd lists

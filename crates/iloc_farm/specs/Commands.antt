@@ -1,9 +1,8 @@
 -- The commands.
 use Rattle.iloc_args.specs.declared.request.Task.{Task}
 use Rattle.iloc_args.specs.declared.request.Task.TheVariants as task
-use Rattle.iloc_driver.specs.Command.{Command, of_files_or_rows}
+use Rattle.iloc_driver.specs.Command.{Command, of_files, of_files_or_rows}
 use Rattle.iloc_driver.specs.Entries.{IsListingOf, no_ending}
-use Rattle.iloc_listing.specs.Listing.{total_of_all}
 use Rattle.iloc_block_commands.specs.Compare.{compare_command}
 use Rattle.iloc_block_commands.specs.Counts.{counts_command}
 use Rattle.iloc_block_commands.specs.Lint.{lint_command}
@@ -11,7 +10,7 @@ use Rattle.iloc_block_commands.specs.Optimize.{optimize_command}
 use Rattle.iloc_block_commands.specs.Run.{run_command}
 use Rattle.iloc_block_commands.specs.Schedule.{schedule_command}
 use Rattle.iloc_block_commands.specs.Simulate.{simulate_command}
-use Rattle.iloc_view_commands.specs.Explain.{IsExplainEntry}
+use Rattle.iloc_view_commands.specs.Explain.{explain_files}
 use Rattle.iloc_view_commands.specs.Graph.{graph_command}
 use Rattle.iloc_view_commands.specs.Trace.{IsTraceEntry}
 use Rattle.iloc_row_commands.specs.Check.{check_command}
@@ -19,10 +18,10 @@ use Rattle.iloc_row_commands.specs.Explain.{Explains}
 use Rattle.iloc_row_commands.specs.Trace.{Traces}
 
 abbrev pub explain_command : Command
-explain_command = of_files_or_rows (λ request. IsListingOf (IsExplainEntry request) total_of_all) Explains
+explain_command = of_files_or_rows explain_files Explains
 
 abbrev pub trace_command : Command
-trace_command = of_files_or_rows (λ request. IsListingOf (IsTraceEntry request) no_ending) Traces
+trace_command = of_files_or_rows (of_files (λ request. IsListingOf (IsTraceEntry request) no_ending)) Traces
 
 abbrev pub command_of : Task → Command
 command_of task.Run = run_command

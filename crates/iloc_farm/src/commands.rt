@@ -6,7 +6,9 @@ use iloc_block_commands::{
     CompareLister, CountLister, OptimizeLister, RunLister, ScheduleLister, SimulateLister, linted,
 };
 use iloc_board::Receipt;
-use iloc_driver::{Commands, Listed, RunFault, Texts, alone, of_file_or_rows, of_rows, shared};
+use iloc_driver::{
+    Commands, Listed, RunFault, Texts, alone, of_file_or_rows, of_rows, shared, shared_or_rows,
+};
 use iloc_row_commands::{CheckLister, RowsExplainer, RowsTracer};
 use iloc_view_commands::{ExplainLister, GraphLister, TraceLister};
 use std::alloc::Global;
@@ -37,8 +39,8 @@ impl Commands for AllCommands {
             Task::Counts => shared::<CountLister, H, T, R>(rt, alloc, texts, reader, request),
             Task::Compare => shared::<CompareLister, H, T, R>(rt, alloc, texts, reader, request),
             Task::Optimize => shared::<OptimizeLister, H, T, R>(rt, alloc, texts, reader, request),
-            Task::Explain => of_file_or_rows::<ExplainLister, RowsExplainer, T, R>(
-                alloc, texts, reader, request,
+            Task::Explain => shared_or_rows::<ExplainLister, RowsExplainer, H, T, R>(
+                rt, alloc, texts, reader, request,
             ),
             Task::Graph => alone::<GraphLister, R>(alloc, reader, request),
             Task::Check => of_rows::<CheckLister, T, R>(alloc, texts, reader, request),

@@ -42,8 +42,8 @@ pub fn run_program<H: Threads + Wait + Sync, T: Texts, R: Read, W: Write, F: Wri
 
 /// Reads an input, writes what the request lists of it, and answers what was found. For `Check` the input is blocks with rows
 /// or, where the request names a file, rows for that file's blocks, which are read first; else it is a file, of which nothing
-/// is judged. For `Schedule`, `Counts`, `Compare` and `Optimize` the request's workers are threads, and there is a receipt for
-/// their work.
+/// is judged. For `Schedule`, `Counts`, `Compare`, `Optimize` and, where the request names no task, `Explain` its workers are
+/// threads, and there is a receipt for their work.
 ///
 /// Promise: at `Ok` the listing of just this input was written, whole. By the receipt, what workers did with the very blocks that
 /// were read is one legal history of a board of one thread, in which each block is taken once and what is listed of it handed

@@ -1,5 +1,5 @@
 -- The listings: of outcomes, of schedules and of their cycles.
-use Rattle.std.specs.Prelude.{ℕ, ◌+◌, ◌==◌, Bool, true, false, ◌&&◌, if◌then◌else◌, List, [], ◌∷◌, ◌++◌, sum, sum_by, Option, Some, None, is_none, ℤ, codes}
+use Rattle.std.specs.Prelude.{ℕ, ◌+◌, ◌==◌, Bool, true, false, ◌&&◌, if◌then◌else◌, List, [], ◌∷◌, ◌++◌, map, sum, sum_by, Option, Some, None, is_none, ℤ, codes}
 use Rattle.std.specs.List.{flat_map, list_all}
 use Rattle.std.specs.Fmt.{decimal, signed_decimal}
 use Rattle.iloc_ops.specs.Columns.{column}
@@ -11,6 +11,7 @@ use Rattle.iloc_timed.specs.declared.row.Row.{Row}
 use Rattle.iloc_timed.specs.Cycles.{cycles}
 use Rattle.iloc_timed.specs.Schedule.{Table}
 use Rattle.iloc_timed.specs.Spelling.{row_line}
+use Rattle.iloc_listing.specs.declared.text.ScheduleEntry.{ScheduleEntry}
 
 -- Blocks
 
@@ -109,6 +110,10 @@ total_of cycles = codes "total " ++ decimal cycles ++ codes "\n"
 -- the same of these cycles together
 abbrev pub total_of_all : List ℕ → List ℕ
 total_of_all cycles = total_of (sum cycles)
+
+-- these entries, and the cycles of all
+abbrev pub listing_of_entries : List ScheduleEntry → List ℕ
+listing_of_entries entries = flat_map (λ e. e.text) entries ++ total_of_all (map (λ e. e.cycles) entries)
 
 abbrev pub total_line : Latencies → List Table → List ℕ
 total_line lat schedules = total_of (total_cycles lat schedules)

@@ -1,6 +1,5 @@
 //! Entries of schedules, and the listing of them.
-ghost use Rattle.std.specs.Prelude.{◌≡◌, ◌≤◌, ◌<◌, ◌^◌, ◌++◌, length, map, sum_by, IfOk, OnOk};
-ghost use Rattle.std.specs.List.{flat_map};
+ghost use Rattle.std.specs.Prelude.{◌≡◌, ◌≤◌, ◌<◌, ◌^◌, ◌++◌, length, sum_by, IfOk, OnOk};
 ghost use Rattle.iloc_ops.specs.Limits.{MAX_BLOCKS};
 ghost use Rattle.iloc_listing.specs.Listing as listed;
 
@@ -83,6 +82,15 @@ impl EntryMaker {
         let text = FoldedText::of(self.alloc, &mut self.piece, &self.text, folds)?;
         Ok(ScheduleEntry { text, cycles })
     }
+
+    /// The entry that is this text, for a schedule that takes so many cycles.
+    pub fn entry_of(&mut self, text: &[u8], cycles: u32) -> Result<ScheduleEntry, NoMemory>
+        ensures text { IfOk result (λ entry. entry.text ≡ text.now) }
+        ensures cycles { IfOk result (λ entry. entry.cycles ≡ cycles) }
+    {
+        let text = FoldedText::of(self.alloc, &mut self.piece, text, false)?;
+        Ok(ScheduleEntry { text, cycles })
+    }
 }
 
 /// The cycles of these entries' schedules together.
@@ -101,8 +109,7 @@ fn cycles_of_all(entries: &[ScheduleEntry]) -> u64
 /// The listing of these entries, with the cycles of all at the end.
 pub fn with_total(alloc: Global, entries: Vec<ScheduleEntry>) -> Result<Listing, NoMemory>
     requires { length entries.items ≤ MAX_BLOCKS }
-    ensures { IfOk result (λ text. text ≡ flat_map (λ entry. entry.text) entries.items
-        ++ listed.total_of_all (map (λ entry. entry.cycles) entries.items)) }
+    ensures { IfOk result (λ text. text ≡ listed.listing_of_entries entries.items) }
 {
     let mut ending = Vec::new(alloc);
     push_total(&mut ending, cycles_of_all(&entries))?;

@@ -1,8 +1,18 @@
 -- What the commands list of a block.
-use Rattle.std.proofs.Common.{◌≡◌, ℕ, ℤ, List, ◌++◌, Option, refl, ap, ◌∙◌, append_assoc, arith}
-use Rattle.std.specs.Prelude.{codes}
+use Rattle.std.proofs.Common.{◌≡◌, ℕ, ℤ, List, [], ◌++◌, Option, Some, None, length, refl, sym, subst, ap, ap₂, ◌∙◌, append_assoc, arith}
+use Rattle.std.proofs.Math.Path.{transport}
+use Rattle.std.specs.Prelude.{codes, IfSome}
 use Rattle.iloc_ops.specs.declared.file.Block.{Block}
 use Rattle.iloc_timed.specs.Schedule.{Table}
+use Rattle.iloc_timed.specs.declared.latencies.Latencies.{Latencies}
+use Rattle.iloc_rules.specs.declared.heuristic.Heuristic.{Heuristic}
+use Rattle.iloc_rules.specs.Greedy.{IsGreedyBy}
+use Rattle.iloc_rules.specs.Renaming.{numbering, renamed, without_nops}
+use Rattle.iloc_rules.proofs.PriorityValues.Named.{length-priorities_by}
+use Rattle.iloc_rules.proofs.Renamed.MentionedSources.{length-renamed_by}
+use Rattle.iloc_sched.specs.Graph.GraphOf.{GraphOf, of_block}
+use Rattle.iloc_explain.specs.Measures.{AreMeasures}
+use Rattle.iloc_explain.specs.declared.measures.Measures.{Measures}
 use Rattle.iloc_graph.specs.Listing.{IsCluster}
 use Rattle.iloc_trace.specs.Events.{events}
 use Rattle.iloc_trace.specs.Listing.{trace_lines}
@@ -12,9 +22,9 @@ use Rattle.iloc_view_commands.specs.Graph.{IsGraphEntry, opening_at}
 use Rattle.iloc_driver.specs.Command.{initial_memory}
 use Rattle.iloc_view_commands.specs.Trace.{IsTraceEntry}
 use Rattle.iloc_listing.specs.Listing.{block_head, cycles_of}
-use Rattle.iloc_listing.specs.Schedules.{IsGreedyAs}
+use Rattle.iloc_listing.specs.Schedules.{IsGreedyAs, ranks}
 use Rattle.iloc_driver.specs.Entries.{Adds}
-use Rattle.iloc_listing.proofs.Schedules.{the_greedy}
+use Rattle.iloc_listing.proofs.Schedules.{the_greedy, the_greedy_by}
 use Rattle.iloc_driver.proofs.Entries.{parts_joined}
 
 -- what a call has appended is the entry, by the name and the words or cycles that it was handed
@@ -45,20 +55,50 @@ module _ (request : Request) (k : ℕ) (b : Block) (text more : List ℕ) (name 
               ∙ parts_joined text (block_head k b.name) (codes "\n") lines)));
         }
 
-    module _ (cycles : ℕ) (counted : cycles ≡ cycles_of request.latencies s) where
-      pub explain_listed : (explanation : List ℕ) → IsSaid request.by_cycle request.priority request.latencies b.ops s explanation
-          → more ≡ ((text ++ block_head k name) ++ codes "\n") ++ explanation
-          → Adds (IsExplainEntry request k b) text more cycles
-      explain_listed explanation explains added = record {
-        entry = block_head k b.name ++ codes "\n" ++ explanation;
-        right = record {
-          schedule = s;
-          greedy = the_greedy request.priority request.latencies b s greedy;
-          text = explanation;
-          said = explains;
-          listed = refl;
-          counted = counted;
-        };
-        added = added ∙ (ap (λ n. ((text ++ block_head k n) ++ codes "\n") ++ explanation) named
-            ∙ parts_joined text (block_head k b.name) (codes "\n") explanation);
-      }
+-- each operation of the graph has a number
+pub each_ranked : (heuristic : Heuristic) (own : Option (List ℕ)) (lat : Latencies) (b : Block) (g : GraphOf) (found : List ℕ)
+    → g ≡ of_block lat b.ops → IfSome own (λ numbers. length numbers ≡ length (without_nops b.ops))
+    → found ≡ ranks heuristic g.latencies own g.ops → length found ≡ length g.ops
+each_ranked heuristic None lat b g found is each ranked =
+    ap length ranked ∙ length-priorities_by heuristic g.latencies g.ops
+each_ranked heuristic (Some numbers) lat b g found is each ranked =
+    ap length ranked
+    ∙ (each ∙ (sym (length-renamed_by (without_nops b.ops) (numbering (without_nops b.ops)))
+    ∙ ap (λ (x : GraphOf). length x.ops) (sym is)))
+
+-- what was measured of the graph is so of the schedule
+pub measured_too : (lat : Latencies) (b : Block) (s : Table) (g : GraphOf) (m : Measures) → g ≡ of_block lat b.ops
+    → s.ops ≡ renamed b.ops → AreMeasures g.latencies g.ops m → AreMeasures lat s.ops m
+measured_too lat b s g m is names are =
+    let ops : g.ops ≡ s.ops = ap (λ (x : GraphOf). x.ops) is ∙ sym names in
+    let same : g.latencies ≡ lat = ap (λ (x : GraphOf). x.latencies) is in
+    transport (λ i. AreMeasures (same i) (ops i) m) are
+
+-- the text that grew from nothing by these is the entry
+pub entry_grown : (start head line whole said : List ℕ) (k : ℕ) (b : Block) (name : Option (List ℕ)) → start ≡ []
+    → head ≡ start ++ block_head k name → name ≡ b.name → line ≡ head ++ codes "\n" → whole ≡ line ++ said
+    → whole ≡ block_head k b.name ++ codes "\n" ++ said
+entry_grown start head line whole said k b name empty opened named ended grown =
+    grown ∙ ap (λ xs. xs ++ said) (ended ∙ ap (λ xs. xs ++ codes "\n")
+    (opened ∙ ap₂ (λ xs n. xs ++ block_head k n) empty named))
+
+-- what was said of the schedule that is greedy by the numbers found is the entry
+pub explain_is : (request : Request) (own : Option (List ℕ)) (k : ℕ) (b : Block) (s : Table) (g : GraphOf) (found said : List ℕ)
+    → g ≡ of_block request.latencies b.ops → found ≡ ranks request.priority g.latencies own g.ops
+    → IsGreedyBy found request.latencies b.ops s.ops s.rows → IsSaid request.by_cycle found request.latencies b.ops s said
+    → (entry : List ℕ) (cycles : ℕ) → entry ≡ block_head k b.name ++ codes "\n" ++ said
+    → cycles ≡ cycles_of request.latencies s → IsExplainEntry request own k b entry cycles
+explain_is request own k b s g found said is ranked greedy says entry cycles listed counted =
+    let ops : g.ops ≡ s.ops = ap (λ (x : GraphOf). x.ops) is ∙ sym greedy.lawful.names in
+    let by : found ≡ ranks request.priority request.latencies own s.ops =
+    ranked ∙ ap₂ (λ lat ops. ranks request.priority lat own ops) (ap (λ (x : GraphOf). x.latencies) is) ops in
+    let P : List ℕ → Type 0 = λ prios. IsGreedyBy prios request.latencies b.ops s.ops s.rows in
+    let Q : List ℕ → Type 0 = λ prios. IsSaid request.by_cycle prios request.latencies b.ops s said in
+    record {
+      schedule = s;
+      greedy = the_greedy_by (ranks request.priority request.latencies own) request.latencies b s (subst P by greedy);
+      text = said;
+      said = subst Q by says;
+      listed = listed;
+      counted = counted;
+    }

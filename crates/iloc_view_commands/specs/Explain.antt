@@ -1,26 +1,42 @@
 -- `explain` lists why each block's schedule takes its cycles.
-use Rattle.std.specs.Prelude.{◌≡◌, ℕ, Bool, true, false, List, ◌++◌, codes}
+use Rattle.std.specs.Prelude.{◌≡◌, ℕ, Bool, true, false, List, ◌++◌, Option, codes}
 use Rattle.iloc_ops.specs.declared.file.Block.{Block}
 use Rattle.iloc_ops.specs.declared.op.Op.{Op}
 use Rattle.iloc_timed.specs.Schedule.{Table}
 use Rattle.iloc_timed.specs.declared.latencies.Latencies.{Latencies}
-use Rattle.iloc_rules.specs.declared.heuristic.Heuristic.{Heuristic}
 use Rattle.iloc_explain.specs.CycleLines.{ready_listing}
 use Rattle.iloc_explain.specs.Listing.{IsExplanation}
 use Rattle.iloc_args.specs.declared.request.Request.{Request}
-use Rattle.iloc_listing.specs.Listing.{block_head, cycles_of}
-use Rattle.iloc_listing.specs.Schedules.{IsTheGreedy}
+use Rattle.iloc_driver.specs.Command.{Command, shared_by}
+use Rattle.iloc_driver.specs.Entries.{IsListingOf}
+use Rattle.iloc_listing.specs.Listing.{block_head, cycles_of, listing_of_entries, total_of_all}
+use Rattle.iloc_driver.specs.Priorities.{Own, own_of}
+use Rattle.iloc_listing.specs.Schedules.{IsTheGreedyBy, ranks}
+use Rattle.iloc_listing.specs.declared.text.ScheduleEntry.{ScheduleEntry}
 
--- what is said of a schedule of a block: its ready list if it is asked for, else what explains it
-abbrev pub IsSaid : Bool → Heuristic → Latencies → List Op → Table → List ℕ → Type 0
-IsSaid true heuristic lat block s text = text ≡ ready_listing heuristic lat block s.ops s.rows
-IsSaid false heuristic lat block s text = IsExplanation heuristic lat block s.ops s.rows s.ops text
+-- what is said of a schedule of a block that these priorities rank: its ready list if it is asked for, else what explains it
+abbrev pub IsSaid : Bool → List ℕ → Latencies → List Op → Table → List ℕ → Type 0
+IsSaid true prios lat block s text = text ≡ ready_listing prios lat block s.ops s.rows
+IsSaid false prios lat block s text = IsExplanation prios lat block s.ops s.rows s.ops text
 
--- the entry of block k: its number and its name, and what is said of its greedy schedule, whose cycles are found
-pub record IsExplainEntry (request : Request) (k : ℕ) (b : Block) (entry : List ℕ) (cycles : ℕ) : Type 0 where
+-- The entry of block k: its number and its name, and what is said of its schedule, greedy by its own priorities if it has some or
+-- else as the request ranks, whose cycles are found.
+pub record IsExplainEntry (request : Request) (own : Option (List ℕ)) (k : ℕ) (b : Block) (entry : List ℕ) (cycles : ℕ)
+    : Type 0 where
   pub schedule : Table
-  pub greedy : IsTheGreedy request.priority request.latencies b schedule
+  pub greedy : IsTheGreedyBy (ranks request.priority request.latencies own) request.latencies b schedule
   pub text : List ℕ
-  pub said : IsSaid request.by_cycle request.priority request.latencies b.ops schedule text
+  pub said : IsSaid request.by_cycle (ranks request.priority request.latencies own schedule.ops) request.latencies b.ops schedule
+      text
   pub listed : entry ≡ block_head k b.name ++ codes "\n" ++ text
   pub counted : cycles ≡ cycles_of request.latencies schedule
+
+-- the listing of these blocks for the request, with their own priorities if there are some
+abbrev pub IsExplainListing : Request → Own → List Block → List ℕ → Type 0
+IsExplainListing request own blocks text = IsListingOf (λ k. IsExplainEntry request (own_of own k) k) total_of_all blocks text
+
+-- of files: workers hand back the entries
+abbrev pub explain_files : Command
+explain_files =
+    shared_by (λ request own k b (e : ScheduleEntry). IsExplainEntry request own k b e.text e.cycles) (λ e. e.cycles)
+    (λ request blocks entries. listing_of_entries entries) IsExplainListing

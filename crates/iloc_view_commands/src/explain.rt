@@ -1,35 +1,54 @@
 //! `explain`: why blocks' schedules take their cycles.
-ghost use Rattle.std.specs.Prelude.{ℕ, ◌≡◌, ◌++◌, List, length, IfOk, OnOk};
+ghost use Rattle.std.specs.Prelude.{ℕ, ◌≡◌, ◌≤◌, ◌++◌, List, length, option_copied, IfOk, OnOk};
+ghost use Rattle.iloc_ops.specs.Limits.{MAX_BLOCKS};
+ghost use Rattle.iloc_rules.specs.Heuristics.{priorities_by};
 ghost use Rattle.iloc_rules.specs.Renaming.{renamed};
 ghost use Rattle.iloc_explain.specs.Listing.{IsExplanation};
 ghost use Rattle.iloc_explain.specs.Measures.{AreMeasures};
+ghost use Rattle.iloc_listing.specs.Schedules.{ranks as all_ranks};
 ghost use Rattle.iloc_view_commands.specs.Explain.{IsSaid};
 
 use iloc_args::Request;
 use iloc_bound::least_of;
-use iloc_driver::Lister;
+use iloc_driver::FarmedLister;
 use iloc_explain::{Measures, push_explanation, push_ready_list};
-use iloc_listing::{count_of, push_block_head, push_total_of};
-use iloc_ops::{Block, NoMemory, Op};
+use iloc_listing::{EntryMaker, Listing, ScheduleEntry, count_of, push_block_head, with_total};
+use iloc_ops::{Block, Blocks, NoMemory, Op};
 use iloc_rules::Heuristic;
 use iloc_sched::{Graph, Scheduler};
-use iloc_timed::Schedule;
+use iloc_timed::{Latencies, Schedule};
 use std::alloc::Global;
 
-/// What an explanation needs to know of the operations of a graph, ranked by a heuristic.
-fn measure(alloc: Global, graph: &Graph, heuristic: Heuristic) -> Result<Measures, NoMemory>
-    ensures heuristic { IfOk result (λ measures. measures.heuristic ≡ heuristic) }
-    ensures measures { IfOk result (AreMeasures graph.now.latencies graph.now.ops) }
+/// The numbers that rank the operations of a graph: these, if it has some of its own, or else those of a heuristic.
+fn ranks_of(
+    alloc: Global,
+    graph: &Graph,
+    own: Option<&[u32]>,
+    heuristic: Heuristic,
+) -> Result<Vec<u32>, NoMemory>
+    ensures { IfOk result (λ ranks.
+        ranks.items ≡ all_ranks heuristic graph.now.latencies (option_copied own.entry) graph.now.ops) }
 {
     let mut ranks = Vec::new(alloc);
-    graph.rank(heuristic, &mut ranks)?;
+    match own {
+        Some(numbers) => ranks.extend_from_slice(numbers)?,
+        None => graph.rank(heuristic, &mut ranks)?,
+    }
+    Ok(ranks)
+}
+
+/// What an explanation needs to know of the operations of a graph, which are ranked by these numbers.
+fn measure(alloc: Global, graph: &Graph, ranks: Vec<u32>) -> Result<Measures, NoMemory>
+    requires { length ranks.items ≡ length graph.now.ops }
+    ensures ranks { IfOk result (λ measures. measures.ranks.items ≡ ranks.items) }
+    ensures measures { IfOk result (AreMeasures graph.now.latencies graph.now.ops) }
+{
     let mut chains = Vec::new(alloc);
     graph.chains(&mut chains)?;
     let mut starts = Vec::new(alloc);
     graph.starts(&mut starts)?;
     let least = least_of(alloc, graph)?;
     Ok(Measures {
-        heuristic,
         ranks,
         chains,
         starts,
@@ -54,35 +73,37 @@ pub fn explain_by_graph(
     requires names { schedule.now.ops ≡ renamed block.now.ops }
     requires issued { length issued.now ≡ length schedule.now.ops }
     ensures { OnOk result ((entry : List ℕ)
-        × IsExplanation heuristic graph.now.latencies block.now.ops schedule.now.ops schedule.now.rows issued.now entry
+        × IsExplanation (priorities_by heuristic graph.now.latencies graph.now.ops) graph.now.latencies block.now.ops
+        schedule.now.ops schedule.now.rows issued.now entry
         × (text.new.items ≡ text.old.items ++ entry)) }
 {
-    let measures = measure(alloc, graph, heuristic)?;
+    let ranks = ranks_of(alloc, graph, None, heuristic)?;
+    let measures = measure(alloc, graph, ranks)?;
     let latencies = graph.latencies();
     push_explanation(alloc, text, block, latencies, &measures, schedule, issued)
 }
 
-/// Appends what is said of a schedule of the block of this graph, ranked by a heuristic: cycle by cycle or operation by operation.
+/// Appends what is said of a schedule of the block: cycle by cycle or operation by operation.
 fn push_said(
     alloc: Global,
     text: &mut Vec<u8>,
     block: &Block,
-    graph: &Graph,
+    latencies: &Latencies,
+    measures: &Measures,
     schedule: &Schedule,
-    heuristic: Heuristic,
     by_cycle: bool,
 ) -> Result<(), NoMemory>
-    requires graph { graph.now.ops ≡ renamed block.now.ops }
     requires names { schedule.now.ops ≡ renamed block.now.ops }
-    ensures { OnOk result ((entry : List ℕ) × IsSaid by_cycle heuristic graph.now.latencies block.now.ops schedule.now entry
-        × (text.new.items ≡ text.old.items ++ entry)) }
+    requires measured { AreMeasures latencies.now schedule.now.ops measures.now }
+    ensures { OnOk result ((said : List ℕ)
+        × IsSaid by_cycle measures.now.ranks.items latencies.now block.now.ops schedule.now said
+        × (text.new.items ≡ text.old.items ++ said)) }
 {
-    if !by_cycle {
-        let issued = schedule.ops();
-        return explain_by_graph(alloc, text, block, graph, schedule, issued, heuristic);
+    if by_cycle {
+        return push_ready_list(alloc, text, block, latencies, measures, schedule);
     }
-    let measures = measure(alloc, graph, heuristic)?;
-    push_ready_list(alloc, text, block, graph.latencies(), &measures, schedule)
+    let issued = schedule.ops();
+    push_explanation(alloc, text, block, latencies, measures, schedule, issued)
 }
 
 /// Schedules each block, and lists why its schedule takes its cycles.
@@ -90,57 +111,87 @@ fn push_said(
 pub struct ExplainLister {
     graph: Graph,
     scheduler: Scheduler,
+    entries: EntryMaker,
+    /// The entry of a block, until it is kept.
+    text: Vec<u8>,
 }
 
-impl Lister for ExplainLister {
-    ghost use Rattle.iloc_view_commands.specs.Explain.{IsExplainEntry};
-    ghost use Rattle.iloc_driver.specs.Command.{initial_memory};
-    ghost use Rattle.iloc_listing.specs.Listing.{total_of_all};
+impl FarmedLister for ExplainLister {
+    ghost use Rattle.iloc_view_commands.specs.Explain.{IsExplainEntry, IsExplainListing};
+    ghost use Rattle.iloc_driver.specs.Entries.{AreListed};
+    ghost use Rattle.iloc_listing.specs.Listing.{listing_of_entries};
+    ghost use Rattle.iloc_driver.specs.Priorities.{Own};
+    ghost use Rattle.iloc_driver.specs.Work.{by_own};
 
-    type Found = u32;
+    type Answer = ScheduleEntry;
 
-    ghost lists = { IsExplainEntry };
+    ghost answers = { λ request own k block entry. IsExplainEntry request own k block entry.text entry.cycles };
 
-    ghost ending = { total_of_all };
+    ghost cycles_in = { λ entry. entry.cycles };
 
-    ghost memory = { λ request _. initial_memory request };
+    ghost made_of = { λ _ _ entries. listing_of_entries entries };
 
-    fn new(alloc: Global, _request: &Request) -> Result<ExplainLister, NoMemory> {
-        Ok(ExplainLister {
+    ghost lists = { IsExplainListing };
+
+    fn new(alloc: Global) -> ExplainLister {
+        ExplainLister {
             graph: Graph::new(alloc),
             scheduler: Scheduler::new(alloc),
-        })
+            entries: EntryMaker::new(alloc),
+            text: Vec::new(alloc),
+        }
     }
 
-    fn list(
+    fn answer(
         &mut self,
         alloc: Global,
         request: &Request,
+        own: Option<&[u32]>,
         number: usize,
         block: &Block,
-        text: &mut Vec<u8>,
-    ) -> Result<u32, NoMemory> {
-        let (latencies, priority) = (&request.latencies, request.priority);
+    ) -> Result<ScheduleEntry, NoMemory> {
+        let latencies = &request.latencies;
         self.graph.refill(block, latencies)?;
-        let schedule = self.scheduler.lend_as(&self.graph, priority)?;
+        let ranks = ranks_of(alloc, &self.graph, own, request.priority)?;
+        let measures = measure(alloc, &self.graph, ranks)?;
+        let schedule = self.scheduler.lend(&self.graph, &measures.ranks)?;
         let cycles = count_of(&schedule, latencies);
-        push_block_head(text, number, block.name.as_ref())?;
-        text.push(b'\n')?;
         let by_cycle = request.by_cycle;
+        self.text.clear();
+        push_block_head(&mut self.text, number, block.name.as_ref())?;
+        self.text.push(b'\n')?;
         push_said(
             alloc,
-            text,
+            &mut self.text,
             block,
-            &self.graph,
+            latencies,
+            &measures,
             &schedule,
-            priority,
             by_cycle,
         )?;
+        let entry = self.entries.entry_of(&self.text, cycles)?;
         self.scheduler.take_back(schedule);
-        Ok(cycles)
+        Ok(entry)
     }
 
-    fn push_ending(text: &mut Vec<u8>, found: &[u32]) -> Result<(), NoMemory> {
-        push_total_of(text, found)
+    fn cycles(entry: &ScheduleEntry) -> u32 {
+        entry.cycles
+    }
+
+    fn listing(
+        alloc: Global,
+        _request: &Request,
+        blocks: Blocks,
+        entries: Vec<ScheduleEntry>,
+    ) -> Result<Listing, NoMemory>
+        requires few { length blocks ≤ MAX_BLOCKS }
+        requires many { length entries.items ≡ length blocks }
+        ensures made { IfOk result (λ text. text ≡ listing_of_entries entries.items) }
+        ensures right { IfOk result (λ text. (own : Own)
+            → AreListed (by_own (λ own k block entry. IsExplainEntry _request.now own k block entry.text entry.cycles) own)
+            blocks entries.items → IsExplainListing _request.now own blocks text) }
+    {
+        drop(blocks);
+        with_total(alloc, entries)
     }
 }

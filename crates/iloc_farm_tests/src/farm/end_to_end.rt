@@ -128,7 +128,7 @@ const RECEIPTS: &[(&str, bool)] = &[
     ("schedule", true),
     ("counts", true),
     ("compare", true),
-    ("explain", false),
+    ("explain", true),
 ];
 
 #[test]

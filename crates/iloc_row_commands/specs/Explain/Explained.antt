@@ -30,7 +30,7 @@ pub record AreExplainedBy (heuristic : Heuristic) (lat : Latencies) (block ops :
   pub issued : List Op
   pub are_own : AreOwnRows lat block ops rows own issued
   pub explanation : List ℕ
-  pub explains : IsExplanation heuristic lat block own.ops own.rows issued explanation
+  pub explains : IsExplanation (priorities_by heuristic lat own.ops) lat block own.ops own.rows issued explanation
   pub listed : text
       ≡ explanation ++ departure_line issued (departure (priorities_by heuristic lat own.ops) lat own.ops own.rows)
 

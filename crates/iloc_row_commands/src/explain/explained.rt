@@ -89,8 +89,9 @@ fn push_own(
     requires names { own.now.schedule.ops ≡ renamed known.now.block.now.ops }
     requires issued { length own.now.issued.items ≡ length own.now.schedule.ops }
     ensures { OnOk result ((explanation : List ℕ)
-        × IsExplanation known.now.heuristic known.now.latencies.now known.now.block.now.ops own.now.schedule.ops
-        own.now.schedule.rows own.now.issued.items explanation
+        × IsExplanation (priorities_by known.now.heuristic known.now.latencies.now own.now.schedule.ops)
+        known.now.latencies.now known.now.block.now.ops own.now.schedule.ops own.now.schedule.rows own.now.issued.items
+        explanation
         × (text.new.items ≡ text.old.items ++ explanation ++ departure_line own.now.issued.items
         (departure (priorities_by known.now.heuristic known.now.latencies.now own.now.schedule.ops) known.now.latencies.now
         own.now.schedule.ops own.now.schedule.rows))) }

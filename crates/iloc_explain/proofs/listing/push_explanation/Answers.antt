@@ -3,7 +3,6 @@ use Rattle.std.proofs.lemmas.Result.{on_ok_weaker}
 use Rattle.iloc_timed.specs.Cycles.{cycles}
 use Rattle.iloc_rules.specs.Least.{least, least_of}
 use Rattle.iloc_rules.specs.Renaming.{without_nops}
-use Rattle.iloc_rules.proofs.PriorityValues.Named.{length-priorities_by}
 use Rattle.iloc_rules.proofs.Renamed.MentionedSources.{length-renamed_by}
 use Rattle.iloc_explain.specs.Listing.{explained_lines, cycles_line, chain_line, path_line}
 use Rattle.iloc_explain.proofs.Lines.{parts_pushed}
@@ -11,8 +10,7 @@ use Rattle.iloc_explain.proofs.listing.push_explanation.Goals as goal
 
 pub explain-requires-clause-ranked : goal.explain-requires-clause-ranked
 explain-requires-clause-ranked c =
-    ap length (c.deref.ensures.value ∙ c.requires.measured.ranks)
-    ∙ length-priorities_by c.args.measures.now.heuristic c.args.latencies.now c.args.schedule.now.ops
+    ap length c.deref.ensures.value ∙ c.requires.measured.ranked
 
 pub explain-requires-clause-chains : goal.explain-requires-clause-chains
 explain-requires-clause-chains c = c.deref-2.ensures.value ∙ c.requires.measured.chains
@@ -47,7 +45,7 @@ returns c =
       lines ++ cycles_line taken bound ++ chain_line chain ++ path_line path,
       record {
         explained = explained;
-        are_explained = rw (c.deref.ensures.value ∙ measured.ranks) at c.in_ok-explained.ensures;
+        are_explained = rw c.deref.ensures.value at c.in_ok-explained.ensures;
         chain = chain;
         is_longest = rw c.ops.ensures.ops at c.in_ok-longest_chain.ensures.chosen;
         path = path;

@@ -35,7 +35,7 @@ returns-in-Trace g c = as_asked task.Trace _ c.args.request.now _ _ _ c.in-Trace
 
 pub returns-in-Explain : goal.returns-in-Explain
 returns-in-Explain g c =
-    as_asked task.Explain _ c.args.request.now _ _ _ c.in-Explain.is c.of_file_or_rows-in-Explain.ensures
+    as_asked task.Explain _ c.args.request.now _ _ _ c.in-Explain.is c.shared_or_rows.ensures
 
 pub returns-in-Check : goal.returns-in-Check
 returns-in-Check g c = as_asked task.Check _ c.args.request.now _ _ _ c.in-Check.is c.of_rows.ensures

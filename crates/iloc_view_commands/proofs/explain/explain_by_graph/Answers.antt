@@ -1,0 +1,15 @@
+use Rattle.std.proofs.Common.{ap, length, ◌∙◌}
+use Rattle.std.proofs.lemmas.Result.{on_ok_weaker}
+use Rattle.iloc_rules.proofs.PriorityValues.Named.{length-priorities_by}
+use Rattle.iloc_view_commands.proofs.explain.explain_by_graph.Goals as goal
+
+pub measure-requires : goal.measure-requires
+measure-requires c =
+    let graph = c.args.graph.now in
+    ap length c.in_ok-ranks.ensures ∙ length-priorities_by c.args.heuristic graph.latencies graph.ops
+
+pub returns : goal.returns
+returns c =
+    let by = c.in_ok-measures.ensures.ranks ∙ c.in_ok-ranks.ensures in
+    on_ok_weaker c.push_explanation.result (λ told. (told.0, rw (c.latencies.ensures, by) at told.1, told.2))
+    c.push_explanation.ensures
