@@ -78,12 +78,17 @@ def columns(numbers, names=ORDERS):
 
 
 def comparison(blocks, latencies, sought=None):
-    rows, names = compared(blocks, latencies, sought), COMPARED_TO[bool(sought)]
-    lines = [f"block {k} B{k}" + columns(row, (*names, *ORDERS)) for k, row in enumerate(rows, 1)]
-    lines.append("total" + columns(map(sum, zip(*rows)), (*names, *ORDERS)))
-    for name, best in (("fewest", lambda row: min(row[len(names):])), ("optimal", lambda row: row[1 if sought else 0])):
-        counts = [sum(row[at] == best(row) for row in rows) for at in range(len(names), len(names) + len(ORDERS))]
-        lines.append(f"{name}{columns(counts)} of {len(rows)}")
+    return comparison_of(compared(blocks, latencies, sought), COMPARED_TO[bool(sought)], ORDERS)
+
+
+def comparison_of(rows, limits, orders):
+    """The listing of these rows, of the cycles by these orders after those to which they are compared."""
+    names = (*limits, *orders)
+    lines = [f"block {k} B{k}" + columns(row, names) for k, row in enumerate(rows, 1)]
+    lines.append("total" + columns(map(sum, zip(*rows)), names))
+    for name, best in (("fewest", lambda row: min(row[len(limits):])), ("optimal", lambda row: row[len(limits) > 1])):
+        counts = [sum(row[at] == best(row) for row in rows) for at in range(len(limits), len(names))]
+        lines.append(f"{name}{columns(counts, orders)} of {len(rows)}")
     return "\n".join([*lines, ""]).encode()
 
 

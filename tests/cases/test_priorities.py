@@ -1,8 +1,9 @@
-"""Somebody's own priorities (`--priorities`): schedules beside the oracle, and what is said of a file that has none."""
+"""Somebody's own priorities (`--priorities`): listings beside the oracle, and what is said of a file that has none."""
 import os
 import random
+import re
 
-from cases.test_drawn import listing
+from cases.test_drawn import comparison_of, listing, table_of
 from forms import USUAL
 from harness.program import TESTED, Run, ending, folder, listed, stored, told
 from harness.suite import Check, table
@@ -11,10 +12,13 @@ from oracle.drawn import made_block
 from oracle.operations import text_of, words_for
 from oracle.scheduler import ORDERS, Schedule
 
-NOT_READ, NO_DEVICE = 1, 4
+NOT_READ, NO_COMMAND, NO_DEVICE = 1, 2, 4
 MOST_PRIORITY = 4_294_967_295
-# Files are tried with so many drawn blocks each, and workers with so many numbers of them.
-DRAWN, ALL_DRAWN, OF_A_FILE = 400, 20_000, 20
+# So many drawn blocks are tried by each latencies, with so many in a file.
+DRAWN, ALL_DRAWN, OF_A_FILE = 1_000, 10_000, 20
+RANKED = (["schedule"], ["counts"], ["explain"], ["explain", "--cycles"])
+TAKING = (*RANKED, ["compare"])
+OTHERS = ("run", "simulate", "trace", "optimize", "check", "graph", "lint")
 WORKERS = ("1", "2", "3", "8")
 # Block a has three operations, b has none, c has one.
 THREE_BLOCKS = b"a: loadI 4 => r1\nnop\nloadI 8 => r2\noutput 4\nb: nop\nc: output 8\n"
@@ -62,17 +66,41 @@ def drawn_priorities(chance, blocks):
     return [[chance.randint(0, most) for _ in range(count)] for count in counted(blocks)]
 
 
+def ranked_by(words, blocks, latencies, numbers):
+    """What one of RANKED lists by these numbers."""
+    return listing("cycles" if "--cycles" in words else words[0], blocks, latencies, numbers)
+
+
+def compared_by(words, blocks, latencies, numbers):
+    """What `compare` lists with these: a column more than without them, which drawn blocks are tried for elsewhere."""
+    table = ending(["compare", "--csv", *words_for(latencies), *(it for it in words[1:] if it != "--csv")], text_of(blocks))[1]
+    head, *lines = (line.split(",")[2:] for line in table.decode().splitlines())
+    rows = [[*map(int, line), Schedule(ops, latencies, by).cycles()]
+            for line, ops, by in zip(lines, blocks, numbers, strict=True)]
+    if "--csv" in words:
+        return table_of((*head, "own"), rows)
+    return comparison_of(rows, head[:-len(ORDERS)], (*ORDERS, "own"))
+
+
 def wrong_among(latencies, seeds):
     for seed in seeds:
         chance = random.Random(f"own {seed}")
         blocks = [made_block(chance) for _ in range(OF_A_FILE)]
         numbers = drawn_priorities(chance, blocks)
-        words = [*words_for(latencies), "--priorities", file_of(numbers), "--workers", chance.choice(WORKERS)]
-        for command in ("schedule", "counts"):
-            got = ending([command, *words], text_of(blocks))
-            due = (0, listing(command, blocks, latencies, numbers), b"")
+        more = [*words_for(latencies), "--priorities", file_of(numbers), "--workers", chance.choice(WORKERS)]
+        compare = ["compare", *chance.choice([[], ["--csv"]]), *chance.choice([[], ["--nodes", "0"]])]
+        for words, listed_by in ((chance.choice(RANKED), ranked_by), (compare, compared_by)):
+            got = ending([*words, *more], text_of(blocks))
+            due = (0, listed_by(words, blocks, latencies, numbers), b"")
             if got != due:
-                yield f"{command}, seed {seed}: {told(got)} in place of {told(due)}"
+                yield f"{' '.join(words)}, seed {seed}: {told(got)} in place of {told(due)}"
+
+
+def with_own(listed_plainly, by):
+    """A comparison in which the column of this order is given again, last, as somebody's own."""
+    lines = listed_plainly.decode().splitlines(True)
+    numbers = [re.search(rf" {by} (\d+)", line)[1] for line in lines]
+    return "".join(re.sub(r" order \d+", rf"\g<0> own {it}", line) for line, it in zip(lines, numbers)).encode()
 
 
 def orders_as_numbers():
@@ -81,20 +109,34 @@ def orders_as_numbers():
     blocks = [made_block(chance) for _ in range(OF_A_FILE)]
     for by in ORDERS:
         ranks = file_of([Schedule(ops, USUAL, by).ranks for ops in blocks])
-        for command in ("schedule", "counts"):
-            named = ending([command, "--priority", by], text_of(blocks))
-            numbered = ending([command, "--priority", "order", "--priorities", ranks], text_of(blocks))
+        for words in RANKED:
+            named = ending([*words, "--priority", by], text_of(blocks))
+            numbered = ending([*words, "--priority", "order", "--priorities", ranks], text_of(blocks))
             if named != numbered or named[0]:
-                yield f"{command} by {by}: {told(numbered)} in place of {told(named)}"
+                yield f"{' '.join(words)} by {by}: {told(numbered)} in place of {told(named)}"
+        status, plain, err = ending(["compare"], text_of(blocks))
+        due, got = (status, with_own(plain, by), err), ending(["compare", "--priorities", ranks], text_of(blocks))
+        if got != due or status:
+            yield f"compare by {by}: {told(got)} in place of {told(due)}"
 
 
 def by_workers():
     chance = random.Random("workers")
     blocks = [made_block(chance) for _ in range(10 * OF_A_FILE)]
-    words = ["schedule", "--priorities", file_of(drawn_priorities(chance, blocks))]
-    ends = {ending([*words, "--workers", str(workers)], text_of(blocks)) for workers in range(1, 9)}
-    if len(ends) != 1 or ends.pop()[0]:
-        yield "the number of workers leaves a trace"
+    ranks = file_of(drawn_priorities(chance, blocks))
+    for words in TAKING:
+        ends = {ending([*words, "--priorities", ranks, "--workers", str(workers)], text_of(blocks)) for workers in range(1, 9)}
+        if len(ends) != 1 or ends.pop()[0]:
+            yield f"{' '.join(words)}: the number of workers leaves a trace"
+
+
+def not_taken():
+    """No other command has the option."""
+    ranks = stored("good", GOOD["plain"])
+    for command in OTHERS:
+        status, out, err = ending([command, "--priorities", ranks], THREE_BLOCKS)
+        if (status, out) != (NO_COMMAND, b"") or not err.startswith(b"error: unexpected argument '--priorities' found\n"):
+            yield f"{command}: {told((status, out, err))}"
 
 
 def faults():
@@ -104,11 +146,14 @@ def faults():
             ("folder", folder(), "reading failed", NO_DEVICE),
             ("long", stored("long", b" " * (MOST_BYTES + 1)), "input longer than 16777216 bytes", NOT_READ),
             *((name, stored(name, text), said, NOT_READ) for name, (text, said) in BAD.items())):
-        for command in ("schedule", "counts"):
-            yield Run(f"priorities/{name}/{command}", [command, "--priorities", file], THREE_BLOCKS, b"",
+        for words in TAKING:
+            yield Run(f"priorities/{name}/{'_'.join(words)}", [*words, "--priorities", file], THREE_BLOCKS, b"",
                       f"ilocfarm: priorities: {said}\n".encode(), status)
-    yield Run("priorities/bad_block", ["counts", "--priorities", stored("bad", b"x")], b"x", b"",
-              b"ilocfarm: line 1: not understood\n", NOT_READ)
+    for words in TAKING:
+        yield Run(f"priorities/bad_block/{'_'.join(words)}", [*words, "--priorities", stored("bad", b"x")], b"x", b"",
+                  b"ilocfarm: line 1: not understood\n", NOT_READ)
+    yield Run("priorities/with_task", ["explain", "--priorities", good, "--task", good], THREE_BLOCKS, b"",
+              b"ilocfarm: --priorities and --task exclude each other\n", NO_COMMAND)
 
 
 def priorities_cases():
@@ -117,11 +162,15 @@ def priorities_cases():
         yield Check(f"priorities/drawn_{name}", wrong_among, latencies, range(files))
     yield Check("priorities/orders_as_numbers", orders_as_numbers)
     yield Check("priorities/by_workers", by_workers)
+    yield Check("priorities/not_taken", not_taken)
     for name, text in GOOD.items():
         words = ["schedule", "--priorities", stored(f"good_{name}", text)]
         yield listed(f"priorities/{name}", THREE_BLOCKS, THREE_LISTED, words)
     yield listed("priorities/table", THREE_BLOCKS, b"block,name,cycles\n1,a,2\n2,b,0\n3,c,1\n",
                  ["counts", "--csv", "--priorities", stored("good", GOOD["plain"])])
+    noughts = "".join(f" {it} 0" for it in (*ORDERS, "own"))
+    yield listed("priorities/no_block", b"", f"total least 0{noughts}\nfewest{noughts} of 0\noptimal{noughts} of 0\n".encode(),
+                 ["compare", "--priorities", stored("empty", b"")])
     yield from faults()
 
 

@@ -15,8 +15,8 @@ TOP = os.path.dirname(os.path.dirname(os.path.dirname(os.path.abspath(__file__))
 TESTED = SimpleNamespace(program=f"{TOP}/out/ilocfarm", is_short=False)     # as tests/run was asked
 SECONDS = 120
 COMMANDS = ("run", "simulate", "schedule", "counts")
-FARMED = ("schedule", "counts", "compare", "optimize")   # whose blocks workers share
-ALONE = ("run", "simulate", "explain", "check", "graph", "trace")
+FARMED = ("schedule", "counts", "compare", "optimize", "explain")   # whose blocks workers share
+ALONE = ("run", "simulate", "check", "graph", "trace")
 ALL = (*ALONE, *FARMED)
 
 

@@ -118,7 +118,8 @@ def runs(name, given, rows):
         for command in FARMED:
             yield Asked([command, "--workers", str(workers)], name, given, workers)
         numbers = stored(f"{name}.priorities", priorities_of(given))
-        yield Asked(["schedule", "--priorities", numbers, "--workers", str(workers)], name, given, workers)
+        for command in ("schedule", "compare", "explain"):
+            yield Asked([command, "--priorities", numbers, "--workers", str(workers)], name, given, workers)
 
 
 def priorities_of(given):
