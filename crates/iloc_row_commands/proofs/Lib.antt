@@ -1,2 +1,3 @@
 pub mod Checks
 pub mod Departures
+pub mod ByGraph
