@@ -46,7 +46,7 @@ class Prover:
 
     def all_below(self, name):
         """The crates of the repository that this one uses, lowest first."""
-        return [*dict.fromkeys(it for used in self.uses[name] if used in self.uses for it in (*self.all_below(used), used))]
+        return [*dict.fromkeys(lower for used in self.uses[name] if used in self.uses for lower in (*self.all_below(used), used))]
 
     def rlib(self, name):
         return f"{self.libraries or f'{self.folder}/{name}/out/rlib'}/{name}.rlib"
@@ -65,10 +65,10 @@ class Prover:
     def words(self, kept):
         rlibs = f"{self.kit}/rlibs"
         yield from ("--crate-name", self.name, "src/lib.rt", "-L", f"dependency={rlibs}")
-        for it in ["std", *self.uses[self.name]]:
-            yield from ("--extern", f"{it}={self.rlib(it) if it in self.below else f'{rlibs}/{it}.rlib'}")
-        for it in self.below:
-            yield from ("-L", f"dependency={os.path.dirname(self.rlib(it))}")
+        for name in ["std", *self.uses[self.name]]:
+            yield from ("--extern", f"{name}={self.rlib(name) if name in self.below else f'{rlibs}/{name}.rlib'}")
+        for name in self.below:
+            yield from ("-L", f"dependency={os.path.dirname(self.rlib(name))}")
         yield from ("--antt-project", f"{self.kit}/rattle/logic/antt-project.json")
         yield from ("--logic-built", f"{self.kit}/logic_built", "--incremental", kept, "--jobs", "1")
 
@@ -90,7 +90,7 @@ class Prover:
             for name, text in texts.items():
                 with open(f"{room}/{name}", "w", encoding="utf-8") as file:
                     file.write(text)
-            only = [word for it in functions for word in ("--only", it)]
+            only = [word for function in functions for word in ("--only", function)]
             words = ["setpriv", "--pdeathsig", "KILL", f"{self.kit}/bin/rattle", "check", *self.words(kept), *only]
             ran = subprocess.run(words, cwd=room, **QUIET)
         return ran.returncode, ran.stdout.decode(errors="replace").splitlines()

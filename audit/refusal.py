@@ -53,8 +53,8 @@ class Said:
         if self.is_all_proved or function in self.in_bodies and function not in self.unproved:
             return None
         folder = f"proofs/{function.replace('::', '/')}/"
-        of_proof = [it[0] for it in self.in_proofs if it[2].startswith(folder)]
-        goals = [it for it in of_proof if not GONE.search(it)] + [it[0] for it in self.in_bodies.get(function, [])]
+        of_proof = [place[0] for place in self.in_proofs if place[2].startswith(folder)]
+        goals = [goal for goal in of_proof if not GONE.search(goal)] + [place[0] for place in self.in_bodies.get(function, [])]
         if goals:
             return goals[0]
         if of_proof:

@@ -35,12 +35,12 @@ class Ratios:
 
     def texts(self):
         numbers = (self.mean(), self.at(0.9), self.sorted[-1])
-        return [self.column.name, str(self.cycles), f"{100 * self.share(1):.0f} %", *(f"{it:.3f}" for it in numbers)]
+        return [self.column.name, str(self.cycles), f"{100 * self.share(1):.0f} %", *(f"{number:.3f}" for number in numbers)]
 
 
 def step_for(length):
     """A round number, of which at most six make this length."""
-    return next(it * 10 ** zeros for zeros in itertools.count(-2) for it in (1, 2, 5) if length <= 6 * it * 10 ** zeros)
+    return next(digit * 10 ** zeros for zeros in itertools.count(-2) for digit in (1, 2, 5) if length <= 6 * digit * 10 ** zeros)
 
 
 class Curve:
@@ -48,23 +48,23 @@ class Curve:
 
     def __init__(self, columns, wrong, mark):
         self.mark = mark
-        least = [it for it in columns if it.name == LEAST]
+        least = [column for column in columns if column.name == LEAST]
         self.base = (least or columns)[0]
-        left_out = set(wrong) | {k for it in columns for k, value in enumerate(it.values) if value == 0}
+        left_out = set(wrong) | {k for column in columns for k, value in enumerate(column.values) if value == 0}
         self.taken = [k for k in range(len(self.base.values)) if k not in left_out]
         self.wrong, self.empty = len(wrong), len(left_out) - len(wrong)
         if not self.taken:
             raise svg.Unread("no block has cycles that can be compared")
-        self.all = [self.ratios(it) for it in columns]
-        self.drawn = [it for it in self.all if it.column is not self.base]
-        low, high = min(it.sorted[0] for it in self.drawn), max(it.at(0.99) for it in self.drawn)
+        self.all = [self.ratios(column) for column in columns]
+        self.drawn = [ratios for ratios in self.all if ratios.column is not self.base]
+        low, high = min(ratios.sorted[0] for ratios in self.drawn), max(ratios.at(0.99) for ratios in self.drawn)
         self.step = step_for(max(high - low, 0.03))
         self.low = math.floor(low / self.step + 1e-9) * self.step
         self.high = max(math.ceil(high / self.step - 1e-9) * self.step, self.low + self.step)
 
     def ratios(self, column):
         pairs = [(column.values[k], self.base.values[k]) for k in self.taken]
-        return Ratios(column, sum(it for it, _ in pairs), sorted(it / base for it, base in pairs))
+        return Ratios(column, sum(cycles for cycles, _ in pairs), sorted(cycles / base for cycles, base in pairs))
 
     def x(self, ratio):
         return LEFT + WIDTH * (min(ratio, self.high) - self.low) / (self.high - self.low)
@@ -82,31 +82,31 @@ class Curve:
             yield svg.line(LEFT, y, LEFT + WIDTH, y, class_="grid")
             yield svg.text(LEFT - 12, y + 4, f"{percent} %", text_anchor="end")
 
-    def curve(self, it):
+    def curve(self, ratios):
         """Steps: up at each ratio that some block has."""
         points, share = [(self.x(self.low), self.y(0))], 0
-        for ratio in sorted(set(it.sorted)):
+        for ratio in sorted(set(ratios.sorted)):
             if ratio > self.high:
                 break
             points.append((self.x(ratio), self.y(share)))
-            share = it.share(ratio)
+            share = ratios.share(ratio)
             points.append((self.x(ratio), self.y(share)))
         points.append((self.x(self.high), self.y(share)))
         line = svg.element("polyline", points=" ".join(f"{svg.number(x)},{svg.number(y)}" for x, y in points),
-                           fill="none", stroke=it.column.colour, stroke_width=2)
-        marks = [self.mark(it.column, self.x(it.at(share)), self.y(share)) for share in MARKS]
-        return svg.group(": ".join([it.column.name, ", ".join(self.told(it))]), line, *marks)
+                           fill="none", stroke=ratios.column.colour, stroke_width=2)
+        marks = [self.mark(ratios.column, self.x(ratios.at(share)), self.y(share)) for share in MARKS]
+        return svg.group(": ".join([ratios.column.name, ", ".join(self.told(ratios))]), line, *marks)
 
-    def told(self, it):
-        return [f"{value} {head}" if head != "cycles" else f"{value} cycles" for head, value in zip(HEADS[1:], it.texts()[1:])]
+    def told(self, ratios):
+        return [f"{value} {head}" if head != "cycles" else f"{value} cycles" for head, value in zip(HEADS[1:], ratios.texts()[1:])]
 
     def table(self):
         y = TOP + HEIGHT + 72
         for head, place in zip(HEADS, PLACES):
             yield svg.text(LEFT + place, y, head, "ink head", text_anchor="end" if place else "start")
-        for row, it in enumerate(self.all, 1):
-            yield self.mark(it.column, LEFT - 16, y + LINE * row - 4)
-            for text, place in zip(it.texts(), PLACES):
+        for row, ratios in enumerate(self.all, 1):
+            yield self.mark(ratios.column, LEFT - 16, y + LINE * row - 4)
+            for text, place in zip(ratios.texts(), PLACES):
                 yield svg.text(LEFT + place, y + LINE * row, text, text_anchor="end" if place else "start")
 
     def note(self):
@@ -119,11 +119,11 @@ class Curve:
         yield svg.text(MARGIN, 20, f"share of blocks with at most this ratio of cycles to {self.base.name}", "ink head")
         yield svg.text(MARGIN, 38, self.note())
         yield from self.grid()
-        yield from (self.curve(it) for it in self.drawn)
+        yield from (self.curve(ratios) for ratios in self.drawn)
         yield svg.text(LEFT, TOP + HEIGHT + 38, "to where each has 99 % of its blocks")
         yield from self.table()
 
     def picture(self):
         height = TOP + HEIGHT + 72 + LINE * len(self.all) + MARGIN
-        title = f"cycles of {' and '.join(it.column.name for it in self.drawn)}, as ratios to {self.base.name}"
+        title = f"cycles of {' and '.join(ratios.column.name for ratios in self.drawn)}, as ratios to {self.base.name}"
         return svg.picture(LEFT + WIDTH + 40, height, title, self.parts())

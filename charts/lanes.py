@@ -15,28 +15,28 @@ DOT = 3             # half of one that marks the path
 def lanes(operations, latencies):
     """Each operation whose result is under way for more than a cycle, with the first lane that is free then."""
     free, busy, count = [], [], 0
-    for it in sorted(operations, key=lambda it: it.cycle):
-        while busy and busy[0][0] <= it.cycle:
+    for operation in sorted(operations, key=lambda operation: operation.cycle):
+        while busy and busy[0][0] <= operation.cycle:
             heappush(free, heappop(busy)[1])
-        if it.arrival(latencies) > it.cycle + 1:
+        if operation.arrival(latencies) > operation.cycle + 1:
             lane = heappop(free) if free else count
             count = max(count, lane + 1)
-            heappush(busy, (it.arrival(latencies), lane))
-            yield it, lane
+            heappush(busy, (operation.arrival(latencies), lane))
+            yield operation, lane
 
 
 class Chart:
     def __init__(self, block, latencies):
         if block.cycles > MOST_CYCLES:
             raise svg.Unread(f"block {block.number} takes {block.cycles} cycles: at most {MOST_CYCLES} are drawn")
-        if len({(it.cycle, it.unit) for it in block.operations}) < len(block.operations):
+        if len({(operation.cycle, operation.unit) for operation in block.operations}) < len(block.operations):
             raise svg.Unread(f"block {block.number} has two operations on one unit in one cycle")
         self.block, self.latencies = block, latencies
         self.chain, self.path = set(block.chain), set(block.path)
-        units = [[it for it in block.operations if it.unit == unit] for unit in (0, 1)]
-        self.flights = [list(lanes(it, latencies)) for it in units]
-        self.boxes = [max([svg.width_of(it.label()) + 12 for it in unit], default=70) for unit in units]
-        lane_counts = [max([lane + 1 for _, lane in it], default=0) for it in self.flights]
+        units = [[operation for operation in block.operations if operation.unit == unit] for unit in (0, 1)]
+        self.flights = [list(lanes(operations, latencies)) for operations in units]
+        self.boxes = [max([svg.width_of(operation.label()) + 12 for operation in unit], default=70) for unit in units]
+        lane_counts = [max([lane + 1 for _, lane in flight], default=0) for flight in self.flights]
         self.left = MARGIN + svg.width_of(str(block.cycles)) + 10
         self.starts = [self.left, self.left + self.boxes[0] + LANE * (lane_counts[0] + 1) + 14]
         self.width = self.starts[1] + self.boxes[1] + LANE * (lane_counts[1] + 1) + MARGIN
@@ -83,21 +83,21 @@ class Chart:
             yield svg.line(self.left - 4, self.y(cycle), self.width - MARGIN, self.y(cycle), class_="grid")
             yield svg.text(self.left - 8, self.y(cycle) + 13, str(cycle), text_anchor="end")
 
-    def bar(self, it, lane):
-        colour, edge = COLOURS[it.kind()], self.starts[it.unit] + self.boxes[it.unit]
+    def bar(self, operation, lane):
+        colour, edge = COLOURS[operation.kind()], self.starts[operation.unit] + self.boxes[operation.unit]
         x = edge + LANE * lane + 6
-        end = self.y(it.arrival(self.latencies))
-        middle = self.y(it.cycle) + HEIGHT / 2
+        end = self.y(operation.arrival(self.latencies))
+        middle = self.y(operation.cycle) + HEIGHT / 2
         return [svg.line(edge, middle, x + BAR / 2, middle, stroke=colour),
-                svg.rectangle(x, self.y(it.cycle) + 2, BAR, end - self.y(it.cycle) - 3, colour)]
+                svg.rectangle(x, self.y(operation.cycle) + 2, BAR, end - self.y(operation.cycle) - 3, colour)]
 
-    def box(self, it):
-        mark = WRONG if it.cycle in self.block.wrong else CHAIN if it.number in self.chain else None
+    def box(self, operation):
+        mark = WRONG if operation.cycle in self.block.wrong else CHAIN if operation.number in self.chain else None
         marked = {"stroke": mark, "stroke_width": 2} if mark else {}
-        x, y = self.starts[it.unit], self.y(it.cycle)
-        dot = [svg.mark(0, x, y + HEIGHT / 2, PATH, DOT)] if it.number in self.path else []
-        return [svg.rectangle(x, y + 1, self.boxes[it.unit], HEIGHT - 2, COLOURS[it.kind()], class_="box", **marked), *dot,
-                svg.text(x + 6, y + 13, it.label(), "on")]
+        x, y = self.starts[operation.unit], self.y(operation.cycle)
+        dot = [svg.mark(0, x, y + HEIGHT / 2, PATH, DOT)] if operation.number in self.path else []
+        return [svg.rectangle(x, y + 1, self.boxes[operation.unit], HEIGHT - 2, COLOURS[operation.kind()], class_="box", **marked), *dot,
+                svg.text(x + 6, y + 13, operation.label(), "on")]
 
     def parts(self):
         yield svg.text(MARGIN, 20, self.title(), "ink head")
@@ -105,10 +105,10 @@ class Chart:
         for unit in (0, 1):
             yield svg.text(self.starts[unit], TOP - 6, f"unit {unit}", "ink head")
         yield from self.grid()
-        bars = {id(it): self.bar(it, lane) for flights in self.flights for it, lane in flights}
-        for it in self.block.operations:
-            told = "\n".join([it.told(self.latencies), *self.block.wrong.get(it.cycle, [])])
-            yield svg.group(told, *bars.get(id(it), []), *self.box(it), data_op=f"{it.cycle}.{it.unit}")
+        bars = {id(operation): self.bar(operation, lane) for flights in self.flights for operation, lane in flights}
+        for operation in self.block.operations:
+            told = "\n".join([operation.told(self.latencies), *self.block.wrong.get(operation.cycle, [])])
+            yield svg.group(told, *bars.get(id(operation), []), *self.box(operation), data_op=f"{operation.cycle}.{operation.unit}")
 
     def picture(self):
         return svg.picture(self.width, self.y(self.block.cycles) + HEIGHT + MARGIN, self.title(), self.parts())

@@ -12,13 +12,13 @@ def layered(count, edges):
     """The layers of nodes, and by edge the nodes that it passes. A node is an operation's number, or a place in a layer
     through which a longer edge goes."""
     depth = [0] * count
-    for i, j, _ in sorted(edges, key=lambda it: it[1]):
+    for i, j, _ in sorted(edges, key=lambda edge: edge[1]):
         depth[j] = max(depth[j], depth[i] + 1)
     layers = [[i for i in range(count) if depth[i] == level] for level in range(max(depth) + 1)]
     paths = {(i, j): [i, *((i, j, level) for level in range(depth[i] + 1, depth[j])), j] for i, j, _ in edges}
     for path in paths.values():
-        for it in path[1:-1]:
-            layers[it[2]].append(it)
+        for place in path[1:-1]:
+            layers[place[2]].append(place)
     return layers, paths
 
 
@@ -31,7 +31,7 @@ def placed(layers, paths, widths):
         for i, j in links:
             near.setdefault(i if sweep % 2 else j, []).append(j if sweep % 2 else i)
         for layer in layers[::-1] if sweep % 2 else layers:
-            wanted = {it: fsum(x[n] for n in near[it]) / len(near[it]) if it in near else x[it] for it in layer}
+            wanted = {node: fsum(x[n] for n in near[node]) / len(near[node]) if node in near else x[node] for node in layer}
             layer.sort(key=wanted.get)
             x.update(spread(layer, wanted, widths))
     return x
@@ -40,7 +40,7 @@ def placed(layers, paths, widths):
 def spread(layer, wanted, widths):
     """Near where the nodes are wanted, in this order: halfway between as far right as they are pushed and as far left."""
     apart = [(widths.get(a, 0) + widths.get(b, 0)) / 2 + GAP for a, b in zip(layer, layer[1:])]
-    right, left = ([wanted[it] for it in layer] for _ in range(2))
+    right, left = ([wanted[node] for node in layer] for _ in range(2))
     for k, least in enumerate(apart):
         right[k + 1] = max(right[k + 1], right[k] + least)
     for k, least in reversed([*enumerate(apart)]):
@@ -63,7 +63,7 @@ class Drawing:
 
     def __init__(self, labels, edges):
         self.labels, self.edges = labels, edges
-        self.widths = {k: svg.width_of(it) + 12 for k, it in enumerate(labels)}
+        self.widths = {k: svg.width_of(label) + 12 for k, label in enumerate(labels)}
         self.layers, self.paths = layered(len(labels), edges)
         x = placed(self.layers, self.paths, self.widths)
         left = min(x[k] - self.widths.get(k, 0) / 2 for k in x) - MARGIN
@@ -73,9 +73,9 @@ class Drawing:
     def links(self, chain, early):
         """The edges; those of the chain and those that come too early stand out, and implied ones are faint."""
         chained, faint = {*zip(chain, chain[1:])}, {*implied(len(self.labels), self.edges)}
-        for it in sorted(self.edges, key=lambda it: it not in faint):
-            colour = WRONG if it[:2] in early else CHAIN if it[:2] in chained else svg.INK
-            yield link(*it, [self.at[node] for node in self.paths[it[:2]]], colour, it in faint and colour == svg.INK)
+        for edge in sorted(self.edges, key=lambda edge: edge not in faint):
+            colour = WRONG if edge[:2] in early else CHAIN if edge[:2] in chained else svg.INK
+            yield link(*edge, [self.at[node] for node in self.paths[edge[:2]]], colour, edge in faint and colour == svg.INK)
 
     def boxes(self, kinds, places, chain):
         """The operations, marked by where they are issued."""

@@ -51,7 +51,7 @@ class Operation:
 
     def registers(self, wanted):
         """Those that the operation uses, `u`, or defines, `d`, as it is in the block, where the listing says that."""
-        return [it for it, role in zip(NUMBER.findall(self.source or self.spelling), ROLES.get(self.opcode(), ()))
+        return [name for name, role in zip(NUMBER.findall(self.source or self.spelling), ROLES.get(self.opcode(), ()))
                 if role == wanted]
 
     def defined(self):
@@ -113,9 +113,9 @@ class Listed:
         elif found := CYCLES.fullmatch(line):
             self.cycles, self.least = count(found[1]), found[2] or ""
         elif found := CHAINED.fullmatch(line):
-            self.chain = [count(it) for it in (found[1] or "").split()]
+            self.chain = [count(digits) for digits in (found[1] or "").split()]
         elif PATHED.fullmatch(line):
-            self.path = [count(it) for it in line.split()[1:] if it.isdecimal()]
+            self.path = [count(digits) for digits in line.split()[1:] if digits.isdecimal()]
         elif UNLAWFUL.fullmatch(line) or self.reasons and REASON.fullmatch(line):
             self.reasons.append(line)
         else:
@@ -123,30 +123,30 @@ class Listed:
         return True
 
     def end(self, latencies):
-        return max((it.arrival(latencies) for it in self.operations), default=0)
+        return max((operation.arrival(latencies) for operation in self.operations), default=0)
 
     def latencies(self, asked):
         """Those that an explanation shows, since an operation is ready when the last of its delays ends, and of other kinds
         those asked for. A delay on a store by a load or a store may be one of memory, which says nothing."""
-        issued, shown = {it.number: it for it in self.operations}, dict(asked)
-        for it in self.operations:
-            for awaited in (issued.get(count(k)) for k in NUMBER.findall(it.after)):
+        issued, shown = {operation.number: operation for operation in self.operations}, dict(asked)
+        for operation in self.operations:
+            for awaited in (issued.get(count(k)) for k in NUMBER.findall(operation.after)):
                 if not awaited:
-                    raise Unread(f"operation {it.number} waited for {it.after}, which the listing hasn't")
-                if awaited.kind() == "mult" or it.kind() != "store":
-                    shown[awaited.kind()] = it.ready - awaited.cycle
+                    raise Unread(f"operation {operation.number} waited for {operation.after}, which the listing hasn't")
+                if awaited.kind() == "mult" or operation.kind() != "store":
+                    shown[awaited.kind()] = operation.ready - awaited.cycle
         return shown
 
     def check(self, latencies):
         """Refuses latencies that the listing can't have: it has other cycles then, or reads a register too early. In the
         order of the block a register holds what was defined last; in a listing without it each is defined once."""
-        explained = any(it.source for it in self.operations)
-        arrivals = {} if explained else {it.defined(): it.arrival(latencies) for it in self.operations}
+        explained = any(operation.source for operation in self.operations)
+        arrivals = {} if explained else {operation.defined(): operation.arrival(latencies) for operation in self.operations}
         too_early = False
-        for it in sorted(self.operations, key=lambda it: it.number):
-            too_early = too_early or any(arrivals.get(name, 0) > it.cycle for name in it.used())
+        for operation in sorted(self.operations, key=lambda operation: operation.number):
+            too_early = too_early or any(arrivals.get(name, 0) > operation.cycle for name in operation.used())
             if explained:
-                arrivals[it.defined()] = it.arrival(latencies)
+                arrivals[operation.defined()] = operation.arrival(latencies)
         if too_early or self.end(latencies) != self.cycles:
             raise Unread("these are not the latencies of the listing: give them by --load, --store and --mult")
 
@@ -160,7 +160,7 @@ def count(digits):
 
 def slots_of(row):
     """The spellings of a row `[ X ; Y ]` by unit; alone a product is on unit 1."""
-    first, semicolon, second = (it.strip() for it in row[1:-1].partition(";"))
+    first, semicolon, second = (spelling.strip() for spelling in row[1:-1].partition(";"))
     return ("", first) if not semicolon and is_product(first) else (first, second)
 
 
@@ -182,11 +182,11 @@ def read_blocks(lines):
             latest[block.number] = block
         elif text and not block.take(text) and not NOTHING.fullmatch(text):
             raise Unread(f"line {at} is none of a listing of schedule or explain: {line}")
-    return [it for it in blocks if it.is_headed or it.rows]
+    return [block for block in blocks if block.is_headed or block.rows]
 
 
 def read_block(lines, wanted):
-    found = next((it for it in read_blocks(lines) if it.number == wanted), None)
+    found = next((block for block in read_blocks(lines) if block.number == wanted), None)
     if not found:
         raise Unread(f"the listing has no block {wanted}")
     return found
@@ -206,7 +206,7 @@ def add_latencies(made):
 
 
 def latencies(asked):
-    return {it: getattr(asked, it) for it in USUAL}
+    return {kind: getattr(asked, kind) for kind in USUAL}
 
 
 def lines():

@@ -23,23 +23,23 @@ def part(name):
 def source_of(block):
     """The block's operations, each marked by where it is issued; where they aren't known, those that are issued."""
     if block.source:
-        places = {it.number: f"{it.cycle}.{it.unit}" for it in block.operations}
+        places = {operation.number: f"{operation.cycle}.{operation.unit}" for operation in block.operations}
         lines = sorted(block.source.items())
     else:
-        places = {k: f"{it.cycle}.{it.unit}" for k, it in enumerate(block.operations)}
-        lines = [(k, it.spelling) for k, it in enumerate(block.operations)]
-    return "".join(f'<li value="{k}" data-op="{places.get(k, "")}">{escape(it)}</li>' for k, it in lines)
+        places = {k: f"{operation.cycle}.{operation.unit}" for k, operation in enumerate(block.operations)}
+        lines = [(k, operation.spelling) for k, operation in enumerate(block.operations)]
+    return "".join(f'<li value="{k}" data-op="{places.get(k, "")}">{escape(text)}</li>' for k, text in lines)
 
 
 def drawing_of(block):
     """The dependence graph; edges for which rows come too early stand out."""
-    cycles = {it.number: it.cycle for it in block.operations}
+    cycles = {operation.number: operation.cycle for operation in block.operations}
     early = {(i, j) for i, j, d in block.edges
              if block.is_wrong() and i in cycles and j in cycles and cycles[j] < cycles[i] + d}
     opcodes = [block.source[k].split()[0] for k in range(len(block.source))]
-    kinds = [kind_of(it) if kind_of(it) in COLOURS else "other" for it in opcodes]
-    places = {it.number: f"{it.cycle}.{it.unit}" for it in block.operations}
-    drawing = Drawing([f"{k} {it}" for k, it in enumerate(opcodes)], block.edges)
+    kinds = [kind_of(opcode) if kind_of(opcode) in COLOURS else "other" for opcode in opcodes]
+    places = {operation.number: f"{operation.cycle}.{operation.unit}" for operation in block.operations}
+    drawing = Drawing([f"{k} {opcode}" for k, opcode in enumerate(opcodes)], block.edges)
     return drawing.picture(f"dependence graph of block {block.number}", kinds, places, block.chain, early)
 
 
@@ -82,8 +82,8 @@ def ready_of(block):
 
 def said_of(block):
     """What `check` says, in which a row leads to its cycle."""
-    lines = (re.sub(r"\brow (\d+)", rf'<a href="#{block.number}.\1">\g<0></a>', escape(it)) for it in block.said)
-    return "".join(f"<li>{it}</li>" for it in lines)
+    lines = (re.sub(r"\brow (\d+)", rf'<a href="#{block.number}.\1">\g<0></a>', escape(line)) for line in block.said)
+    return "".join(f"<li>{line}</li>" for line in lines)
 
 
 def section(block):
@@ -96,7 +96,7 @@ def section(block):
 
 def drawn(lines):
     blocks, script = read_traces(lines), part("script.js")
-    links = " ".join(f'<a href="#{it.number}.0">{it.number} {escape(it.name)}</a>' for it in blocks)
+    links = " ".join(f'<a href="#{block.number}.0">{block.number} {escape(block.name)}</a>' for block in blocks)
     digest = base64.b64encode(hashlib.sha256(script.encode()).digest()).decode()
     return part("page.html").format(digest=digest, style=part("style.css"), script=script,
                                     links=f"<nav>{links}</nav>" if len(blocks) > 1 else "",

@@ -33,8 +33,8 @@ def number(value):
 
 def element(name, content=None, **attributes):
     """An element; an underscore in an attribute's name stands for a hyphen."""
-    given = "".join(f' {key.rstrip("_").replace("_", "-")}="{escape(number(it) if isinstance(it, float) else str(it))}"'
-                    for key, it in attributes.items())
+    given = "".join(f' {key.rstrip("_").replace("_", "-")}="{escape(number(value) if isinstance(value, float) else str(value))}"'
+                    for key, value in attributes.items())
     return f"<{name}{given}/>" if content is None else f"<{name}{given}>{content}</{name}>"
 
 

@@ -33,10 +33,10 @@ class Traced(Listed):
 
     def arrive(self, line, cycle, place, begun):
         """A result that arrives shows how long its operation took."""
-        def sends(it):
-            return it.kind() == "store" if place.startswith("word") else it.spelling.endswith(f"=> {place}")
+        def sends(operation):
+            return operation.kind() == "store" if place.startswith("word") else operation.spelling.endswith(f"=> {place}")
 
-        senders = [it for it in self.operations[-RECENT:] if it.cycle == count(begun) and sends(it)]
+        senders = [operation for operation in self.operations[-RECENT:] if operation.cycle == count(begun) and sends(operation)]
         if not senders:
             raise Unread(f"no operation before sends what arrives: {line}")
         self.shown[senders[0].kind()] = count(cycle) - count(begun)
@@ -59,9 +59,9 @@ class Traced(Listed):
         self.verdict = other.verdict or self.verdict
         if self.verdict not in PASSED:
             self.wrong.update(other.wrong)
-        self.source.update((it.number, it.source) for it in other.operations)
-        explained = {(it.cycle, it.unit, it.spelling): it for it in other.operations}
-        known = [explained.get((it.cycle, it.unit, it.spelling)) for it in self.operations]
+        self.source.update((operation.number, operation.source) for operation in other.operations)
+        explained = {(operation.cycle, operation.unit, operation.spelling): operation for operation in other.operations}
+        known = [explained.get((operation.cycle, operation.unit, operation.spelling)) for operation in self.operations]
         if all(known):
             self.operations, self.chain, self.path = known, other.chain, other.path
 
@@ -70,9 +70,9 @@ class Traced(Listed):
         left = {}
         for number, spelling in sorted(self.source.items(), reverse=True):
             left.setdefault(spelling, []).append(number)
-        for it in self.operations:
-            if it.number < 0 and left.get(it.spelling):
-                it.number, it.source = left[it.spelling].pop(), it.spelling
+        for operation in self.operations:
+            if operation.number < 0 and left.get(operation.spelling):
+                operation.number, operation.source = left[operation.spelling].pop(), operation.spelling
 
     def finish(self):
         """Numbers the operations. Those of a graph are counted from 0 on, and edges lead from one to a later one."""
@@ -111,12 +111,12 @@ def read_traces(lines):
             rest[-1] = line if is_judged else ""
         elif not (block and block.step(line)) and not DRAWN.fullmatch(line):
             rest[-1] = line
-    for it in listing.read_blocks(rest):
-        blocks[it.number].join(it)
-    found = [it for _, it in sorted(blocks.items()) if it.trace]
+    for listed in listing.read_blocks(rest):
+        blocks[listed.number].join(listed)
+    found = [block for _, block in sorted(blocks.items()) if block.trace]
     if not found:
-        why = [f"; block {it.number}: {said}" for it in blocks.values() for said in it.said[:1]]
+        why = [f"; block {other.number}: {said}" for other in blocks.values() for said in other.said[:1]]
         raise Unread("there is no trace of a block" + "".join(why))
-    for it in found:
-        it.finish()
+    for traced in found:
+        traced.finish()
     return found

@@ -43,7 +43,7 @@ def write_gradebook(path, students, tasks, has_programs):
     """Points, then verdict and cycles of each task, and who was late, which attempt it is and what a program took."""
     names = [in_table(task.name) for task in tasks]
     about = {"id": "id", "attempt": "attempt", "days": "days late"}
-    about = {name: head for name, head in about.items() if any(getattr(it, name) for it in students)}
+    about = {name: head for name, head in about.items() if any(getattr(student, name) for student in students)}
     kinds = ["verdict", "cycles", *["seconds"] * has_programs]
     with open(path, "w", newline="", encoding="utf-8") as file:
         table = csv.writer(file)
@@ -52,7 +52,7 @@ def write_gradebook(path, students, tasks, has_programs):
         for student in students:
             points = map(number, (student.total(), *(mark.points for mark in student.row)))
             more = [getattr(mark, kind) for mark in student.row for kind in kinds]
-            more += [in_table(f"{getattr(student, it) or ''}") for it in about]
+            more += [in_table(f"{getattr(student, name) or ''}") for name in about]
             table.writerow([in_table(student.name), *points, *more])
 
 
@@ -120,7 +120,7 @@ def picture(students, tasks):
 
 def cycles(students, tasks):
     """The cycles of who passes anything, by student and task, as a table and a picture."""
-    ranked = sorted((it for it in students if ratios(it)), key=lambda it: (-len(ratios(it)), sum(ratios(it))))
+    ranked = sorted((student for student in students if ratios(student)), key=lambda student: (-len(ratios(student)), sum(ratios(student))))
     if not ranked:
         return ""
     heads = "".join(f"<th>{escape(shown(task.name))}</th>" for task in tasks)
@@ -157,7 +157,7 @@ def write_report(path, students, tasks, warning):
     """A page with all marks, the best first, a warning where there is one, and what only staff should see."""
     best_first = sorted(students, key=lambda student: (-student.total(), student.name))
     names = [escape(shown(task.name)) for task in tasks]
-    heads = "".join(f"<th>{name}<br><small>{it.ours} / {it.least}</small></th>" for name, it in zip(names, tasks))
+    heads = "".join(f"<th>{name}<br><small>{task.ours} / {task.least}</small></th>" for name, task in zip(names, tasks))
     columns = zip(*(student.row for student in best_first))
     passed = "".join(f"<td>{sum(mark.passes() for mark in column)}</td>" for column in columns)
     points = number(sum(task.points for task in tasks))

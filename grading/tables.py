@@ -68,7 +68,7 @@ class Table:
     def missing(self, students):
         """Who is listed and is none of these students; that is said, and who of them isn't listed."""
         found = self.matched(students)
-        strange = [it.name for it in students if not any(it is other for other in found.values())]
+        strange = [student.name for student in students if not any(student is other for other in found.values())]
         made = [Student(self.rows[number][self.named].strip() or cell, None, cell * bool(self.is_by))
                 for number, cell in self.cells().items() if number not in found]
         silent = [student.name for student in made]

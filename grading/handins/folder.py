@@ -33,10 +33,10 @@ def files_of(data):
     """Of each file in an archive path, size, and what opens it."""
     if data.startswith(b"PK"):
         archive = zipfile.ZipFile(io.BytesIO(data))
-        return ((it.filename, it.file_size, partial(archive.open, it)) for it in archive.infolist()
-                if not it.is_dir() and not stat.S_ISLNK(it.external_attr >> 16))
+        return ((entry.filename, entry.file_size, partial(archive.open, entry)) for entry in archive.infolist()
+                if not entry.is_dir() and not stat.S_ISLNK(entry.external_attr >> 16))
     archive = tarfile.open(fileobj=io.BytesIO(data), mode="r:")
-    return ((it.name, it.size, partial(archive.extractfile, it)) for it in archive if it.isreg() and not it.issparse())
+    return ((entry.name, entry.size, partial(archive.extractfile, entry)) for entry in archive if entry.isreg() and not entry.issparse())
 
 
 def members(name, data):

@@ -54,7 +54,7 @@ class Gate(Repository):
         return lines
 
     def has_ended(self):
-        pids = [self.text(it).strip() for it in ("rt", "child")]
+        pids = [self.text(name).strip() for name in ("rt", "child")]
         until("all has ended", lambda: not any(map(is_running, pids)))
 
     def test_counts(self):
@@ -63,7 +63,7 @@ class Gate(Repository):
                     [True, "refused high/first", "1 passed, 0 failed", *["2 passed, 0 failed, 1 skipped"] * 2])
         self.expect("suites", self.asked("suites"), [f"--short {EARLY}", f"--short --but {EARLY}"])
         if not os.getuid():
-            self.expect("packages", [it.split()[-1] for it in self.asked("got")], ["update", "one"])
+            self.expect("packages", [line.split()[-1] for line in self.asked("got")], ["update", "one"])
 
     def test_failing_body(self):
         self.edit("second", "other", **GATES)

@@ -130,9 +130,9 @@ class Audit(Repository):
                                 "3 passed, 0 failed"])
         checks = self.asked("checked")
         self.expect("checks, each first without edits", len(checks), 6)
-        for it in ("--crate-name high", f"--extern low={self.path('top')}/crates/low/out/rlib/low.rlib", "--only f",
-                   f"--extern thiserror={self.folder}/kit/rlibs/thiserror.rlib"):
-            self.expect(it, all(it in words for words in checks), True)
+        for word in ("--crate-name high", f"--extern low={self.path('top')}/crates/low/out/rlib/low.rlib", "--only f",
+                     f"--extern thiserror={self.folder}/kit/rlibs/thiserror.rlib"):
+            self.expect(word, all(word in words for words in checks), True)
 
     def test_crate_that_is_not_proved(self):
         self.body("wrong")
@@ -158,7 +158,7 @@ class Audit(Repository):
         goals = [f"refused high/another: {GOAL.strip()}",
                  f"refused high/third: {SAID['unanswered'][0].splitlines()[0].replace('/f/', '/g/')}"]
         self.expect("the gate", self.status_and_lines("--gate"), (0, [*goals, "2 passed, 0 failed"]))
-        self.expect("checks", ["--only f --only g" in it for it in self.asked("checked")], [True])
+        self.expect("checks", ["--only f --only g" in line for line in self.asked("checked")], [True])
         self.edit("fourth", "other", **GATES, **OF_G)
         status, lines = self.status_and_lines("--gate")
         self.expect("status with one more of a function", status, 1)
@@ -180,7 +180,7 @@ class Audit(Repository):
         self.edit("another", "wrong", **GATES)
         self.edit("third", "const G: left", old="const G: right", only="only: g\n", gate="gate: yes\n", file="src/g.rt")
         self.status_and_lines("--gate")
-        self.expect("checks", ["--only f" in it for it in self.asked("checked")], [True, False])
+        self.expect("checks", ["--only f" in line for line in self.asked("checked")], [True, False])
 
     def test_begins_with_what_is_kept(self):
         self.edit("first", "wrong")
@@ -218,7 +218,7 @@ class Audit(Repository):
         os.remove(self.path("hold"))
         status, lines = self.ended(started, "3 passed, 0 failed\n")
         self.expect("ending", (status, len(lines), lines[-1]), (0, 4, "3 passed, 0 failed"))
-        self.expect("crates", [it.split()[2] for it in self.asked("checked")], ["low", "high", "high"])
+        self.expect("crates", [line.split()[2] for line in self.asked("checked")], ["low", "high", "high"])
         self.expect("libraries", self.text("libraries"), "of the build" * 2)
 
     def test_build_that_ends_before(self):

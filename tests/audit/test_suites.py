@@ -45,8 +45,8 @@ class Suites(InFolder):
         super().setUp()
         os.mkdir(self.path("tests"))
         shutil.copy2(f"{TOP}/tests/run", self.path("tests"))
-        for it in ("bench", "harness", "oracle"):
-            os.symlink(f"{TOP}/tests/{it}", self.path(f"tests/{it}"))
+        for folder in ("bench", "harness", "oracle"):
+            os.symlink(f"{TOP}/tests/{folder}", self.path(f"tests/{folder}"))
         for name, body in MODULES.items():
             self.write(f"tests/{name}.py", MODULE.format(folder=self.folder, name=name, body=body))
 
@@ -64,7 +64,7 @@ class Suites(InFolder):
         return started.returncode, out, out.splitlines()[-1]
 
     def events(self):
-        return [it.split() for it in self.text("events").splitlines()] if os.path.exists(self.path("events")) else []
+        return [line.split() for line in self.text("events").splitlines()] if os.path.exists(self.path("events")) else []
 
     def test_each_is_shown_whole(self):
         status, out, last = self.ended("one", "two/test_dies")

@@ -26,7 +26,7 @@ MIX = [
     ("output", "offset", 1), ("nop", "", 1),
 ]
 OPERATION = re.compile(rb"(?m)^(?:\w+:)?[ \t]*[a-z]+I?[ \t]")
-FORMS = [SPELLED[opcode].format(*(f"{{{it}}}" for it in names.split())) for opcode, names, times in MIX for _ in range(times)]
+FORMS = [SPELLED[opcode].format(*(f"{{{name}}}" for name in names.split())) for opcode, names, times in MIX for _ in range(times)]
 
 
 class Draw:

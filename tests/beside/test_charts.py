@@ -13,7 +13,7 @@ from oracle.operations import text_of
 
 SVG = "{http://www.w3.org/2000/svg}"
 # A stored case, and its listing.
-BLOCK, EXPLAINED = (read(f"{CASES}/product_and_sum.{it}", None) for it in ("in", "explain.out"))
+BLOCK, EXPLAINED = (read(f"{CASES}/product_and_sum.{ending}", None) for ending in ("in", "explain.out"))
 ISSUED = ["loadI 4 => r0: unit 0, issued at 0, arrives at 1", "loadI 8 => r1: unit 1, issued at 0, arrives at 1",
           "load r0 => r3: unit 0, issued at 1, arrives at 6", "mult r0, r1 => r2: unit 1, issued at 1, arrives at 4",
           "add r2, r3 => r4: unit 0, issued at 6, arrives at 7", "store r4 => r1: unit 0, issued at 7, arrives at 12",
@@ -35,7 +35,7 @@ EDGE = re.compile(r'        b(\d+)_(\d+) -> b\1_(\d+) \[label="(\d+)"')
 
 
 def tooltips(root):
-    return [it.find(f"{SVG}title").text for it in root.iter(f"{SVG}g")]
+    return [group.find(f"{SVG}title").text for group in root.iter(f"{SVG}g")]
 
 
 def height(part):
@@ -44,7 +44,7 @@ def height(part):
 
 def shape(mark):
     """The corners of a mark, from the first on."""
-    corners = [tuple(map(float, it.split(","))) for it in (mark.get("points") or "").split()]
+    corners = [tuple(map(float, corner.split(","))) for corner in (mark.get("points") or "").split()]
     return tuple((round(x - corners[0][0], 1), round(y - corners[0][1], 1)) for x, y in corners)
 
 
@@ -64,34 +64,34 @@ class Charts(Place):
             root = ElementTree.fromstring(self.read(f"docs/{name}.svg"))
             style = root.find(f"{SVG}style").text
             inks = INKS.search(style).groups()
-            self.expect(f"{name}: classes of texts", {it.get("class").split()[0] for it in root.iter(f"{SVG}text")} <= {"ink", "on"}, True)
+            self.expect(f"{name}: classes of texts", {text.get("class").split()[0] for text in root.iter(f"{SVG}text")} <= {"ink", "on"}, True)
             self.read_well(set(zip(inks, GROUNDS.values())))
             boxes = {group.findall(f"{SVG}rect")[-1].get("fill") for group in root.iter(f"{SVG}g")
-                     if any(it.get("class") == "on" for it in group)}
+                     if any(part.get("class") == "on" for part in group)}
             if boxes:
-                self.read_well({(ON_FILL.search(style)[1], it) for it in boxes})
+                self.read_well({(ON_FILL.search(style)[1], box) for box in boxes})
 
     def test_contrast_of_graphs(self):
         """A graph has its own ground, and each node too."""
         root = ElementTree.fromstring(self.read("docs/graph.svg"))
-        graph = next(it for it in root.iter(f"{SVG}g") if it.get("class") == "graph")
+        graph = next(group for group in root.iter(f"{SVG}g") if group.get("class") == "graph")
         ground = graph.find(f"{SVG}polygon").get("fill")
         pairs = set()
         for group in graph.iter(f"{SVG}g"):
             on = group.find(f"{SVG}path").get("fill") if group.get("class") == "node" else ground
-            pairs |= {(it.get("fill"), on) for it in group.findall(f"{SVG}text")}
+            pairs |= {(text.get("fill"), on) for text in group.findall(f"{SVG}text")}
         self.read_well(pairs)
 
     def test_timeline(self):
         """Each operation is drawn where the listing has it, and its bar is as long as its latency."""
         listing = self.call("ilocfarm", "schedule", given=BLOCK)[1]
         root = self.picture("charts/timeline", given=listing)
-        self.expect("tooltips", [it.replace("\n", ": ") for it in tooltips(root)], ISSUED)
-        groups = {it.find(f"{SVG}text").text: it.findall(f"{SVG}rect") for it in root.iter(f"{SVG}g")}
+        self.expect("tooltips", [tooltip.replace("\n", ": ") for tooltip in tooltips(root)], ISSUED)
+        groups = {group.find(f"{SVG}text").text: group.findall(f"{SVG}rect") for group in root.iter(f"{SVG}g")}
         bars = {name: round((height(parts[0]) + 3) / 18) for name, parts in groups.items() if len(parts) == 2}
         self.expect("cycles of the bars", bars, {"load r0 => r3": 5, "mult r0, r1 => r2": 3, "store r4 => r1": 5})
         tops = {name: (float(parts[-1].get("y")) - 69) / 18 for name, parts in groups.items()}
-        issued = {it.split(":")[0]: int(re.search("issued at ([0-9]+)", it)[1]) for it in ISSUED}
+        issued = {line.split(":")[0]: int(re.search("issued at ([0-9]+)", line)[1]) for line in ISSUED}
         self.expect("cycles of the boxes", tops, issued)
 
     def test_timeline_explained(self):
@@ -99,7 +99,7 @@ class Charts(Place):
         self.expect("tooltip", tooltips(root)[2], "mult r0, r1 => r2\nunit 1, issued at 1, arrives at 4\nnumber 2: "
                                              "mult r1, r2 => r3\nready at 1, waited last for 0 and 1\npriority 10")
         marked = [group.find(f"{SVG}text").text[0] for group in root.iter(f"{SVG}g")
-                  if any(it.get("stroke") == CHAIN_OUTLINE for it in group)]
+                  if any(part.get("stroke") == CHAIN_OUTLINE for part in group)]
         self.expect("the chain", marked, list("03456"))
         dotted = [group.find(f"{SVG}text").text[0] for group in root.iter(f"{SVG}g") if group.findall(f"{SVG}circle")]
         self.expect("the path", dotted, list("03456"))
@@ -112,13 +112,13 @@ class Charts(Place):
         listing = self.call("ilocfarm", "explain", *words, given=BLOCK)[1]
         for options, product in (((), 3), (("--load", "3", "--mult", "4"), 4), (words, 4)):
             root = self.picture("charts/timeline", *options, given=listing)
-            bars = {it.find(f"{SVG}text").text[:1]: (height(it.find(f"{SVG}rect")) + 3) / 18 for it in root.iter(f"{SVG}g")
-                    if len(it.findall(f"{SVG}rect")) == 2}
+            bars = {group.find(f"{SVG}text").text[:1]: (height(group.find(f"{SVG}rect")) + 3) / 18 for group in root.iter(f"{SVG}g")
+                    if len(group.findall(f"{SVG}rect")) == 2}
             self.expect(f"bars with {options}", bars, {"2": product, "3": 9, "5": 2})
         listing = self.call("ilocfarm", "explain", given=self.read("examples/class/dan.iloc"))[1]
         self.expect("path", b"path 0 +1 1 +5 2 +5 3 =1 4 +5 5 +1 6 +5 7 +1\n" in listing, True)
         root = self.picture("charts/timeline", given=listing)
-        self.expect("dots", len([it for it in root.iter(f"{SVG}g") if it.findall(f"{SVG}circle")]), 8)
+        self.expect("dots", len([group for group in root.iter(f"{SVG}g") if group.findall(f"{SVG}circle")]), 8)
 
     def test_timeline_marks_no_right_rows(self):
         """Dan's are `same`, and `check` says below that why they aren't by the book: nothing in them is wrong."""
@@ -126,11 +126,11 @@ class Charts(Place):
         said = self.call("ilocfarm", "check", "--task", "examples/class/tasks/both.iloc", "3", "4", given=rows)[1]
         root = self.picture("charts/timeline", given=rows + said)
         self.expect("title", root.find(f"{SVG}title").text, "block 1 both: 15 cycles, at least 16, same")
-        self.expect("marks", [it for it in root.iter() if it.get("stroke") == WRONG_OUTLINE], [])
+        self.expect("marks", [part for part in root.iter() if part.get("stroke") == WRONG_OUTLINE], [])
 
     def test_timeline_of_rows_explained(self):
         """Each operation as it is issued; a register that is used again blames no latency."""
-        task, handed_in = (f"{TOP}/tests/cases/stored/rows_explained.{it}" for it in ("task", "in"))
+        task, handed_in = (f"{TOP}/tests/cases/stored/rows_explained.{ending}" for ending in ("task", "in"))
         with open(handed_in, "rb") as file:
             given = file.read()
         rows = self.call("ilocfarm", "explain", "--task", task, given=given)[1]
@@ -169,7 +169,7 @@ class Charts(Place):
             root = self.picture("charts/timeline", given=given)
             self.expect("title", root.find(f"{SVG}title").text, "block 1 both: 15 cycles, wrong")
             marked = [group.find(f"{SVG}title").text for group in root.iter(f"{SVG}g")
-                      if any(it.get("stroke") == WRONG_OUTLINE for it in group)]
+                      if any(part.get("stroke") == WRONG_OUTLINE for part in group)]
             self.expect("wrong", marked, ["add r1, r2 => r3\nunit 0, issued at 6, arrives at 7\n"
                                           "row 6: add r1, r2 => r3 reads r2, which row 2: loadAI r0, 4 => r2 brings in row 7"])
         root = self.picture("charts/timeline", given=b"[ ]\n[ multI r1, 2 => r2 ]\n[ ; output 4 ]\nblock 1 - units cycles 4 ours 4 least 4\n"
@@ -234,19 +234,19 @@ class Charts(Place):
         words = ("--load", "3", "--store", "3", "--mult", "2")
         dot = self.call("ilocfarm", "graph", *words, given=self.read("examples/book.iloc"))[1].decode()
         root = ElementTree.fromstring(self.read("docs/graph.svg"))
-        titles = [it.find(f"{SVG}title").text for it in root.iter(f"{SVG}g") if it.get("class") in ("node", "edge")]
-        self.expect("edges", sorted(it for it in titles if ">" in it), sorted(f"b{k}_{i}->b{k}_{j}" for k, i, j, _ in EDGE.findall(dot)))
-        self.expect("nodes", sorted(it for it in titles if ">" not in it), sorted(re.findall(r"^        (\w+) \[label", dot, re.MULTILINE)))
+        titles = [part.find(f"{SVG}title").text for part in root.iter(f"{SVG}g") if part.get("class") in ("node", "edge")]
+        self.expect("edges", sorted(title for title in titles if ">" in title), sorted(f"b{k}_{i}->b{k}_{j}" for k, i, j, _ in EDGE.findall(dot)))
+        self.expect("nodes", sorted(title for title in titles if ">" not in title), sorted(re.findall(r"^        (\w+) \[label", dot, re.MULTILINE)))
 
     def test_compare(self):
         self.write("one", b"block 1 - cycles 4\nblock 2 b cycles 20\ntotal 24\n")
         self.write("two", b"block 1 x cycles 6\nblock 2 y cycles 0\ntotal 6\n")
         root = self.picture("charts/compare", "one", "last=two")
         self.expect("tooltips", tooltips(root), ["1 -\none: 4\nlast: 6", "2 b\none: 20\nlast: 0"])
-        texts = [it.text for it in root.iter(f"{SVG}text")]
+        texts = [text.text for text in root.iter(f"{SVG}text")]
         self.expect("totals", texts[-3:], ["total", "24", "6"])
-        first, second = [it.findall(f"{SVG}circle")[0] for it in root.iter(f"{SVG}g")]
-        scale = {it.text: float(it.get("x")) for it in root.iter(f"{SVG}text") if it.get("text-anchor") == "middle"}
+        first, second = [group.findall(f"{SVG}circle")[0] for group in root.iter(f"{SVG}g")]
+        scale = {text.text: float(text.get("x")) for text in root.iter(f"{SVG}text") if text.get("text-anchor") == "middle"}
         self.expect("a mark is at its cycles", float(second.get("cx")), scale["20"])
         self.expect("and between", float(first.get("cx")), (4 * scale["0"] + scale["20"]) / 5)
 
@@ -266,7 +266,7 @@ class Charts(Place):
         self.expect("the table's picture", self.call("charts/compare", "table"), drawn)
         marks = {"least": 21, "chain": 22, "slack": 23, "descendants": 22, "successors": 21, "latency": 21, "order": 21}
         told = tooltips(ElementTree.fromstring(drawn[1]))[0].splitlines()
-        self.expect("tooltip", (told[0], sorted(told[1:])), ("1 dot", sorted(f"{it}: {cycles}" for it, cycles in marks.items())))
+        self.expect("tooltip", (told[0], sorted(told[1:])), ("1 dot", sorted(f"{name}: {cycles}" for name, cycles in marks.items())))
         self.write("counts", self.call("ilocfarm", "counts", given=given)[1])
         told = tooltips(self.picture("charts/compare", "one=table", "counts"))[0].splitlines()
         self.expect("names", (told[1], told[7]), ("one chain: 22", "counts: 22"))
@@ -276,7 +276,7 @@ class Charts(Place):
         self.write("ada", CHECKED)
         self.write("dan", b"block 1 x cycles 15\nblock 2 y cycles 20\ntotal 35\n")
         root = self.picture("charts/compare", "ada", "dan")
-        texts = [it.text for it in root.iter(f"{SVG}text")]
+        texts = [text.text for text in root.iter(f"{SVG}text")]
         self.expect("totals", texts[-6:], ["total", "14", "15", "14", "13", "without those that don't pass"])
 
     def test_compare_tells_columns_apart(self):
@@ -285,14 +285,14 @@ class Charts(Place):
             self.write(f"l{k}", b"block 1 - cycles %d\n" % k)
         root = self.picture("charts/compare", *(f"l{k}" for k in range(36)))
         row = next(root.iter(f"{SVG}g"))
-        marks = {(it.tag, it.get("fill"), shape(it)) for it in row if it.get("fill")}
+        marks = {(mark.tag, mark.get("fill"), shape(mark)) for mark in row if mark.get("fill")}
         self.expect("marks", len(marks), 36)
         self.expect("status", self.call("charts/compare", *(f"l{k}" for k in range(37))),
                (1, b"", b"charts/compare: more than 36 listings can't be told apart\n"))
 
     def test_page_refuses(self):
         """A listing that was changed: a number that is too long, edges from and to no operation."""
-        listing = b"".join(self.call("ilocfarm", it, given=BLOCK)[1] for it in ("graph", "trace"))
+        listing = b"".join(self.call("ilocfarm", command, given=BLOCK)[1] for command in ("graph", "trace"))
         for old, new, said in (
                 (b"issue 0", b"issue " + b"0" * 5000, b"a number of 5000 digits: 0000000000.."),
                 (b"b1_5 -> b1_6", b"b1_5 -> b1_9", b"the graph of block 1 lacks an operation"),
@@ -307,12 +307,12 @@ class Charts(Place):
         self.write("ada", b"".join(checked) + b"total 1\n")
         self.write("dan", b"".join(b"block %d - cycles 20\n" % k for k in range(1, 101)))
         root = self.picture("charts/compare", "ada", "dan")
-        texts = [it.text for it in root.iter(f"{SVG}text")]
+        texts = [text.text for text in root.iter(f"{SVG}text")]
         self.expect("blocks", "99 blocks, 1 left out that don't pass" in texts, True)
         told = tooltips(root)
         self.expect("curves", told, ["ada: 2130 cycles, 24 % as few, 1.074 mean, 1.150 9 in 10, 1.150 worst",
-                                *(f"{it}: 1980 cycles, 100 % as few, 1.000 mean, 1.000 9 in 10, 1.000 worst"
-                                  for it in ("dan", "ours"))])
+                                *(f"{name}: 1980 cycles, 100 % as few, 1.000 mean, 1.000 9 in 10, 1.000 worst"
+                                  for name in ("dan", "ours"))])
         self.expect("height", float(root.get("height")) < 600, True)
 
     def test_devices_fail(self):

@@ -34,7 +34,7 @@ class Guide(Place):
     def test_library(self):
         """docs/LIBRARY.md shows the program of crates/iloc_least, and the lines of crates.txt that it needs."""
         text = self.text("docs/LIBRARY.md")
-        program = "".join(f"    {it}".rstrip() + "\n" for it in self.text(f"{TOP}/crates/iloc_least/src/main.rt").splitlines())
+        program = "".join(f"    {line}".rstrip() + "\n" for line in self.text(f"{TOP}/crates/iloc_least/src/main.rt").splitlines())
         self.expect("the program is shown", program in text, True)
         shown = dict(re.findall(r"^    (iloc_\w+|yours): (.*)$", text, re.MULTILINE))
         shown["iloc_least"] = shown.pop("yours")

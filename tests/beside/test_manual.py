@@ -56,8 +56,8 @@ IN_FISH = (
     ("ilocfarm si", "simulate\tSchedule each block, and run the schedule\n"),
     ("ilocfarm counts --wo", "--workers\tHow many workers share the blocks, 1 to 8 [default: 2]\n"),
     ("ilocfarm run < examples/fir", "examples/first.iloc\n"),
-    ("ilocfarm explain --priority s", "".join(f"{it}\tWhat goes first: chain, slack, descendants, successors, latency or order "
-                                              "[default: chain]\n" for it in ("slack", "successors"))),
+    ("ilocfarm explain --priority s", "".join(f"{name}\tWhat goes first: chain, slack, descendants, successors, latency or order "
+                                              "[default: chain]\n" for name in ("slack", "successors"))),
     ("ilocview time", "timeline\ta schedule: units over cycles\n"),
     ("ilocview page examples/fir", "examples/first.iloc\n"),
     ("ilocgrade --policy b", "best\tfull points for passing, or for as few cycles as ours, the bound, or the best of the class "
@@ -123,14 +123,14 @@ class Manual(Place):
         """Each field, verdict and member that docs/LANGUAGE.md lists is on the page."""
         listings = self.text("docs/LANGUAGE.md").partition("\n## Listings\n")[2].partition("\n## Faults of the program\n")[0]
         named = re.findall(r"^- (`[^`]*`(?:, `[^`]*`)*): ", listings, re.MULTILINE)
-        words = [word for it in named for word in re.findall("`([^`]+)`", it) if not word.startswith("line n: ")]
+        words = [word for words in named for word in re.findall("`([^`]+)`", words) if not word.startswith("line n: ")]
         page = " ".join(re.sub(r'^\.\w+ |"|\\&', "", self.text(PAGE), flags=re.MULTILINE).split())
-        self.expect("words that the page lacks", ([it for it in words if it not in page], len(words) > 20), ([], True))
+        self.expect("words that the page lacks", ([word for word in words if word not in page], len(words) > 20), ([], True))
 
     def test_page_examples(self):
         text = self.text(PAGE)
-        commands = [it for part in LITERAL.findall(text) for it in COMMAND.findall(part)]
-        named = {it for command, _ in commands for it in re.findall(r"\bilocfarm (\w+)", command)}
+        commands = [command for part in LITERAL.findall(text) for command in COMMAND.findall(part)]
+        named = {name for command, _ in commands for name in re.findall(r"\bilocfarm (\w+)", command)}
         self.expect("commands with an example", named, set(self.commands_of()))
         self.follows(commands)
 
@@ -138,7 +138,7 @@ class Manual(Place):
         top = self.call("ilocfarm", "--help")
         self.expect("help", self.call("ilocfarm", "help"), top)
         self.expect("-h", self.call("ilocfarm", "-h"), top)
-        missing = [it for it in (MOST_BYTES, MOST_BLOCKS, MOST_OPERATIONS, MAX_NUMBER) if str(it).encode() not in top[1]]
+        missing = [limit for limit in (MOST_BYTES, MOST_BLOCKS, MOST_OPERATIONS, MAX_NUMBER) if str(limit).encode() not in top[1]]
         self.expect("limits that the help leaves out", missing, [])
         for name in self.commands_of():
             if name != "help":
@@ -189,7 +189,7 @@ class Manual(Place):
             with terminal() as (screen, slave):
                 screen.type("\x04")
                 done = subprocess.run([TESTED.program, *words], stdin=slave, capture_output=True, timeout=SECONDS)
-            said = "".join(it for it in done.stderr.decode().splitlines(True) if "reading" in it)
+            said = "".join(line for line in done.stderr.decode().splitlines(True) if "reading" in line)
             self.expect(f"{words}: says what it reads", said, READS_TERMINAL.format(told) if told else "")
             self.expect(f"{words}: status", done.returncode, status)
 

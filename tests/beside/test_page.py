@@ -32,9 +32,9 @@ def state_at(lines, cycle):
     """By place its value after the results of the cycle have arrived: the first that the trace has, or what was written."""
     first, values = {}, {}
     for line in lines:
-        if it := WRITE.fullmatch(line):
-            first.setdefault(it[2], it[4])
-            values.update({it[2]: it[3]} if int(it[1]) <= cycle else {})
+        if found := WRITE.fullmatch(line):
+            first.setdefault(found[2], found[4])
+            values.update({found[2]: found[3]} if int(found[1]) <= cycle else {})
         else:
             for place, value, _ in READ.findall(ISSUE.fullmatch(line)[6] or ""):
                 first.setdefault(place, value)
@@ -43,8 +43,8 @@ def state_at(lines, cycle):
 
 def sender(lines, write):
     """Where the operation was issued whose result this is."""
-    return next(f"{it[2]}.{it[3]}" for it in filter(None, map(ISSUE.fullmatch, lines)) if it[2] == write[5]
-                and (it[4].startswith("store") if write[2].startswith("word") else it[4].endswith(f"=> {write[2]}")))
+    return next(f"{issue[2]}.{issue[3]}" for issue in filter(None, map(ISSUE.fullmatch, lines)) if issue[2] == write[5]
+                and (issue[4].startswith("store") if write[2].startswith("word") else issue[4].endswith(f"=> {write[2]}")))
 
 
 class Page(Place):
@@ -98,21 +98,21 @@ class Page(Place):
 
     def shows(self, lines, cycle, last):
         """Registers, words, results under way, emitted words, events, and what is marked in block, schedule and graph."""
-        now = [it for it in lines if int(it.split()[1]) == cycle]
+        now = [line for line in lines if int(line.split()[1]) == cycle]
         self.expect("output", self.said(), f"cycle {cycle} of {last}")
         self.expect("events", self.texts(".events li"), now or ["nothing arrives, and nothing is issued"])
         state = state_at(lines, cycle)
         for what, kind in (("registers", "r"), ("words", "word ")):
-            shown = dict(it.split(" = ") for it in self.texts(f".{what} li") if " = " in it)
-            wanted = {place.removeprefix("word "): it for place, it in state.items() if place.startswith(kind)}
-            self.expect(what, shown, {it: wanted.get(it) for it in shown})
-            self.expect(f"hidden {what}", [it for place, it in wanted.items() if place not in shown and it != "0"], [])
-        flights = [it for it in filter(None, map(WRITE.fullmatch, lines)) if int(it[5]) <= cycle < int(it[1])]
-        self.expect("flights", sorted(self.texts(".flights li")), sorted(f"{it[2]} = {it[3]} at {it[1]}" for it in flights) or ["nothing"])
-        emitted = [it.split()[-1] for it in lines if int(it.split()[1]) <= cycle and " emits " in it]
+            shown = dict(text.split(" = ") for text in self.texts(f".{what} li") if " = " in text)
+            wanted = {place.removeprefix("word "): value for place, value in state.items() if place.startswith(kind)}
+            self.expect(what, shown, {place: wanted.get(place) for place in shown})
+            self.expect(f"hidden {what}", [value for place, value in wanted.items() if place not in shown and value != "0"], [])
+        flights = [write for write in filter(None, map(WRITE.fullmatch, lines)) if int(write[5]) <= cycle < int(write[1])]
+        self.expect("flights", sorted(self.texts(".flights li")), sorted(f"{write[2]} = {write[3]} at {write[1]}" for write in flights) or ["nothing"])
+        emitted = [line.split()[-1] for line in lines if int(line.split()[1]) <= cycle and " emits " in line]
         self.expect("emitted", self.texts(".emitted li"), emitted or ["nothing"])
-        issued = sorted(f"{it[2]}.{it[3]}" for it in map(ISSUE.fullmatch, now) if it)
-        flying = sorted(sender(lines, it) for it in flights if int(it[5]) < cycle)
+        issued = sorted(f"{issue[2]}.{issue[3]}" for issue in map(ISSUE.fullmatch, now) if issue)
+        flying = sorted(sender(lines, write) for write in flights if int(write[5]) < cycle)
         for where in (".source li", ".timeline g", ".graph g"):
             if self.value(f'!!document.querySelector("{where}")'):
                 self.expect(where, (self.marked(where, "issued"), self.marked(where, "flying")), (issued, flying))
@@ -128,7 +128,7 @@ class Page(Place):
             self.open(listing)
             lines = traced(self.lines)
             last = int(self.value('document.querySelector("section").dataset.last'))
-            self.expect("last", last >= max(int(it.split()[1]) for it in lines), True)
+            self.expect("last", last >= max(int(line.split()[1]) for line in lines), True)
             for cycle in range(last + 1):
                 with self.subTest(lines[-1], cycle=cycle):
                     self.shows(lines, cycle, last)
@@ -193,10 +193,10 @@ class Page(Place):
         self.open(self.ben(), "#1.6")
         met = self.browser.tree()
         title = "block 1 both: 15 cycles, wrong"
-        for it in (("group", "the schedule"), ("heading", title), ("slider", "cycle"), ("button", "one cycle on"),
-                   ("image", title), ("image", "dependence graph of block 1")):
-            self.expect(it, it in met, True)
-        self.expect("without a name", [it for it in met if it[0] in ("button", "slider", "link", "image") and not it[1]], [])
+        for part in (("group", "the schedule"), ("heading", title), ("slider", "cycle"), ("button", "one cycle on"),
+                     ("image", title), ("image", "dependence graph of block 1")):
+            self.expect(part, part in met, True)
+        self.expect("without a name", [part for part in met if part[0] in ("button", "slider", "link", "image") and not part[1]], [])
 
     def test_narrow(self):
         self.browser.size(400, 800)

@@ -64,7 +64,7 @@ def best_of_orders(blocks, latencies):
 def compared(blocks, latencies, sought=None):
     """Of each block `least`, with the bound and the best cycles if they were sought, and the cycles by each order."""
     schedules = [[Schedule(ops, latencies, by) for by in ORDERS] for ops in blocks]
-    return [[row[0].least(), *limits, *(it.cycles() for it in row)]
+    return [[row[0].least(), *limits, *(schedule.cycles() for schedule in row)]
             for row, limits in zip(schedules, sought or [()] * len(blocks), strict=True)]
 
 
@@ -120,8 +120,8 @@ def drawn_cases():
         chance = random.Random(f"latencies {seed}")
         latencies = {name: chance.randint(1, most) for name, most in (("load", 3), ("store", 16), ("mult", 16))}
         yield from made(f"drawn_{seed}", [made_block(chance) for _ in range(20)], latencies)
-    for number, it in enumerate(LEAST):
-        yield known(f"least_{number}", *it)
+    for number, case in enumerate(LEAST):
+        yield known(f"least_{number}", *case)
 
 
 def made(name, blocks, latencies):

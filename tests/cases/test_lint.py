@@ -69,15 +69,15 @@ class Lint(Case):
 def cases():
     for line, what, at in WRONG:
         yield Lint(line.decode("latin-1"), line, entry(1, line, what, at) + totals(0, 0, 1))
-    lines = [it[0] for it in WRONG]
-    entries = b"".join(entry(2 * k + 2, *it) for k, it in enumerate(WRONG))
+    lines = [case[0] for case in WRONG]
+    entries = b"".join(entry(2 * k + 2, *case) for k, case in enumerate(WRONG))
     yield Lint("all of them", b"nop\n" + b"\nnop\n".join(lines) + b"\n", entries + totals(1, len(lines), len(lines)))
     for line, first, other, at in ENCODED:
         yield Lint(f"first {line}", line, entry(1, line, first, at) + totals(0, 0, 1))
         yield Lint(f"second {line}", b"nop\n" + line, entry(2, line, other, at) + totals(1, 1, 1))
     for given, hints in HINTS:
         blocks = max(1, given.count(b":"))
-        operations = len([it for it in given.split(b"\n") if it])
+        operations = len([line for line in given.split(b"\n") if line])
         yield Lint(given[:40].decode(), given, hints + totals(blocks, operations, 0))
     yield from limits()
 
@@ -103,11 +103,11 @@ def wrong_first():
     """Where the first fault isn't that of `run`, or a text without its faulty lines is refused."""
     for line, _, _ in WRONG:
         given = b"nop\n" + line + b"\nadd r1\n"
-        numbers = [int(it.split(b":")[0][5:]) for it in ending(["lint"], given)[1].split(b"\n") if it.startswith(b"line ")]
+        numbers = [int(line.split(b":")[0][5:]) for line in ending(["lint"], given)[1].split(b"\n") if line.startswith(b"line ")]
         said = ending(["run"], given)[2]
         if not said.startswith(b"ilocfarm: line %d: " % numbers[0]):
             yield f"{line}: {said} of line {numbers[0]}"
-        left = [b"" if k + 1 in numbers else it for k, it in enumerate(given.split(b"\n"))]
+        left = [b"" if k + 1 in numbers else line for k, line in enumerate(given.split(b"\n"))]
         if ending(["lint"], b"\n".join(left))[0]:
             yield f"{line}: refused without lines {numbers}"
 

@@ -93,7 +93,7 @@ def checked(count):
         latencies = odd_latencies(chance)
         blocks = [small_block(chance) for _ in range(TOGETHER)]
         schedules = [Schedule(ops, latencies) for ops in blocks]
-        found = [(it.cycles(), *[fewest(it)] * 2, it.least()) for it in schedules]
+        found = [(schedule.cycles(), *[fewest(schedule)] * 2, schedule.least()) for schedule in schedules]
         words = ["--nodes", "1000", *words_for(latencies)]
         given = text_of(blocks) + listing_of(blocks, latencies)[1]
         for due, form in ((verdicts(found), []), (verdict_objects(found, read(given)), ["--json"])):
@@ -130,7 +130,7 @@ def lawful(count):
         end = listing_of(blocks, latencies, chance.choice([0, 10, 1000]))
         for ops, (cycles, bound, _) in zip(blocks, found_in(end, blocks)):
             by_orders = [Schedule(ops, latencies, by) for by in ORDERS]
-            if cycles > min(it.cycles() for it in by_orders) or bound < by_orders[0].least():
+            if cycles > min(schedule.cycles() for schedule in by_orders) or bound < by_orders[0].least():
                 yield f"{[*map(str, ops)]}, {latencies}: {cycles}, bound {bound}"
         yield from unlawful(end, blocks, latencies)
 

@@ -10,8 +10,8 @@ PHONE = 44      # columns
 class Readme(Place):
     def test_examples(self):
         os.symlink("bin/ilocfarm", self.path("ilocfarm"))
-        self.follows([it for it in shown_on("README.md") if "apt " not in it[0] and "/usr/" not in it[0]])
+        self.follows([shown for shown in shown_on("README.md") if "apt " not in shown[0] and "/usr/" not in shown[0]])
 
     def test_code_fits_a_phone(self):
         code = re.findall(r"^    (.+)$", self.text("README.md"), re.MULTILINE)
-        self.expect("lines that are too long", ([it for it in code if len(it) > PHONE], bool(code)), ([], True))
+        self.expect("lines that are too long", ([line for line in code if len(line) > PHONE], bool(code)), ([], True))

@@ -51,11 +51,11 @@ def checked():
     """The table of `check` has what its listing says of each block, and each claim, right or wrong; the status is the same."""
     for words in ((), ("--lawful",), ("--outputs",)):
         status, out, err = ending(["check", *words], JUDGED)
-        found = [it.groups() for it in ENTRY.finditer(out)]
-        if len({it[2] for it in found}) < 5 or status != NOT_SAME or err:
+        found = [match.groups() for match in ENTRY.finditer(out)]
+        if len({groups[2] for groups in found}) < 5 or status != NOT_SAME or err:
             yield f"status {status}, {out}, {err}"
         claims = [block.claim for block in read(JUDGED)]
-        due = [[it.decode() for it in entry[:6]] + ["" if claim is None else str(claim)]
+        due = [[cell.decode() for cell in entry[:6]] + ["" if claim is None else str(claim)]
                for entry, claim in zip(found, claims, strict=True)]
         text = "".join(",".join(row) + "\n" for row in [CHECK_HEAD, *due])
         got = ending(["check", "--csv", *words], JUDGED)

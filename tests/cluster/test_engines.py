@@ -39,11 +39,11 @@ BLOCKS = 3000
 
 def free_ports(count):
     sockets = [socket.socket() for _ in range(count)]
-    for it in sockets:
-        it.bind((HERE, 0))
-    ports = [it.getsockname()[1] for it in sockets]
-    for it in sockets:
-        it.close()
+    for made in sockets:
+        made.bind((HERE, 0))
+    ports = [made.getsockname()[1] for made in sockets]
+    for made in sockets:
+        made.close()
     return ports
 
 
@@ -71,7 +71,7 @@ class Engines(Place):
     def until(self, what, holds):
         """Waits until this holds, while the daemons run."""
         def holds_or_ended():
-            if any(it.poll() is not None for it in self.started):
+            if any(daemon.poll() is not None for daemon in self.started):
                 self.fail(f"{what}: a daemon ended: {self.text('daemons.log').splitlines()[-1:]}")
             return holds()
         until(what, holds_or_ended)
@@ -120,7 +120,7 @@ class Engines(Place):
         count = self.write_blocks()
         text = self.read("pieces/3.iloc").replace(b"mult r2, r3", b"mult r2 r3")
         self.write("pieces/3.iloc", text)
-        self.write("blocks", b"".join(self.read(f"pieces/{it}.iloc") for it in range(1, count + 1)))
+        self.write("blocks", b"".join(self.read(f"pieces/{number}.iloc") for number in range(1, count + 1)))
         self.expect("parallel", self.shell(f"seq {count} | parallel PIECE={{}} cluster/job pieces ilocfarm run"), (1, b""))
         status, out, err = self.call("cluster/join", "pieces")
         self.expect("joined", (status, out, err.splitlines(True)[0]), self.one_run("run"))
@@ -145,8 +145,8 @@ class Engines(Place):
         status, job, err = self.call("sbatch", "--parsable", *again)
         self.expect("sbatch", (status, err), (0, b""))
         job = job.decode().strip()
-        others = [f"pieces/{it}.result/status" for it in range(1, count + 1) if it != 2]
-        self.until("all but task 2 end", lambda: all(os.path.exists(self.path(it)) for it in others))
+        others = [f"pieces/{number}.result/status" for number in range(1, count + 1) if number != 2]
+        self.until("all but task 2 end", lambda: all(os.path.exists(self.path(path)) for path in others))
         self.until("task 2 hangs", lambda: os.path.exists(self.path("hung")))
         self.expect("scancel", self.call("scancel", f"{job}_2"), (0, b"", b""))
         self.until("no task is left", lambda: self.call("squeue", "--noheader")[1] == b"")

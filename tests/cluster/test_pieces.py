@@ -69,7 +69,7 @@ class Pieces(Place):
             self.joined_is_one_run(COMMANDS[number % len(COMMANDS)], count)
             cuts += count > 1
             faults += self.join()[0] == 1
-            parts = [self.read(f"pieces/{it}.iloc") for it in range(1, count + 1)]
+            parts = [self.read(f"pieces/{number}.iloc") for number in range(1, count + 1)]
             self.expect("the pieces", b"".join(parts), text)
             os.rename(self.path("pieces"), self.path(f"pieces{number}"))
         if cuts < FILES // 2 or not 0 < faults < FILES // 2:
@@ -88,7 +88,7 @@ class Pieces(Place):
         commands = re.findall(r"^  (\w+) ", out.partition("Commands:\n")[2].partition("\n\n")[0], re.MULTILINE)
         self.write("blocks", b"nop\nr1: " + self.read("examples/dot.iloc") + b"c:\nd: output 4\n" + self.read("examples/book.iloc"))
         count, joined = self.split("--blocks", "2"), set()
-        for command, options in [(it, [[], *self.options_of(it)]) for it in commands if it != "help"]:
+        for command, options in [(command, [[], *self.options_of(command)]) for command in commands if command != "help"]:
             for option in options:
                 for number in range(1, count + 1):
                     self.run_piece(number, command, *option)
@@ -98,8 +98,8 @@ class Pieces(Place):
                 else:
                     self.expect(f"{command} {option}", ended, self.call("ilocfarm", command, *option, given=self.read("blocks")))
                     joined.add((command, *option[:1]))
-        self.expect("joined without an option", {it[0] for it in joined if len(it) == 1}, JOINED)
-        self.expect("tables", {it[0] for it in joined if it[1:] == ("--csv",)}, {"counts", "compare"})
+        self.expect("joined without an option", {words[0] for words in joined if len(words) == 1}, JOINED)
+        self.expect("tables", {words[0] for words in joined if words[1:] == ("--csv",)}, {"counts", "compare"})
 
     def test_cuts_before_labels_alone(self):
         self.write("blocks", b"nop // a:\n// b:\n\t c \t: nop\n\n//d:\nnop\re: nop\n f :\r")
@@ -123,7 +123,7 @@ class Pieces(Place):
 
     def test_from_a_pipe(self):
         self.expect("pieces", self.shell("cluster/split <(printf 'a: nop\\nb:') pieces --blocks 1"), (0, b"2\n"))
-        self.expect("pieces", [self.read(f"pieces/{it}.iloc") for it in (1, 2)], [b"a: nop\n", b"b:"])
+        self.expect("pieces", [self.read(f"pieces/{number}.iloc") for number in (1, 2)], [b"a: nop\n", b"b:"])
 
     def test_more_than_one_run_takes(self):
         self.write("blocks", b"a: loadI 1 => r1\n" * 70_000)
@@ -158,7 +158,7 @@ class Pieces(Place):
     def test_failed_piece(self):
         self.two_blocks()
         self.script("failing", "#!/bin/sh\n[ $PIECE != 2 ] || { echo ilocfarm: out of memory >&2; exit 3; }\nexec ilocfarm $@\n")
-        self.expect("statuses", [self.run_piece(it, "counts", program="./failing") for it in (1, 2, 3)], [0, 3, 0])
+        self.expect("statuses", [self.run_piece(number, "counts", program="./failing") for number in (1, 2, 3)], [0, 3, 0])
         self.expect("joined", self.join(), (3, b"", b"cluster/join: piece 2 ended with 3: ilocfarm: out of memory\n"))
 
     def test_killed_piece(self):

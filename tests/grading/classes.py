@@ -30,7 +30,7 @@ class Made:
         self.ops, self.given = ops, Given(Schedule(ops, USUAL))
 
     def text(self):
-        words = "".join(f" {signed(it)}" for it in self.words)
+        words = "".join(f" {signed(word)}" for word in self.words)
         return f"// {self.name}\n" + f"//SIM INPUT: -i {AT}{words}\n" * bool(self.words) + text_of([self.ops]).decode()
 
     def judged(self, rows):
@@ -40,7 +40,7 @@ class Made:
         points = round(min(10, max(5, 10 * entry.ours / took)), 2) if took else 10
         if due:
             return due[0] == "lawful", points
-        differs = any(entry.differs_on(it, False) for it in memories(MEMORIES))
+        differs = any(entry.differs_on(start, False) for start in memories(MEMORIES))
         return False if differs else None, points
 
 
@@ -51,7 +51,7 @@ def tasks():
 
 def constants(_, made):
     """The cheat who knows the words: what the task leaves in memory and prints is put there as constants."""
-    machine = outcome(made.start, lambda it: it.run(made.ops))
+    machine = outcome(made.start, lambda machine: machine.run(made.ops))
     rows = []
     for number, word in sorted(machine.written.items()):
         if word < 2 ** 31:

@@ -59,7 +59,7 @@ class Canvas:
     def table(everybody, points):
         head = ["Student", "ID", "SIS User ID", "SIS Login ID", "Section", "Lab 3 (4711)", "Lab 4 (4712)"]
         odd = [["    Points Possible", "", "", "", "", "10.00", "(read only)"]]
-        return table([head, *odd, *([f"{it.last}, {it.first}", it.id(), f"s{it.id()}", it.user(), "A;1", points[it.kind], "3"] for it in everybody),
+        return table([head, *odd, *([f"{one.last}, {one.first}", one.id(), f"s{one.id()}", one.user(), "A;1", points[one.kind], "3"] for one in everybody),
                       ["Student, Test", "77", "", "", "A", "", ""]])
 
 
@@ -74,18 +74,18 @@ class Gradescope:
     @staticmethod
     def more(everybody):
         lines = ["---"]
-        for it in everybody:
-            day = 21 if it.is_late else 20
-            lines += [f"submission_{330000 + it.number}:", "  :submitters:", f"  - :name: \"{it.name()}\"", f"    :sid: '{it.id()}'",
-                      f"    :email: {it.user()}@x.edu", f"  :created_at: 2026-11-{day} 22:59:00.000000000 Z", "  :score: 0.0",
-                      "  :status: processed", "  :history:" + " []" * (it.attempt == 1)]
-            lines += [f"  - :id: {k}" for k in range(1, it.attempt)]
+        for one in everybody:
+            day = 21 if one.is_late else 20
+            lines += [f"submission_{330000 + one.number}:", "  :submitters:", f"  - :name: \"{one.name()}\"", f"    :sid: '{one.id()}'",
+                      f"    :email: {one.user()}@x.edu", f"  :created_at: 2026-11-{day} 22:59:00.000000000 Z", "  :score: 0.0",
+                      "  :status: processed", "  :history:" + " []" * (one.attempt == 1)]
+            lines += [f"  - :id: {k}" for k in range(1, one.attempt)]
         return {"submission_metadata.yml": "\n".join(lines) + "\n"}
 
     @staticmethod
     def table(everybody, points):
         return table([["First Name", "Last Name", "SID", "Email", "Score"],
-                      *([it.first, it.last, it.id(), f"{it.user()}@x.edu", points[it.kind]] for it in everybody)], end="\n")
+                      *([one.first, one.last, one.id(), f"{one.user()}@x.edu", points[one.kind]] for one in everybody)], end="\n")
 
 
 class GitHub:

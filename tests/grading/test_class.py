@@ -27,7 +27,7 @@ class Graded(Place):
 
     def book(self):
         with open(self.path("grades/gradebook.csv"), newline="", encoding="utf-8") as file:
-            return {it["student"]: it for it in csv.DictReader(file)}
+            return {line["student"]: line for line in csv.DictReader(file)}
 
 
 class Class(Graded):
@@ -55,8 +55,8 @@ class Class(Graded):
     def test_policies(self):
         for words, points in POLICIES:
             status, said, book = self.grade(*words, tasks=BOTH, submissions="examples/class/submissions")
-            self.expect(f"{words}", (status, tuple(float(book[it]["total"]) for it in ("ada", "dan", "fay"))), (0, points))
-            self.expect(f"{words}: the others", {float(book[it]["total"]) for it in ("ben", "cem", "eve", "gus", "hal", "jan")}, {0})
+            self.expect(f"{words}", (status, tuple(float(book[name]["total"]) for name in ("ada", "dan", "fay"))), (0, points))
+            self.expect(f"{words}: the others", {float(book[name]["total"]) for name in ("ben", "cem", "eve", "gus", "hal", "jan")}, {0})
 
     def test_roster(self):
         """Everybody of the roster is in the gradebook, with nothing handed in too, and everybody who handed in."""
@@ -68,12 +68,12 @@ class Class(Graded):
     def test_pages(self):
         """Each drawn hand-in that is traced has the page that charts/page makes of its listings, and a link to it."""
         for words in (), ("--load=6",):
-            self.call("ilocgrade", BOTH, "examples/class/submissions", *(f"--check={it}" for it in words))
+            self.call("ilocgrade", BOTH, "examples/class/submissions", *(f"--check={word}" for word in words))
             for name in "ben", "eve":
                 page = f"feedback/{name}/both.html"
                 rows, of_rows = self.read(f"examples/class/submissions/{name}/both.rows"), ("--task", f"{BOTH}/both.iloc", "3", "4")
                 listings = [self.call("ilocfarm", "graph", *words, given=self.read(f"{BOTH}/both.iloc"))[1]]
-                listings += [self.call("ilocfarm", it, *words, *of_rows, given=rows)[1] for it in ("trace", "check")]
+                listings += [self.call("ilocfarm", command, *words, *of_rows, given=rows)[1] for command in ("trace", "check")]
                 self.expect(f"{name}'s page", self.read(f"grades/{page}"), self.call("charts/page", given=b"".join(listings))[1])
                 self.expect(f"{name}'s link", f'href="{page}"' in self.text("grades/report.html"), True)
             for name in ("cem", "gus") if words else ("ada", "cem", "gus"):     # with --load=6 hers is wrong too

@@ -9,12 +9,12 @@ SITES = {Canvas: (), Gradescope: DUE, GitHub: (*DUE, "--late", "site.csv"), Mood
 
 class Exports(Graded):
     def export(self, site, students):
-        for it in students:
-            if it.kind:
-                rows = self.read(f"examples/class/submissions/{it.kind}/both.rows")
-                for path, data in site.files(it, rows):
+        for student in students:
+            if student.kind:
+                rows = self.read(f"examples/class/submissions/{student.kind}/both.rows")
+                for path, data in site.files(student, rows):
                     self.write(f"export/{path}", data)
-        handed_in = [it for it in students if it.kind]
+        handed_in = [student for student in students if student.kind]
         for path, text in site.more(handed_in).items() if hasattr(site, "more") else ():
             self.write(f"export/{path}", text)
         self.write("export/__MACOSX/._both.rows", b"")
@@ -38,11 +38,11 @@ class Exports(Graded):
 
     def compare(self, site, students, book):
         by_id = {line["id"]: line for line in book.values()}
-        for it in students:
-            line = by_id[it.id()] if site is not GitHub else book.get(it.user()) or by_id[it.user()]
-            days = str(int(it.is_late and bool(it.kind))).replace("0", "")
-            attempt = str(it.attempt) if it.kind and site in (Canvas, Gradescope) else ""
-            self.expect(f"{it}", (line["total"], line["days late"], line.get("attempt", "")), (POINTS[it.kind], days, attempt))
+        for student in students:
+            line = by_id[student.id()] if site is not GitHub else book.get(student.user()) or by_id[student.user()]
+            days = str(int(student.is_late and bool(student.kind))).replace("0", "")
+            attempt = str(student.attempt) if student.kind and site in (Canvas, Gradescope) else ""
+            self.expect(f"{student}", (line["total"], line["days late"], line.get("attempt", "")), (POINTS[student.kind], days, attempt))
         self.expect("merged", self.text("grades/merged.csv"), site.table(students, POINTS))
 
     def test_tables(self):

@@ -89,13 +89,13 @@ class Hostile(Graded):
         self.expect("names", len(points), len(NAMES) + 1)
         self.expect("points", (points.pop("ben"), set(points.values())), ("0", {"10"}))
         cells = [cell for line in book.values() for cell in line.values()]
-        self.expect("cells that a spreadsheet computes", [it for it in cells if it[:1] in tuple("=+-@\t\r\n")], [])
+        self.expect("cells that a spreadsheet computes", [cell for cell in cells if cell[:1] in tuple("=+-@\t\r\n")], [])
         self.expect("nothing ran", os.path.exists(self.path("gone")), False)
         page = Links(self.text("grades/report.html"))
         self.expect("elements", page.tags & {"script", "img", "iframe"}, set())
-        self.expect("dead links", [it for it in page.links if not os.path.exists(self.path(f"grades/{unquote(it)}"))], [])
+        self.expect("dead links", [link for link in page.links if not os.path.exists(self.path(f"grades/{unquote(link)}"))], [])
         self.expect("links", len(page.links), 3 * len(NAMES) + 1)
-        self.expect("control characters", [it for it in self.text("grades/report.html") if it < " " and it != "\n"], [])
+        self.expect("control characters", [letter for letter in self.text("grades/report.html") if letter < " " and letter != "\n"], [])
 
     def test_files(self):
         """A right file is right with any line ends; what is round the rows costs nothing with --lenient, and is noted."""
@@ -144,8 +144,8 @@ class Hostile(Graded):
         self.hand_in("none")
         self.write("submissions/other/Both.rows", RIGHT)
         book = self.mark()
-        self.expect("verdicts", {name: (it["both verdict"], it["total"]) for name, it in book.items()}, {
-            "right": ("lawful", "10"), "none": ("missing", "0"), "other": ("lawful", "10"), **{it: ("refused", "0") for it in (
+        self.expect("verdicts", {name: (line["both verdict"], line["total"]) for name, line in book.items()}, {
+            "right": ("lawful", "10"), "none": ("missing", "0"), "other": ("lawful", "10"), **{name: ("refused", "0") for name in (
                 "pipe", "folder", "dangling", "link", "endless", "itself", "socket", "linked folder", "dangling folder")}})
         self.expect("what is read is said", "Read from Both.rows." in self.text("grades/feedback/other/feedback.txt"), True)
 
@@ -171,4 +171,4 @@ class Hostile(Graded):
         self.call("soffice", f"-env:UserInstallation=file://{self.folder}/profile", "--headless", "--convert-to", "csv:Text - txt - csv (StarCalc)",
                   "--outdir", self.folder, self.path("grades/gradebook.csv"))
         with open(self.path("gradebook.csv"), newline="", encoding="utf-8") as file:
-            self.expect("totals", [it[1] for it in csv.reader(file)][1:], ["10"] * len(NAMES))
+            self.expect("totals", [row[1] for row in csv.reader(file)][1:], ["10"] * len(NAMES))

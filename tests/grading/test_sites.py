@@ -33,12 +33,12 @@ class Sites(Graded):
             self.expect(f"{name}: status", (status, out, err), (0, b"", b""))
             made = json.loads(self.read("results.json"))
             self.fits(made, FIELDS)
-            for it in made["tests"]:
-                self.fits(it, TEST)
-            for it in made["leaderboard"]:
-                self.fits(it, BOARD)
+            for test in made["tests"]:
+                self.fits(test, TEST)
+            for place in made["leaderboard"]:
+                self.fits(place, BOARD)
             self.expect("points", (made["score"], made["tests"][0]["score"], made["tests"][0]["max_score"]), (points, points, 10))
-            self.expect("board", [it["value"] for it in made["leaderboard"]], [points, cycles])
+            self.expect("board", [place["value"] for place in made["leaderboard"]], [points, cycles])
         self.expect("feedback", made["tests"][0]["output"].splitlines()[1], "Word 1 that your rows print is 3; it should be 7.")
 
     def autograder(self, submission, said=b""):
@@ -87,13 +87,13 @@ class Sites(Graded):
         self.expect("ben", (status, err), (1, b""))
         lines = out.decode().splitlines()
         stopped = re.fullmatch(r"::stop-commands::(\w{32})", lines[0])[1]
-        error = next(it for it in lines if it.startswith("::error "))
+        error = next(line for line in lines if line.startswith("::error "))
         self.expect("said apart", lines.index(f"::{stopped}::") < lines.index(error), True)
         self.expect("error", error.startswith(f"::error file={BEN}/both.rows,line=8::both: 0 points. Wrong."), True)
         self.expect("ada", self.call("ilocgrade", BOTH, "examples/class/submissions/ada", "--github")[0], 0)
         self.write("eve/both.rows", b"[ nop ; nop ]\n::error::a\r##[add-mask]b\n")
         status, out, _ = self.call("ilocgrade", BOTH, "eve", "--github")
-        begun = [it for it in out.decode().splitlines() if it.lstrip().startswith("::")]
+        begun = [line for line in out.decode().splitlines() if line.lstrip().startswith("::")]
         self.expect("commands", (status, len(begun)), (1, 3))
 
     def test_report_in_a_browser(self):
@@ -109,7 +109,7 @@ class Sites(Graded):
             self.expect("page as wide as the screen", browser.value("document.documentElement.scrollWidth <= innerWidth"), True)
             colours = browser.value("[...document.querySelectorAll('td, th')].map(it => "
                                     "[getComputedStyle(it).color, getComputedStyle(it).backgroundColor].join('; '))")
-            faint = [it for it in set(colours) if contrast(*it.split("; ")) < LEAST_CONTRAST]
+            faint = [pair for pair in set(colours) if contrast(*pair.split("; ")) < LEAST_CONTRAST]
             self.expect("texts of too little contrast", faint, [])
         tree = browser.tree()
         self.expect("rows", (sum(role == "row" for role, _ in tree), ("heading", "Grades") in tree), (17, True))

@@ -22,13 +22,13 @@ def luminance(colour):
     numbers = [255] * 3 if colour == "white" else re.findall(r"\d+", colour)[:3]
     if colour.startswith("#"):
         numbers = bytes.fromhex(colour[1:])
-    parts = [int(it) / 255 for it in numbers]
-    return sum(share * (it / 12.92 if it <= 0.04045 else ((it + 0.055) / 1.055) ** 2.4)
-               for share, it in zip((0.2126, 0.7152, 0.0722), parts))
+    parts = [int(number) / 255 for number in numbers]
+    return sum(share * (part / 12.92 if part <= 0.04045 else ((part + 0.055) / 1.055) ** 2.4)
+               for share, part in zip((0.2126, 0.7152, 0.0722), parts))
 
 
 def contrast(one, other):
-    low, high = sorted(luminance(it) + 0.05 for it in (one, other))
+    low, high = sorted(luminance(colour) + 0.05 for colour in (one, other))
     return high / low
 
 
@@ -56,8 +56,8 @@ class Browser:
         self.number, self.session, self.held, self.problems = 0, None, b"", []
         page = self.call("Target.createTarget", url="about:blank")["targetId"]
         self.session = self.call("Target.attachToTarget", targetId=page, flatten=True)["sessionId"]
-        for it in ("Page", "Runtime", "Log"):
-            self.call(f"{it}.enable")
+        for domain in ("Page", "Runtime", "Log"):
+            self.call(f"{domain}.enable")
 
     def call(self, method, **given):
         self.number += 1
@@ -105,7 +105,7 @@ class Browser:
     def tree(self):
         """What a screen reader meets: role and name of each part."""
         nodes = self.call("Accessibility.getFullAXTree")["nodes"]
-        return [(it["role"]["value"], it.get("name", {}).get("value", "")) for it in nodes if not it.get("ignored")]
+        return [(node["role"]["value"], node.get("name", {}).get("value", "")) for node in nodes if not node.get("ignored")]
 
     def close(self):
         self.session = None

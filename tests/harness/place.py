@@ -84,7 +84,7 @@ def shown_on(page):
     """The commands of a page of the repository, with what is shown below them."""
     with open(f"{TOP}/{page}", encoding="utf-8") as file:
         blocks = EXAMPLE.findall(file.read())
-    return [it for block in blocks for it in COMMAND.findall(re.sub("^    ", "", block, flags=re.MULTILINE))]
+    return [shown for block in blocks for shown in COMMAND.findall(re.sub("^    ", "", block, flags=re.MULTILINE))]
 
 
 def crates_of(name):
@@ -92,9 +92,9 @@ def crates_of(name):
     with open(f"{TOP}/crates.txt", encoding="utf-8") as file:
         uses = dict(re.findall(r"^(\w+)[^:#\n]*: (.*)$", file.read(), re.MULTILINE))
     needed = {name}
-    while more := {used for it in needed for used in uses[it].split() if used in uses} - needed:
+    while more := {used for crate in needed for used in uses[crate].split() if used in uses} - needed:
         needed |= more
-    return {it: uses[it] for it in needed}
+    return {crate: uses[crate] for crate in needed}
 
 
 def until(what, holds):

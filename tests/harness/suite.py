@@ -43,7 +43,7 @@ def plain(text):
 def rows_of(path):
     """The rows of a table of cases, the first cell of each as it stands for a text."""
     with open(path, encoding="ascii") as file:
-        return [[plain(first), *others] for first, *others in (it.rstrip("\n").split("\t") for it in file)]
+        return [[plain(first), *others] for first, *others in (line.rstrip("\n").split("\t") for line in file)]
 
 
 def table(cases):

@@ -21,7 +21,7 @@ class Terminal:
                 self.written += more
         except OSError:     # there is no more, or the other side was closed
             pass
-        return [shown(it) for it in self.written.decode("ascii").split("\n")]
+        return [shown(line) for line in self.written.decode("ascii").split("\n")]
 
     def until(self, line):
         """Waits until this is the line that was written last."""

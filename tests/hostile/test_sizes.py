@@ -148,10 +148,10 @@ def registers_anywhere():
 def size_checks():
     part = even()
     yield Check("sizes/even", listed_so, "even", filled(part), part, MOST_BYTES // len(part))
-    for it in refused_inputs():
-        yield Check(f"sizes/{it[0]}", refused_so, *it)
-    for it in plain_inputs():
-        yield Check(f"sizes/{it[0]}", listed_so, *it)
+    for case in refused_inputs():
+        yield Check(f"sizes/{case[0]}", refused_so, *case)
+    for case in plain_inputs():
+        yield Check(f"sizes/{case[0]}", listed_so, *case)
     if not TESTED.is_short:
         for name, part in full_inputs():
             times = min(MOST_BLOCKS, MOST_BYTES // len(part))
@@ -160,8 +160,8 @@ def size_checks():
         yield Check("sizes/slow loads in little memory", in_little_memory)
     for name, make, start in judged_inputs():
         yield Check(f"sizes/check/{name}", begins_so, name, make, start)
-    for it in traced_inputs():
-        yield Check(f"sizes/trace/{it[0]}", traced_in_time, *it)
+    for case in traced_inputs():
+        yield Check(f"sizes/trace/{case[0]}", traced_in_time, *case)
     for name, (op, unit) in ALIKE.items():
         yield Check(f"sizes/alike/{name}", judged_in_time, op, *alike(op, unit))
     yield Check("sizes/alike/loads of one address", judged_in_time, "loads of one address", *loads_of_one_address())

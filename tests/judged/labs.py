@@ -69,8 +69,8 @@ def scheduled(ops, pairs, rank, width=2):
 def put(row, op, width=2):
     """Puts an operation on the first unit that may take it, if there is one."""
     for unit in (0, 1):
-        made = [op if it == unit else row[it] for it in (0, 1)]
-        if not row[unit] and sum(it is not None for it in row) < width and keeps_units(made):
+        made = [op if place == unit else row[place] for place in (0, 1)]
+        if not row[unit] and sum(slot is not None for slot in row) < width and keeps_units(made):
             row[:] = made
             return True
     return False

@@ -106,7 +106,7 @@ def apart_pairs(given):
         one, other = given.ops[i], given.ops[j]
         uses = set(one.defined) & set(other.used) and d == one.latency(given.latencies)
         return uses or one.kind == other.kind == "output" or not given.are_apart(one, other)
-    return [it for it in given.pairs if is_due(*it)]
+    return [pair for pair in given.pairs if is_due(*pair)]
 
 
 def dead_code_dropped(_, given):
@@ -133,7 +133,7 @@ def may_fault(given, op):
 
 def early_stores(chance, given):
     """A store that is issued before a load or an output that it waits for, and whose word arrives after it."""
-    rows, early = one_a_row(chance, given), [relaxed(given, *it) for it in given.pairs]
+    rows, early = one_a_row(chance, given), [relaxed(given, *pair) for pair in given.pairs]
     places = {id(op): cycle for cycle, row in enumerate(rows) for op in filter(None, row)}
     moved = False
     for cycle, unit in slots_of(rows, lambda op: op.kind == "store"):
@@ -226,7 +226,7 @@ def with_number(op, k, to):
 
 def others(role, near):
     """Of an operation each with another number in this role, of those that `near` gives for the number and the registers."""
-    return lambda op, registers: [with_number(op, k, to) for k, it in enumerate(op.roles) if it == role
+    return lambda op, registers: [with_number(op, k, to) for k, has in enumerate(op.roles) if has == role
                                   for to in near(op.numbers[k], registers) if to != op.numbers[k] and to <= MAX_NUMBER]
 
 
@@ -309,6 +309,6 @@ def two_of_a_kind(kind):
 
 
 WRONG = (*map(latency_too_small, ("load", "store", "mult")), *map(early, ("output", "load", "store")),
-         exchanged("outputs_exchanged", ("output",)), exchanged("accesses_exchanged", MEMORY), *(changing(*it) for it in CHANGES.items()),
+         exchanged("outputs_exchanged", ("output",)), exchanged("accesses_exchanged", MEMORY), *(changing(*change) for change in CHANGES.items()),
          missing("operation_missing", lambda op: True), missing("store_missing", lambda op: op.kind in ("store", "output")),
          row_too_few, output_too_many, store_too_many, scratch_store, nothing_at_all, wrong_unit, *map(two_of_a_kind, ("mult", "output")))

@@ -138,7 +138,7 @@ def as_exhaustively():
         latencies = {name: chance.randint(1, 3) for name in SHORT}
         blocks = [alike.block(chance, MOST_TINY) for _ in range(AT_ONCE)]
         rows = [chance.choice([lawful, rewired, rewired, wrong])(chance, Given(Schedule(ops, latencies))) for ops in blocks]
-        text = text_of(blocks) + b"".join(proposed(k, f"B{k}", it) for k, it in enumerate(rows, 1))
+        text = text_of(blocks) + b"".join(proposed(k, f"B{k}", theirs) for k, theirs in enumerate(rows, 1))
         found = found_of(ending(["check", *words_for(latencies)], text)[1])
         if len(found) != len(blocks):
             yield f"{len(found)} entries of {len(blocks)}"
@@ -162,7 +162,7 @@ def graphs():
             text = text_of([alike.graph(points, edges) for edges in drawn])
             text += b"".join(proposed(k, f"B{k}", alike.shuffled(chance, points, edges)) for k, edges in enumerate(theirs, 1))
             found = found_of(ending(["check"], text)[1])
-            print(f"judged/alike/graphs: {points} points: {({it: found.count(it) for it in found})}")
+            print(f"judged/alike/graphs: {points} points: {({verdict: found.count(verdict) for verdict in found})}")
             if len(found) != len(drawn) or not {*found} <= dues:
                 yield f"{points} points: {found}"
 

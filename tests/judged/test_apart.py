@@ -73,9 +73,9 @@ def all_as_together():
     for pairs in (SAME, UNLIKE, VERDICTS):
         for block, theirs, *_ in pairs.values():
             yield from as_together(block + spread(theirs))
-    for it in LISTED.values():
-        if " unread " not in it.out:        # a line that can't be read has another number in a text of its own
-            yield from as_together(it.text)
+    for listed in LISTED.values():
+        if " unread " not in listed.out:        # a line that can't be read has another number in a text of its own
+            yield from as_together(listed.text)
 
 
 def is_refused(given):

@@ -16,36 +16,36 @@ def lines_of(said):
     """What is listed in lines of what a line of JSON says."""
     claimed = f" claimed {said['claimed']}" if said["claimed"] not in (None, said["cycles"]) else ""
     yield "block {block} {0} {verdict} cycles {cycles} ours {ours} least {least}".format(said["name"] or "-", **said) + claimed
-    shown = f" with --at {said['memory']['at']}" + "".join(f" {it}" for it in said["memory"]["words"]) if said["memory"] else ""
+    shown = f" with --at {said['memory']['at']}" + "".join(f" {word}" for word in said["memory"]["words"]) if said["memory"] else ""
     if not said["rows"] and said["verdict"] != "lawful":
         yield "  no rows"
     if said["void"]:
         yield "  the block faults: {operation}".format(**said["void"]) if len(said["void"]) > 1 else "  the block shows nothing"
     if said["difference"]:
-        it = {name: "none" if value is None else value for name, value in said["difference"].items()}
+        difference = {name: "none" if value is None else value for name, value in said["difference"].items()}
         yield "  " + {"output": "output {number}: {got} for {wanted}", "word": "word {address}: {got} for {wanted}",
-                      "fault": "fault", "no_fault": "no fault"}[it["kind"]].format(**it) + shown
+                      "fault": "fault", "no_fault": "no fault"}[difference["kind"]].format(**difference) + shown
     is_told = said["verdict"] not in ("units", "unread")
     if said["left_out"] and is_told:
         yield "  left out {count}: {operation}".format(**said["left_out"])
     if said["added"] and is_told:
         yield "  added {count}: row {row}: {operation}".format(**said["added"])
-    yield from ("  " + reason_of(it) for it in said["reasons"])
+    yield from ("  " + reason_of(reason) for reason in said["reasons"])
     if said["more"]:
         yield "  and {more} more".format(**said)
 
 
-def reason_of(it):
+def reason_of(reason):
     forms = {
         "unread": "line {line}, row {row}: {problem}", "units": "row {row}: {text}: {rule}", "undecided": "undecided",
         "under_way": "{op} while {other} is under way to row {due}", "brings": "{op} reads r{register}, which {other} brings in row {due}",
         "replaced": "{op} reads r{register} of {other}, no longer of {lost}", "never_read": "{op}, whose result is never read",
         "order": "{op} {order} {other}", "for": "{op} for operation {number}: {wanted}", "like_none": "{op} like none of the block", "see": "see {op}"}
-    named = {name: f"row {it[row]}: {it[op]}" for name, row, op in (
-        ("op", "row", "operation"), ("other", "other_row", "other_operation"), ("lost", "lost_row", "lost_operation")) if it.get(op)}
-    rows = it.get("row", 0), it.get("other_row", 0)
+    named = {name: f"row {reason[row]}: {reason[op]}" for name, row, op in (
+        ("op", "row", "operation"), ("other", "other_row", "other_operation"), ("lost", "lost_row", "lost_operation")) if reason.get(op)}
+    rows = reason.get("row", 0), reason.get("other_row", 0)
     order = "before" if rows[0] < rows[1] else "after" if rows[0] > rows[1] else "not after"
-    return forms[it["kind"]].format(**{"lost": "the start", "order": order, **it, **named})
+    return forms[reason["kind"]].format(**{"lost": "the start", "order": order, **reason, **named})
 
 
 def are_the_same(texts, *words):
@@ -54,8 +54,8 @@ def are_the_same(texts, *words):
     for text in texts:
         status, out, err = ending([*WORDS, *words], text)
         got = ending([*WORDS, "--json", *words], text)
-        said = [json.loads(it) for it in got[1].decode("ascii").splitlines()]
-        lines = [it for one in said for it in lines_of(one)]
+        said = [json.loads(line) for line in got[1].decode("ascii").splitlines()]
+        lines = [line for one in said for line in lines_of(one)]
         due = out.decode("latin-1").splitlines()[:-1]
         if (got[0], got[2], lines, all(one["passes"] for one in said)) != (status, err, due, not status):
             yield f"{text!r}: {told(got)} beside {told((status, out, err))}"
@@ -65,7 +65,7 @@ def are_the_same(texts, *words):
 
 
 def texts_of(*tables):
-    return [(it[0] + spread(it[1])).encode() for one in tables for it in one.values()]
+    return [(case[0] + spread(case[1])).encode() for one in tables for case in one.values()]
 
 
 def undecided():
@@ -89,17 +89,17 @@ def undecided_cases():
 
 
 def json_cases():
-    yield from (it.case(f"json/{name}", it.in_json) for name, it in LISTED.items() if it.in_json)
+    yield from (listed.case(f"json/{name}", listed.in_json) for name, listed in LISTED.items() if listed.in_json)
     yield Run("judged/json/two_forms", ["check", "--json", "--csv"], b"a:", b"", b"ilocfarm: --csv and --json exclude each other\n", 2)
     yield Run("judged/json/other_commands", ["counts", "--json"], b"a:", b"", None, 2)
     yield from undecided_cases()
     yield Check("judged/json/tables", are_the_same, texts_of(SAME, VERDICTS, UNLIKE))
     yield Check("judged/json/lawful", are_the_same, texts_of(SAME, VERDICTS), "--lawful")
     yield Check("judged/json/outputs", are_the_same, texts_of(SAME, VERDICTS, SHOWN), "--outputs")
-    yield Check("judged/json/listed", are_the_same, [it[0].encode("latin-1") for it in LISTED.values()])
+    yield Check("judged/json/listed", are_the_same, [listed[0].encode("latin-1") for listed in LISTED.values()])
     yield Check("judged/json/drawn", are_the_same, [handed_in(seed, "usual", kind) for seed, kind in enumerate((*RIGHT, *WRONG))])
-    yield Check("judged/json/unread", are_the_same, [f"a:\noutput 0\nb:\nc: output 4\nblock 1 a\n{it}\nblock 3 c\n[ output 8 ]\n".encode("latin-1")
-                                                     for it in UNREAD])
+    yield Check("judged/json/unread", are_the_same, [f"a:\noutput 0\nb:\nc: output 4\nblock 1 a\n{line}\nblock 3 c\n[ output 8 ]\n".encode("latin-1")
+                                                     for line in UNREAD])
 
 
 load_tests = table(json_cases)

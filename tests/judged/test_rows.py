@@ -163,7 +163,7 @@ SHOWN = {
                                 "store r4 => r1\noutput 8\n", "differs", "output 1: 5 for 8 with --at 8 2000"),
     # The word that is stored is there already.
     "word_put_back": ("loadI 4 => r1\nload r1 => r2\nstore r2 => r1\noutput 4\n", "output 4\n", "same"),
-    "even_product": tuple(it + "output 8\n" for it in VERDICTS["even_product"][:2]) + ("agrees",),
+    "even_product": tuple(text + "output 8\n" for text in VERDICTS["even_product"][:2]) + ("agrees",),
     "store_alone": (LOADED + "store r1 => r1\n", "nop\n", "void", "the block shows nothing"),
     "fault_last": ("output 8\noutput 1\n", "output 8\n", "void", "the block faults: output 1"),
 }
@@ -218,9 +218,9 @@ class Listed(NamedTuple):
 
     def case(self, name, in_json=""):
         words = [*WORDS, *self.options, *["--json"] * bool(in_json)]
-        verdicts = (it[3].decode() for it in ENTRY.finditer(self.out.encode("latin-1")))
+        verdicts = (match[3].decode() for match in ENTRY.finditer(self.out.encode("latin-1")))
         status = status_of(verdicts, lawful="--lawful" in self.options)
-        given, out = (it.encode("latin-1") for it in (self.text, in_json or self.out))
+        given, out = (text.encode("latin-1") for text in (self.text, in_json or self.out))
         return Run(f"judged/{name}", words, given, out, b"", status)
 
 
@@ -232,7 +232,7 @@ def listed_rows():
         head, rest = re.sub("^#.*\n", "", case, flags=re.MULTILINE).split("\n", 1)
         text, *listings = re.split(r"^-\n", rest, flags=re.MULTILINE)
         name, *options = head.split()
-        yield name, Listed(plain(text), options, *(it.rstrip("\n") + "\n" for it in listings))
+        yield name, Listed(plain(text), options, *(listing.rstrip("\n") + "\n" for listing in listings))
 
 
 LISTED = dict(listed_rows())
@@ -246,7 +246,7 @@ def spread(text, apart=6, product_unit=1):
     for i, op in enumerate(read(text.encode())[0].ops):
         rows += [(None, None)] * (apart * i - len(rows))
         rows.append((None, op) if op.kind == "mult" and product_unit else (op, None))
-    return "".join(f"{row_text(it)}\n" for it in rows)
+    return "".join(f"{row_text(row)}\n" for row in rows)
 
 
 def judged(name, text, verdict, *below, outputs=False):
@@ -257,7 +257,7 @@ def judged(name, text, verdict, *below, outputs=False):
 def wrongly_judged(given, verdict, below, outputs):
     entry, = entries_of(given, USUAL, words_from(4, [9]), outputs)
     end = ending([*WORDS, *["--outputs"] * outputs], given)
-    lines = [it[2:] for it in end[1].decode().split("\n")[1:-2]]
+    lines = [line[2:] for line in end[1].decode().split("\n")[1:-2]]
     why = lines[len(below):]
     due = status_of([verdict]), (entry.text(verdict, *below, *why) + total([entry])).encode(), b""
     if end != due:
@@ -280,9 +280,9 @@ def isnt_passed(text):
 
 def listed(name, text, *entries):
     """A case of a text and the entries that are listed of it."""
-    found = [ENTRY.fullmatch(f"{it}\n".encode()) for it in entries]
-    sums = [sum(int(it[number]) for it in found) for number in (4, 5, 6)]
-    out = "".join(f"{it}\n" for it in [*entries, "total {} ours {} least {}".format(*sums)])
+    found = [ENTRY.fullmatch(f"{entry}\n".encode()) for entry in entries]
+    sums = [sum(int(match[number]) for match in found) for number in (4, 5, 6)]
+    out = "".join(f"{line}\n" for line in [*entries, "total {} ours {} least {}".format(*sums)])
     return Listed(text, [], out).case(name)
 
 
@@ -349,7 +349,7 @@ def judged_cases():
                  "output 1: 2 for 0 with --at 1032 2")
     yield judged("product_on_unit_0", SQUARE + spread(SQUARE, product_unit=0), "units",
                  "row 12: [ mult r2, r2 => r3 ; nop ]: a product on unit 0")
-    yield from (it.case(f"listed_{name}") for name, it in LISTED.items())
+    yield from (listed.case(f"listed_{name}") for name, listed in LISTED.items())
     yield Run("judged/our_rows_for_two_outputs", ["schedule"], b"output 0\noutput 4\n",
                b"block 1 -\n[ output 0 ; nop ]\n[ output 4 ; nop ]\ncycles 2\ntotal 2\n", b"", 0)
     yield from refusals()

@@ -98,10 +98,10 @@ def own_listings(texts):
         listing = ending(["schedule", *words_for(latencies)], text)[1]
         got = ending(request(latencies), text + b"\n" + listing)
         claims = [int(line.split()[1]) for line in listing.splitlines() if line.startswith(b"cycles")]
-        entries = [it.groups() for it in ENTRY.finditer(got[1])]
-        wrong = [it for it, claim in zip(entries, claims)
-                 if it[2] != b"lawful" or int(it[3]) != claim or int(it[4]) != claim or it[6] or it[7]]
-        last = b"total %d ours %d least %d\n" % (sum(claims), sum(claims), sum(int(it[5]) for it in entries))
+        entries = [match.groups() for match in ENTRY.finditer(got[1])]
+        wrong = [groups for groups, claim in zip(entries, claims)
+                 if groups[2] != b"lawful" or int(groups[3]) != claim or int(groups[4]) != claim or groups[6] or groups[7]]
+        last = b"total %d ours %d least %d\n" % (sum(claims), sum(claims), sum(int(groups[5]) for groups in entries))
         if wrong or len(entries) != len(claims) or got[0] or got[2] or not got[1].endswith(last):
             yield f"{text!r}: {wrong or told(got)}"
     print(f"{count} listings")
@@ -122,7 +122,7 @@ def judged_texts(texts):
     for text in texts:
         got = ending(["check"], text)
         statuses.add(got[0])
-        yield from (f"{text!r}: {it}" for it in wrong_ending(got, text, USUAL))
+        yield from (f"{text!r}: {fault}" for fault in wrong_ending(got, text, USUAL))
     if statuses != {0, 1, NOT_SAME}:
         yield f"the texts end with the statuses {statuses}"
 

@@ -49,22 +49,22 @@ def is_running(pid):
 class Repository(InFolder):
     def setUp(self):
         super().setUp()
-        for it in ENDING:       # also where what runs the tests ignores them
-            self.addCleanup(signal.signal, it, signal.signal(it, signal.SIG_DFL))
+        for number in ENDING:       # also where what runs the tests ignores them
+            self.addCleanup(signal.signal, number, signal.signal(number, signal.SIG_DFL))
         self.top = f"{self.folder}/a copy"
-        for it in ("bin", "tools", "tmp", "a copy"):
-            os.mkdir(f"{self.folder}/{it}")
-        for it in TOOLS:
-            os.symlink(shutil.which(it), f"{self.folder}/tools/{it}")
-        for it in ("ilocfarm", "build", "launcher.sh", "HANDLES"):
-            shutil.copy2(f"{TOP}/{it}", self.top)
+        for name in ("bin", "tools", "tmp", "a copy"):
+            os.mkdir(f"{self.folder}/{name}")
+        for name in TOOLS:
+            os.symlink(shutil.which(name), f"{self.folder}/tools/{name}")
+        for name in ("ilocfarm", "build", "launcher.sh", "HANDLES"):
+            shutil.copy2(f"{TOP}/{name}", self.top)
         self.write("KIT-ID", "kit 1\n")
         self.script("bin/rt", RT)
         self.with_crates(CRATES)
 
     def with_crates(self, text):
         self.write(f"{self.top}/crates.txt", text)
-        for name in [it.replace(":", " ").split()[0] for it in text.splitlines() if it.partition("#")[0].strip()]:
+        for name in [line.replace(":", " ").split()[0] for line in text.splitlines() if line.partition("#")[0].strip()]:
             for part in ("src/lib.rt", "specs/Lib.antt", "out/rlib"):
                 self.write(f"{self.top}/crates/{name}/{part}", "\n")
 
@@ -210,7 +210,7 @@ class Answers(Repository):
                 os.write(screen.master, b"text\n\x04")
                 _, out, err = self.ended(started)
                 reads = f"ilocfarm: reading {told} from the terminal; Ctrl-D on a line of its own ends them\n"
-                self.assertEqual("".join(it for it in err.splitlines(True) if "reading" in it), reads if told else "")
+                self.assertEqual("".join(line for line in err.splitlines(True) if "reading" in line), reads if told else "")
                 self.assertEqual(out == f"unproved: {' '.join(words)}: text\n", bool(told))
         self.builds(1)
         with self.subTest("the program says it itself"), terminal() as (screen, slave):
@@ -220,21 +220,21 @@ class Answers(Repository):
 
     def test_two_at_once(self):
         started = [self.start("run") for _ in range(2)]
-        for it in started:
-            self.assertEqual(it.communicate("text", timeout=SECONDS)[0], "unproved: run: text\n")
+        for each in started:
+            self.assertEqual(each.communicate("text", timeout=SECONDS)[0], "unproved: run: text\n")
         self.write("slow", "")
         first = self.start(by="build")
         until("it builds", lambda: "ci" in self.text("asked"))
         second = self.start(by="build")
         self.assertEqual(second.stderr.readline(), "ilocfarm: waiting for another ./build here\n")
         os.remove(f"{self.folder}/slow")
-        self.assertEqual([it.communicate(timeout=SECONDS)[1] for it in (first, second)],
+        self.assertEqual([each.communicate(timeout=SECONDS)[1] for each in (first, second)],
                          [BUILT, "ilocfarm: out/ilocfarm is proved and built already\n"])
 
     def test_install_builds(self):
         """It builds first; the stand-in has no help for a manual, so nothing is installed."""
-        for it in ("man", "charts", "cluster", "docs", "examples", "grading", "CHANGELOG.md", "README.md"):
-            os.symlink(f"{TOP}/{it}", f"{self.top}/{it}")
+        for name in ("man", "charts", "cluster", "docs", "examples", "grading", "CHANGELOG.md", "README.md"):
+            os.symlink(f"{TOP}/{name}", f"{self.top}/{name}")
         shutil.copy2(f"{TOP}/install", self.top)
         status, _, err = self.ran(f"{self.folder}/prefix", by="install", env={"PATH": f"{self.folder}/bin:{os.environ['PATH']}"})
         self.assertEqual((status, BUILT in err, os.path.exists(f"{self.folder}/prefix")), (1, True, False))

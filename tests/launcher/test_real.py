@@ -38,18 +38,18 @@ fn main(rt: HostRuntime) -> io::Result<()> {
     def clone(self, number):
         """A copy of what ./ilocfarm needs of the repository, where nothing is built."""
         def left_out(at, names):
-            return [it for it in names if it == "out" or at == TOP and it not in CLONED]
+            return [name for name in names if name == "out" or at == TOP and name not in CLONED]
         return shutil.copytree(TOP, f"{self.folder}/clone {number}", symlinks=True, ignore=left_out)
 
     def test_readme_on_a_fresh_clone(self):
         """Where nothing is built each command of the README prints what is shown below it."""
-        shown = [it for it in shown_on("README.md") if "./ilocfarm " in it[0]]
+        shown = [example for example in shown_on("README.md") if "./ilocfarm " in example[0]]
         started = [subprocess.Popen(["bash", "-c", command], cwd=self.clone(number), stdin=subprocess.DEVNULL,
                                     stdout=subprocess.PIPE, stderr=subprocess.PIPE, text=True)
                    for number, (command, _) in enumerate(shown)]
         self.assertTrue(started)
-        for (command, below), it in zip(shown, started):
+        for (command, below), run in zip(shown, started):
             with self.subTest(command):
-                out, err = it.communicate(timeout=UNPROVED_SECONDS)
+                out, err = run.communicate(timeout=UNPROVED_SECONDS)
                 self.assertEqual(out, below)
                 self.assertRegex(err, rf"\A{UNPROVED}\Z")

@@ -13,7 +13,7 @@ def sums():
     """All blocks of three alike `loadI` and three sums of what they bring."""
     loads = [Op("loadI", [4, k]) for k in range(3)]
     for read in product(product(range(3), repeat=2), repeat=3):
-        yield [*loads, *(Op("add", [*it, 3 + k]) for k, it in enumerate(read))]
+        yield [*loads, *(Op("add", [*pair, 3 + k]) for k, pair in enumerate(read))]
 
 
 def block(chance, most=12, constants=()):
@@ -37,7 +37,7 @@ def regular(chance, points, ways):
 
 def graph(points, edges):
     """A graph written as code that nobody uses: a constant for each point, and a sum for each edge."""
-    return [*(Op("loadI", [4, k]) for k in range(points)), *(Op("add", [*it, points]) for it in edges)]
+    return [*(Op("loadI", [4, k]) for k in range(points)), *(Op("add", [*edge, points]) for edge in edges)]
 
 
 def shuffled(chance, points, edges):

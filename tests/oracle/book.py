@@ -26,8 +26,8 @@ def sources_in_block(ops):
 def sources_in_rows(issued, latencies):
     """The same for operations that are issued in cycles: each reads what arrived last, and of equals what was issued last."""
     for cycle, op in issued:
-        yield [max(((at + it.latency(latencies), k) for k, (at, it) in enumerate(issued)
-                    if register in it.defined and at + it.latency(latencies) <= cycle), default=(0, None))[1]
+        yield [max(((at + other.latency(latencies), k) for k, (at, other) in enumerate(issued)
+                    if register in other.defined and at + other.latency(latencies) <= cycle), default=(0, None))[1]
                for register in op.used]
 
 
@@ -75,7 +75,7 @@ def is_paired(ops, wanted, issued, read, latencies):
     if Counter(here) != Counter(there):
         return False
     waits = [[(i, d) for i in range(j) for d in memory_delays(ops[i], ops[j], latencies)] for j in range(len(ops))]
-    found = narrowed([[k for k, it in enumerate(there) if it == shape] for shape in here], issued, waits)
+    found = narrowed([[k for k, shape_there in enumerate(there) if shape_there == shape] for shape in here], issued, waits)
     partner, taken = {}, set()
 
     def fits(j, k):
@@ -120,7 +120,7 @@ class Reasons:
         counts = [found for line in lines if (found := COUNTS.fullmatch(line))]
         facts = lines[len(counts):]
         wanted = ["left out"] * bool(self.left_out) + ["added"] * bool(self.added)
-        if [it[1] for it in counts] != wanted or not all(map(self.are_counted, counts)) or not lines:
+        if [found[1] for found in counts] != wanted or not all(map(self.are_counted, counts)) or not lines:
             return False
         if facts and re.fullmatch(r"and [1-9]\d* more", facts[-1]):
             facts.pop()
@@ -134,8 +134,8 @@ class Reasons:
     def are_counted(self, found):
         what, count, row, op, left_out = found.groups()
         lacking = self.left_out if what == "left out" else self.added
-        named = [self.issued[k][1] for k in self.numbers(row, op)] if what == "added" else [it for it in self.ops if str(it) == left_out]
-        return int(count) == lacking.total() and any(lacking[label(it)] for it in named)
+        named = [self.issued[k][1] for k in self.numbers(row, op)] if what == "added" else [own for own in self.ops if str(own) == left_out]
+        return int(count) == lacking.total() and any(lacking[label(own)] for own in named)
 
     def numbers(self, row, text):
         """The operations of this row that are written so."""
@@ -157,8 +157,8 @@ class Reasons:
                    and int(row) <= self.issued[k][0] < self.due[n] == int(until) for n in self.numbers(row, op))
 
     def replaces(self, k, register, row, op, lost_row, lost_op):
-        cycle, it = self.issued[k]
-        read = {i for used, i in zip(it.used, self.read[k]) if used == int(register)} & {*self.numbers(row, op)}
+        cycle, reader = self.issued[k]
+        read = {i for used, i in zip(reader.used, self.read[k]) if used == int(register)} & {*self.numbers(row, op)}
         return any(lost_row is None or any(n != i and int(register) in self.issued[n][1].defined and self.due[n] <= cycle
                                            for n in self.numbers(lost_row, lost_op)) for i in read)
 
@@ -167,13 +167,13 @@ class Reasons:
 
     def aren_t_in_order(self, k, side, row, op):
         """Whether the rows have these on those sides, and the block has two that differ from them in registers alone on others."""
-        return any({it.kind for it in (self.issued[k][1], self.issued[n][1])} in KEPT_IN_ORDER
+        return any({op.kind for op in (self.issued[k][1], self.issued[n][1])} in KEPT_IN_ORDER
                    and SIDES[side](self.issued[k][0], int(row)) and self.has_others(self.issued[k][1], self.issued[n][1], side)
                    for n in self.numbers(row, op))
 
     def has_others(self, one, other, side):
         """Whether the block has two of these labels of which the first comes later, or sooner if in the rows it comes `after`."""
-        here, there = ([i for i, it in enumerate(self.ops) if label(it) == label(op)] for op in (one, other))
+        here, there = ([i for i, own in enumerate(self.ops) if label(own) == label(op)] for op in (one, other))
         return any(i < o if side == "after" else o < i for i in here for o in there)
 
     def terms(self):
@@ -181,8 +181,8 @@ class Reasons:
 
     def stands_for(self, k, number, op):
         """Whether this operation of the block has its label, but reads something else."""
-        it, (here, there) = self.ops[int(number)], self.terms()
-        return str(it) == op and label(it) == label(self.issued[k][1]) and here[int(number)] != there[k]
+        own, (here, there) = self.ops[int(number)], self.terms()
+        return str(own) == op and label(own) == label(self.issued[k][1]) and here[int(number)] != there[k]
 
     def is_like_none(self, k):
         """Whether no operation of the block has its label and reads what it reads, and so on."""
@@ -192,14 +192,14 @@ class Reasons:
     def reads_others(self, k):
         """Whether it doesn't read what its counterpart reads: of a label the first is that of the block's first, and so on."""
         here, there = numbered(self.ops), numbered([op for _, op in self.issued])
-        wanted = [self.given[i] for i, it in enumerate(here) if it == there[k]]
+        wanted = [self.given[i] for i, other_label in enumerate(here) if other_label == there[k]]
         return any(names(here, given) != names(there, self.read[k]) for given in wanted)
 
 
 def numbered(ops):
     """The label of each operation, and how many of it come before."""
     labels = [label(op) for op in ops]
-    return [(it, labels[:k].count(it)) for k, it in enumerate(labels)]
+    return [(name, labels[:k].count(name)) for k, name in enumerate(labels)]
 
 
 def names(numbered, sources):

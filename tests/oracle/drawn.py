@@ -24,7 +24,7 @@ def lab_block(chance):
     def add(opcode, *numbers, fresh=None):
         op = Op(opcode, numbers)
         for known in (addresses, values):
-            known[:] = [it for it in known if it not in op.defined]
+            known[:] = [register for register in known if register not in op.defined]
         if fresh is not None:
             fresh += op.defined
         ops.append(op)

@@ -14,7 +14,7 @@ def nearest_pairs(schedule):
     longest = {}
     for i, j, d in schedule.pairs:
         longest[i, j] = max(d, longest.get((i, j), 0))
-    for (i, j), d in sorted(longest.items(), key=lambda it: (it[0][1], it[0][0])):
+    for (i, j), d in sorted(longest.items(), key=lambda entry: (entry[0][1], entry[0][0])):
         taker = "output" if schedule.ops[i].kind == "output" else "store"
         uses = set(schedule.ops[i].defined) & set(schedule.ops[j].used)
         if uses or not any(op.kind == taker for op in schedule.ops[i + 1:j]):

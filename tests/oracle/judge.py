@@ -91,7 +91,7 @@ class Entry:
         return f"cycles {self.cycles} ours {self.ours} least {self.least}{claimed}"
 
     def text(self, verdict, *below):
-        lines = [f"block {self.number} {self.block.name} {verdict} {self.numbers()}", *(f"  {it}" for it in below)]
+        lines = [f"block {self.number} {self.block.name} {verdict} {self.numbers()}", *(f"  {line}" for line in below)]
         return "".join(f"{line}\n" for line in lines)
 
     def settled(self):
@@ -167,7 +167,7 @@ def entries_of(given, latencies, start, outputs=False):
 
 
 def total(entries):
-    return "total {} ours {} least {}\n".format(*(sum(getattr(it, name) for it in entries)
+    return "total {} ours {} least {}\n".format(*(sum(getattr(entry, name) for entry in entries)
                                                   for name in ("cycles", "ours", "least")))
 
 

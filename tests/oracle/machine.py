@@ -113,7 +113,7 @@ def difference(ops, rows, latencies, start, outputs=False):
 
 def first_output(got, wanted):
     for k in range(max(len(got), len(wanted))):
-        one, other = (str(signed(it[k])) if k < len(it) else "none" for it in (got, wanted))
+        one, other = (str(signed(outputs[k])) if k < len(outputs) else "none" for outputs in (got, wanted))
         if one != other:
             return f"output {k + 1}: {one} for {other}"
 
@@ -142,7 +142,7 @@ def bad_row_text(row):
     zero, one = (op and {"load": "load or store", "store": "load or store", "mult": "product", "output": "output"}.get(op.kind)
                  for op in row)
     if zero and zero == one:
-        return f"{row_text(row)}: two {' or '.join(f'{it}s' for it in zero.split(' or '))}"
+        return f"{row_text(row)}: two {' or '.join(f'{rule}s' for rule in zero.split(' or '))}"
     return f"{row_text(row)}: a {'product on unit 0' if zero == 'product' else 'load or store on unit 1'}"
 
 

@@ -32,5 +32,5 @@ def printed(command, text):
     schedules = [Schedule(block.ops, USUAL) for block in blocks if command in ("schedule", "counts")]
     lines = [line for k, block in enumerate(blocks)
              for line in entry(command, f"block {k + 1} {block.name}", block.ops, lambda k=k: schedules[k], zeros)]
-    lines += [f"total {sum(it.cycles() for it in schedules)}"] if command in ("schedule", "counts") else []
+    lines += [f"total {sum(schedule.cycles() for schedule in schedules)}"] if command in ("schedule", "counts") else []
     return 0, "".join(f"{line}\n" for line in lines).encode(), b""

@@ -46,13 +46,13 @@ class Block:
 def operation_of(text):
     opcode, form = OPERATIONS.get(re.match(rb"\w*", text)[0], (None, None))
     found = form and form.fullmatch(text)
-    return Op(opcode, [int(it) for it in found.groups()]) if found else None
+    return Op(opcode, [int(digits) for digits in found.groups()]) if found else None
 
 
 def schedule_line(text):
     """The kind of a schedule line with what it says, or None."""
     if text[:1] == b"[" and text[-1:] == b"]":
-        slots = [operation_of(it.strip(BLANKS) or b"nop") for it in text[1:-1].split(b";")]
+        slots = [operation_of(slot.strip(BLANKS) or b"nop") for slot in text[1:-1].split(b";")]
         return None if None in slots or len(slots) > 2 else ("row", slots if len(slots) == 2 else single(*slots))
     if found := HEAD.fullmatch(text):
         return "head", (int(found[1]), found[2].decode())

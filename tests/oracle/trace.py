@@ -45,7 +45,7 @@ class Issued:
     def line(self, cycle, unit, log):
         reads = []
         for place in self.places:
-            due = min((it.due for it in log if it.place == place and it.due > cycle), default=None)
+            due = min((sent.due for sent in log if sent.place == place and sent.due > cycle), default=None)
             reads.append(f"{place} = {signed(self.value(place))}" + ("" if due is None else f" until {due}"))
         verb = " emits " if self.op.kind == "output" else " reads "
         return f"{'fault' if self.faults else 'issue'} {cycle} unit {unit} {self.op}" + (verb + ", ".join(reads) if reads else "")
@@ -53,7 +53,7 @@ class Issued:
 
 def held(arrived, place, start):
     """What a place has: the result that was due last, and issued last of those."""
-    found = [(it.due, number, it.word) for number, it in enumerate(arrived) if it.place == place]
+    found = [(sent.due, number, sent.word) for number, sent in enumerate(arrived) if sent.place == place]
     if found:
         return max(found)[2]
     return start(int(place.removeprefix("word ")) // 4) if place.startswith("word") else 0
@@ -63,11 +63,11 @@ def trace(rows, latencies, start):
     """The lines of a schedule on a memory."""
     log, lines = [], []
     for cycle in range(len(rows) + LONGEST):
-        arrived = [it for it in log if it.due < cycle]
-        for it in [it for it in log if it.due == cycle]:
-            was = signed(held(arrived, it.place, start))
-            lines.append(f"write {cycle} {it.place} = {signed(it.word)} was {was} from {it.issued}")
-            arrived.append(it)
+        arrived = [sent for sent in log if sent.due < cycle]
+        for sent in [sent for sent in log if sent.due == cycle]:
+            was = signed(held(arrived, sent.place, start))
+            lines.append(f"write {cycle} {sent.place} = {signed(sent.word)} was {was} from {sent.issued}")
+            arrived.append(sent)
         row = rows[cycle] if cycle < len(rows) else (None, None)
         slots = [op and Issued(op, cycle, latencies, arrived, start) for op in row]
         for unit, slot in enumerate(slots):

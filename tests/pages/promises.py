@@ -74,9 +74,9 @@ def promise_above(source, start):
         if not line.lstrip().startswith(("///", "#[")):
             break
         lines.append(line.strip())
-    text = "\n".join(it[3:].strip() for it in reversed(lines) if it.startswith("///"))
-    paragraphs = [" ".join(it.split()) for it in re.split(r"\n\n|\n(?=Promise: )", text)]
-    marked = [it.removeprefix("Promise: ") for it in paragraphs if it.startswith("Promise: ")]
+    text = "\n".join(line[3:].strip() for line in reversed(lines) if line.startswith("///"))
+    paragraphs = [" ".join(paragraph.split()) for paragraph in re.split(r"\n\n|\n(?=Promise: )", text)]
+    marked = [paragraph.removeprefix("Promise: ") for paragraph in paragraphs if paragraph.startswith("Promise: ")]
     said = " ".join(marked) or paragraphs[0]
     return said[:1].upper() + said[1:], bool(marked)
 
@@ -86,38 +86,38 @@ class Module:
 
     def __init__(self, path):
         self.source = read(path)
-        self.text = re.sub(r"//[^\n]*", lambda it: " " * len(it[0]), self.source)
+        self.text = re.sub(r"//[^\n]*", lambda comment: " " * len(comment[0]), self.source)
         self.names = imports(self.text)
 
     def rows(self, prefix, place, functions, names):
         """A row for each of these functions within a place."""
-        for it in functions.finditer(self.text, *place):
-            head = head_of(self.text, it)
+        for found in functions.finditer(self.text, *place):
+            head = head_of(self.text, found)
             clauses = list(CLAUSE.finditer(head))
             cited = cited_in(" ".join(head[clause.end():end_of(head, clause.end())] for clause in clauses), names)
-            promise, _ = promise_above(self.source, it.start())
-            yield Row(prefix + it["name"], promise, [clause[2] for clause in clauses if clause[1] == "ensures"], cited)
+            promise, _ = promise_above(self.source, found.start())
+            yield Row(prefix + found["name"], promise, [clause[2] for clause in clauses if clause[1] == "ensures"], cited)
 
     def ghosts(self, place, items, names):
         """The modules that these ghost items within a place cite."""
-        return set().union(*(cited_in(self.text[it.end():end_of(self.text, it.end())], names)
-                             for it in items.finditer(self.text, *place)))
+        return set().union(*(cited_in(self.text[found.end():end_of(self.text, found.end())], names)
+                             for found in items.finditer(self.text, *place)))
 
     def types(self, public):
         """A row for each public type. Its clause is the type itself where its comment marks a promise."""
-        for it in TYPE.finditer(self.text):
-            if it[1] in public:
-                end = end_of(self.text, it.end()) if it[0].endswith("{") else it.end()
-                promise, marked = promise_above(self.source, it.start())
-                cited = self.ghosts((it.start(), end), PUBLIC_GHOST, self.names)
-                yield Row(it[1], promise, ["the type"] * marked, cited)
+        for found in TYPE.finditer(self.text):
+            if found[1] in public:
+                end = end_of(self.text, found.end()) if found[0].endswith("{") else found.end()
+                promise, marked = promise_above(self.source, found.start())
+                cited = self.ghosts((found.start(), end), PUBLIC_GHOST, self.names)
+                yield Row(found[1], promise, ["the type"] * marked, cited)
 
     def blocks(self):
         """Each impl and trait: its place, which of both, its type, and the names that it and the file import."""
-        for it in BLOCK.finditer(self.text):
-            place = it.start(), end_of(self.text, it.end())
-            of = re.sub(r"<[^<>]*(<[^<>]*>)?[^<>]*>", "", it[2]).split(" for ")[-1].split(":")[0]
-            yield place, it[1], (WORD.findall(of) or [""])[0], {**self.names, **imports(self.text[slice(*place)])}
+        for found in BLOCK.finditer(self.text):
+            place = found.start(), end_of(self.text, found.end())
+            of = re.sub(r"<[^<>]*(<[^<>]*>)?[^<>]*>", "", found[2]).split(" for ")[-1].split(":")[0]
+            yield place, found[1], (WORD.findall(of) or [""])[0], {**self.names, **imports(self.text[slice(*place)])}
 
 
 class Crate:
@@ -125,11 +125,11 @@ class Crate:
         self.name = name
         folder = os.path.join(CRATES, name, "src")
         paths = (os.path.join(place, file) for place, _, files in os.walk(folder) for file in files)
-        self.files = {os.path.relpath(it, folder)[:-3]: Module(it) for it in paths if it.endswith(".rt")}
+        self.files = {os.path.relpath(path, folder)[:-3]: Module(path) for path in paths if path.endswith(".rt")}
         root = self.files["lib"]
         self.title = " ".join(re.match(r"(//! .*\n)+", root.source)[0].replace("//! ", "").split())
         uses = re.findall(r"^pub use ([^;]*);", root.text, re.MULTILINE)
-        self.names = {word for it in uses for word in WORD.findall(re.split(r"\{|::(?!.*\{)", it)[-1])}
+        self.names = {word for use in uses for word in WORD.findall(re.split(r"\{|::(?!.*\{)", use)[-1])}
         self.modules = set(re.findall(r"^pub mod (\w+);", root.text, re.MULTILINE))
 
     def rows(self):
@@ -159,7 +159,7 @@ def imports(text):
         place = (crate, module)
         if not names:
             found[other or module.split(".")[-1]] = place
-        for name in filter(None, (it.strip() for it in names.split(","))):
+        for name in filter(None, (name.strip() for name in names.split(","))):
             found[name.split(" as ")[-1]] = place
             for word in WORD.findall(name.split(" as ")[-1]):
                 found[word] = place
@@ -196,8 +196,8 @@ def listed(words):
 
 def line_of(row, crate):
     """The line of the table for a contract."""
-    clauses = " ".join(it if it == "the type" else f"`{it or 'ensures'}`" for it in row.clauses)
-    cited = sorted({module_of(it)[0] for it in row.cited})
+    clauses = " ".join(clause if clause == "the type" else f"`{clause or 'ensures'}`" for clause in row.clauses)
+    cited = sorted({module_of(place)[0] for place in row.cited})
     modules = " ".join(f"`{name}`" if of == crate.name else f"`{of}.{name}`" for of, name in cited)
     return f"| `{row.name}` | {row.promise} | {clauses} | {modules} |"
 
@@ -207,7 +207,7 @@ def section(crate, order):
     rows = list(crate.rows())
     found = reached(place for row in rows for place in row.cited)
     parts = []
-    for name in [crate.name, *(it for it in reversed(order) if it != crate.name)]:
+    for name in [crate.name, *(other for other in reversed(order) if other != crate.name)]:
         modules = sorted(f"`{module}`" for owner, module in found if owner == name)
         if modules:
             parts.append(("on " if name == crate.name else f"of `{name}` on ") + listed(modules))
@@ -219,14 +219,14 @@ def section(crate, order):
 def sections():
     """By crate what the page has to say of it, lowest first."""
     names = re.findall(r"^(\w+)(?: [^:\n]*)?:", read(os.path.join(TOP, "crates.txt")), re.MULTILINE)
-    libraries = [it for it in names if os.path.exists(os.path.join(CRATES, it, "src", "lib.rt"))]
-    return {it: section(Crate(it), names) for it in libraries if not it.endswith("_tests")}
+    libraries = [name for name in names if os.path.exists(os.path.join(CRATES, name, "src", "lib.rt"))]
+    return {name: section(Crate(name), names) for name in libraries if not name.endswith("_tests")}
 
 
 def faults():
     """By crate what is wrong with its section of the page: a contract without a sentence, or another text; else ''."""
     page = read(PAGE)
-    found = {it.split("\n", 1)[0]: f"## {it}".strip() for it in page.split("\n## ")[1:]}
+    found = {part.split("\n", 1)[0]: f"## {part}".strip() for part in page.split("\n## ")[1:]}
     due = sections()
     for name, text in due.items():
         silent = re.findall(r"^\| (`[\w:]+`) \|  \|", text, re.MULTILINE)

@@ -25,16 +25,16 @@ class Links(unittest.TestCase):
             with self.subTest(what):
                 first, *more = re.findall(r"`([\w/]+)`", specs)
                 crate, folder = first.split("/", 1)[0], os.path.dirname(first.removesuffix("/"))
-                for it in [first, *(f"{folder}/{name}" for name in more if name[0].isupper())]:
-                    self.assertTrue(os.path.exists(f"{CRATES}/{it}.antt") or os.path.isdir(f"{CRATES}/{it}"), it)
-                for it, name in re.findall(r"`([\w/]+(?:\.rt|/))`(?: \(`(\w+)`\))?", code):
-                    found = glob.glob(f"{CRATES}/{it}") or glob.glob(f"{CRATES}/{crate}/src/**/{it}", recursive=True)
-                    self.assertTrue(found, it)
+                for path in [first, *(f"{folder}/{name}" for name in more if name[0].isupper())]:
+                    self.assertTrue(os.path.exists(f"{CRATES}/{path}.antt") or os.path.isdir(f"{CRATES}/{path}"), path)
+                for path, name in re.findall(r"`([\w/]+(?:\.rt|/))`(?: \(`(\w+)`\))?", code):
+                    found = glob.glob(f"{CRATES}/{path}") or glob.glob(f"{CRATES}/{crate}/src/**/{path}", recursive=True)
+                    self.assertTrue(found, path)
                     self.assertTrue(not name or f"fn {name}" in read(found[0]), name)
-                for it, name in re.findall(r"`([\w/]+)` \(`(\w+)`\)", specs):
-                    self.assertIn(f"{name} :", read(f"{CRATES}/{it}.antt"))
-                for it in re.findall(r"`([\w/]+)`", tests):
-                    self.assertTrue(glob.glob(f"{TOP}/{it}*") or glob.glob(f"{CRATES}/{it}*"), it)
+                for path, name in re.findall(r"`([\w/]+)` \(`(\w+)`\)", specs):
+                    self.assertIn(f"{name} :", read(f"{CRATES}/{path}.antt"))
+                for path in re.findall(r"`([\w/]+)`", tests):
+                    self.assertTrue(glob.glob(f"{TOP}/{path}*") or glob.glob(f"{CRATES}/{path}*"), path)
 
     def test_costs(self):
         ran = subprocess.run([f"{TOP}/tests/studies/reach"], capture_output=True, text=True)

@@ -13,7 +13,7 @@ class Promises(unittest.TestCase):
 
     def test_readme(self):
         """Each contract that README's table names is a row of the page, in the section of its crate."""
-        page = {it.split("\n", 1)[0]: it for it in read(PAGE).split("\n## ")}
+        page = {part.split("\n", 1)[0]: part for part in read(PAGE).split("\n## ")}
         rows = re.findall(r"^\| *(?:`(iloc_\w+)`)? *\| .* \| (`[^|]*`) \|$", read(f"{TOP}/README.md"), re.M)
         crate = ""
         for named, calls in rows:

@@ -59,7 +59,7 @@ class Symbols:
     def asker(self, report):
         """What asked for the growth that was refused: the innermost call that isn't a list's own."""
         places = (self.place(address) for address in report.calls if address)
-        return next((it for it in places if not GROWS.match(it)), "nobody known")
+        return next((place for place in places if not GROWS.match(place)), "nobody known")
 
     def is_of_a_start(self, report):
         """Whether the growth is the library's own, as it starts a thread: the program's all go by its allocator."""

@@ -57,7 +57,7 @@ REFUSED = [b"error: NoMemory\n", b"error: AllocError\n", b"error: AllocFailed { 
 
 def is_told(ending):
     status, _, said = ending
-    return status != 0 and any(said.startswith(it) for it in REFUSED)
+    return status != 0 and any(said.startswith(error) for error in REFUSED)
 
 
 class Growths(Case):
