@@ -1,5 +1,5 @@
-# What ilocfarm, build and package share. They may be started anywhere, also by links, and work at the top of the repository;
-# $here is where they were started.
+# What ilocfarm, build and package share. They may be started anywhere, also by links, and work at the top of the
+# repository; $here is where they were started.
 say() {
     echo "ilocfarm: $*" >&2
 }

@@ -25,7 +25,8 @@ class Edit:
         return any(CONSTANT.match(old) for _, old, _ in self.changes)
 
     def change(self, texts, folder):
-        """Adds the files that it changes, of the crate in this folder, as it makes them of these texts and the others."""
+        """Adds the files that it changes of the crate in this folder, as it makes them of these texts, else of its
+        own."""
         for name, old, new in self.changes:
             text = texts.get(name) or read(f"{folder}/{name}")
             if text.count(old) != 1:

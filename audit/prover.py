@@ -37,7 +37,7 @@ def linked_if_proved(one, other):
 
 
 class Prover:
-    """For the functions of one crate, over the libraries below it: those in this folder, or those in the crates' own."""
+    """For the functions of one crate, over the libraries below it: those in this folder, or the crates' own."""
 
     def __init__(self, top, name, libraries):
         self.folder, self.name, self.uses, self.libraries = f"{top}/crates", name, uses_of(top), libraries
@@ -46,7 +46,8 @@ class Prover:
 
     def all_below(self, name):
         """The crates of the repository that this one uses, lowest first."""
-        return [*dict.fromkeys(lower for used in self.uses[name] if used in self.uses for lower in (*self.all_below(used), used))]
+        return [*dict.fromkeys(lower for used in self.uses[name] if used in self.uses
+                               for lower in (*self.all_below(used), used))]
 
     def rlib(self, name):
         return f"{self.libraries or f'{self.folder}/{name}/out/rlib'}/{name}.rlib"

@@ -3,7 +3,8 @@ import re
 
 from edit import BadEdit
 
-PLACE = re.compile(r"(note: )?(?:what antt said of a `search` [^:]*: )?(?:\./)?(\S+?):\d+:\d+: (error: )?(?:(`[^`]*`): )?(.*)")
+PLACE = re.compile(
+    r"(note: )?(?:what antt said of a `search` [^:]*: )?(?:\./)?(\S+?):\d+:\d+: (error: )?(?:(`[^`]*`): )?(.*)")
 VERDICT = re.compile(r"fn \w+::(\S+): ")
 QUOTED = re.compile(r"`[^`]*`")
 # What is said of a text that can't be read. One that reads, and is false, is reported in other words.
@@ -54,7 +55,8 @@ class Said:
             return None
         folder = f"proofs/{function.replace('::', '/')}/"
         of_proof = [place[0] for place in self.in_proofs if place[2].startswith(folder)]
-        goals = [goal for goal in of_proof if not GONE.search(goal)] + [place[0] for place in self.in_bodies.get(function, [])]
+        goals = [goal for goal in of_proof if not GONE.search(goal)]
+        goals += [place[0] for place in self.in_bodies.get(function, [])]
         if goals:
             return goals[0]
         if of_proof:

@@ -35,12 +35,14 @@ class Ratios:
 
     def texts(self):
         numbers = (self.mean(), self.at(0.9), self.sorted[-1])
-        return [self.column.name, str(self.cycles), f"{100 * self.share(1):.0f} %", *(f"{number:.3f}" for number in numbers)]
+        return [self.column.name, str(self.cycles), f"{100 * self.share(1):.0f} %",
+                *(f"{number:.3f}" for number in numbers)]
 
 
 def step_for(length):
     """A round number, of which at most six make this length."""
-    return next(digit * 10 ** zeros for zeros in itertools.count(-2) for digit in (1, 2, 5) if length <= 6 * digit * 10 ** zeros)
+    return next(digit * 10 ** zeros for zeros in itertools.count(-2)
+                for digit in (1, 2, 5) if length <= 6 * digit * 10 ** zeros)
 
 
 class Curve:
@@ -98,7 +100,8 @@ class Curve:
         return svg.group(": ".join([ratios.column.name, ", ".join(self.told(ratios))]), line, *marks)
 
     def told(self, ratios):
-        return [f"{value} {head}" if head != "cycles" else f"{value} cycles" for head, value in zip(HEADS[1:], ratios.texts()[1:])]
+        return [f"{value} {head}" if head != "cycles" else f"{value} cycles"
+                for head, value in zip(HEADS[1:], ratios.texts()[1:])]
 
     def table(self):
         y = TOP + HEIGHT + 72

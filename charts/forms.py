@@ -9,7 +9,8 @@ FORMS = {
     "multI": "u, c => d", "lshiftI": "u, c => d", "rshiftI": "u, c => d", "loadAI": "u, c => d", "storeAI": "u => u, c",
 }
 ROLES = {opcode: re.findall("[udc]", form) for opcode, form in FORMS.items()}
-SPELLED = {opcode: f"{opcode} {re.sub('[ud]', 'r{}', form).replace('c', '{}')}".strip() for opcode, form in FORMS.items()}
+SPELLED = {opcode: f"{opcode} {re.sub('[ud]', 'r{}', form).replace('c', '{}')}".strip()
+           for opcode, form in FORMS.items()}
 
 
 def kind_of(opcode):

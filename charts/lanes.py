@@ -96,7 +96,8 @@ class Chart:
         marked = {"stroke": mark, "stroke_width": 2} if mark else {}
         x, y = self.starts[operation.unit], self.y(operation.cycle)
         dot = [svg.mark(0, x, y + HEIGHT / 2, PATH, DOT)] if operation.number in self.path else []
-        return [svg.rectangle(x, y + 1, self.boxes[operation.unit], HEIGHT - 2, COLOURS[operation.kind()], class_="box", **marked), *dot,
+        return [svg.rectangle(x, y + 1, self.boxes[operation.unit], HEIGHT - 2, COLOURS[operation.kind()], class_="box",
+                              **marked), *dot,
                 svg.text(x + 6, y + 13, operation.label(), "on")]
 
     def parts(self):
@@ -108,7 +109,8 @@ class Chart:
         bars = {id(operation): self.bar(operation, lane) for flights in self.flights for operation, lane in flights}
         for operation in self.block.operations:
             told = "\n".join([operation.told(self.latencies), *self.block.wrong.get(operation.cycle, [])])
-            yield svg.group(told, *bars.get(id(operation), []), *self.box(operation), data_op=f"{operation.cycle}.{operation.unit}")
+            yield svg.group(told, *bars.get(id(operation), []), *self.box(operation),
+                            data_op=f"{operation.cycle}.{operation.unit}")
 
     def picture(self):
         return svg.picture(self.width, self.y(self.block.cycles) + HEIGHT + MARGIN, self.title(), self.parts())

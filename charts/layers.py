@@ -23,7 +23,7 @@ def layered(count, edges):
 
 
 def placed(layers, paths, widths):
-    """By node its middle. A sweep sorts each layer by what its nodes are linked to in the layer before, and moves them there."""
+    """By node its middle. A sweep sorts and moves each layer by what its nodes are linked to in the layer before."""
     links = [pair for path in paths.values() for pair in zip(path, path[1:])]
     x = {node: 60.0 * k for layer in layers for k, node in enumerate(layer)}
     for sweep in range(SWEEPS):
@@ -31,14 +31,16 @@ def placed(layers, paths, widths):
         for i, j in links:
             near.setdefault(i if sweep % 2 else j, []).append(j if sweep % 2 else i)
         for layer in layers[::-1] if sweep % 2 else layers:
-            wanted = {node: fsum(x[n] for n in near[node]) / len(near[node]) if node in near else x[node] for node in layer}
+            wanted = {node: fsum(x[n] for n in near[node]) / len(near[node]) if node in near else x[node]
+                      for node in layer}
             layer.sort(key=wanted.get)
             x.update(spread(layer, wanted, widths))
     return x
 
 
 def spread(layer, wanted, widths):
-    """Near where the nodes are wanted, in this order: halfway between as far right as they are pushed and as far left."""
+    """Near where the nodes are wanted, in this order: halfway between as far right and as far left as they are
+    pushed."""
     apart = [(widths.get(a, 0) + widths.get(b, 0)) / 2 + GAP for a, b in zip(layer, layer[1:])]
     right, left = ([wanted[node] for node in layer] for _ in range(2))
     for k, least in enumerate(apart):
@@ -75,7 +77,8 @@ class Drawing:
         chained, faint = {*zip(chain, chain[1:])}, {*implied(len(self.labels), self.edges)}
         for edge in sorted(self.edges, key=lambda edge: edge not in faint):
             colour = WRONG if edge[:2] in early else CHAIN if edge[:2] in chained else svg.INK
-            yield link(*edge, [self.at[node] for node in self.paths[edge[:2]]], colour, edge in faint and colour == svg.INK)
+            yield link(*edge, [self.at[node] for node in self.paths[edge[:2]]], colour,
+                       edge in faint and colour == svg.INK)
 
     def boxes(self, kinds, places, chain):
         """The operations, marked by where they are issued."""
@@ -83,7 +86,8 @@ class Drawing:
             (x, y), width = self.at[k], self.widths[k]
             outline = {"stroke": CHAIN, "stroke_width": 2} if k in chain else {}
             box = svg.rectangle(x - width / 2, y, width, HEIGHT, COLOURS[kinds[k]], class_="box", **outline)
-            yield svg.group(label, box, svg.text(x, y + 15, label, "on", text_anchor="middle"), data_op=places.get(k, ""))
+            yield svg.group(label, box, svg.text(x, y + 15, label, "on", text_anchor="middle"),
+                            data_op=places.get(k, ""))
 
     def picture(self, title, kinds, places, chain, early):
         right = max(self.at[k][0] + self.widths.get(k, 0) / 2 for k in self.at) + MARGIN

@@ -107,7 +107,8 @@ class Listed:
             self.rows += 1
         elif found := EXPLAINED.fullmatch(line):
             number, cycle, unit, ready, after, priority, source, spelling = found.groups()
-            made = Operation(spelling, count(cycle), int(unit), count(number), source, count(ready), after, count(priority))
+            made = Operation(spelling, count(cycle), int(unit), count(number), source, count(ready), after,
+                             count(priority))
             self.operations.append(made)
             self.rows = max(self.rows, made.cycle + 1)
         elif found := CYCLES.fullmatch(line):
@@ -126,8 +127,8 @@ class Listed:
         return max((operation.arrival(latencies) for operation in self.operations), default=0)
 
     def latencies(self, asked):
-        """Those that an explanation shows, since an operation is ready when the last of its delays ends, and of other kinds
-        those asked for. A delay on a store by a load or a store may be one of memory, which says nothing."""
+        """Those that an explanation shows, since an operation is ready when the last of its delays ends, and of other
+        kinds those asked for. A delay on a store by a load or a store may be one of memory, which says nothing."""
         issued, shown = {operation.number: operation for operation in self.operations}, dict(asked)
         for operation in self.operations:
             for awaited in (issued.get(count(k)) for k in NUMBER.findall(operation.after)):
@@ -138,10 +139,11 @@ class Listed:
         return shown
 
     def check(self, latencies):
-        """Refuses latencies that the listing can't have: it has other cycles then, or reads a register too early. In the
-        order of the block a register holds what was defined last; in a listing without it each is defined once."""
+        """Refuses latencies that the listing can't have: it has other cycles then, or reads a register too early. In
+        the order of the block a register holds what was defined last; in a listing without it each is defined once."""
         explained = any(operation.source for operation in self.operations)
-        arrivals = {} if explained else {operation.defined(): operation.arrival(latencies) for operation in self.operations}
+        arrivals = {} if explained else {operation.defined(): operation.arrival(latencies)
+                                         for operation in self.operations}
         too_early = False
         for operation in sorted(self.operations, key=lambda operation: operation.number):
             too_early = too_early or any(arrivals.get(name, 0) > operation.cycle for name in operation.used())

@@ -67,7 +67,8 @@ def turn_of(operations, turn):
     candidates = [] if turn["ready"] == "-" else turn["ready"].split(",")
     ready = "".join(candidate_of(operations, candidate) for candidate in candidates)
     what, how, where = turn["next"].split() if turn["next"] != "-" else ("", "", "")
-    comes = {"held": f"{where} keeps {what} out", "at": f"next {what}, in cycle {where}"}.get(how, "nothing comes later")
+    comings = {"held": f"{where} keeps {what} out", "at": f"next {what}, in cycle {where}"}
+    comes = comings.get(how, "nothing comes later")
     return (f'<li data-first="{turn["first"]}" data-last="{turn["last"] or turn["first"]}" hidden>'
             f"<ol>{ready or '<li>nothing</li>'}</ol><p>{comes}</p></li>")
 
@@ -89,8 +90,8 @@ def said_of(block):
 def section(block):
     chart = Chart(block, block.shown)
     return part("section.html").format(
-        number=block.number, title=escape(chart.title()), said=said_of(block), judged="wrong" if block.is_wrong() else "",
-        last=block.last(), top=TOP, height=HEIGHT, source=source_of(block), timeline=chart.picture(),
+        number=block.number, title=escape(chart.title()), said=said_of(block), judged="wrong" if block.is_wrong()
+        else "", last=block.last(), top=TOP, height=HEIGHT, source=source_of(block), timeline=chart.picture(),
         ready=ready_of(block), graph=graph_of(block), trace=escape("\n".join(block.trace)))
 
 

@@ -33,8 +33,8 @@ def number(value):
 
 def element(name, content=None, **attributes):
     """An element; an underscore in an attribute's name stands for a hyphen."""
-    given = "".join(f' {key.rstrip("_").replace("_", "-")}="{escape(number(value) if isinstance(value, float) else str(value))}"'
-                    for key, value in attributes.items())
+    texts = {key: number(value) if isinstance(value, float) else str(value) for key, value in attributes.items()}
+    given = "".join(f' {key.rstrip("_").replace("_", "-")}="{escape(text)}"' for key, text in texts.items())
     return f"<{name}{given}/>" if content is None else f"<{name}{given}>{content}</{name}>"
 
 
@@ -52,9 +52,10 @@ def line(x1, y1, x2, y2, **attributes):
 
 
 def mark(shape, x, y, colour, size=5):
-    """A dot, square, diamond, two triangles or a cross: columns are told apart by the shape too, and not by colours alone."""
+    """A dot, square, diamond, two triangles or a cross: columns are told apart by shapes too, not by colours alone."""
     half = size - 0.5
-    corners = ([(-half, -half), (half, -half), (half, half), (-half, half)], [(0, -size), (size, 0), (0, size), (-size, 0)],
+    corners = ([(-half, -half), (half, -half), (half, half), (-half, half)],
+               [(0, -size), (size, 0), (0, size), (-size, 0)],
                [(0, -size), (size, half), (-size, half)], [(0, size), (size, -half), (-size, -half)],
                [(-half, -half), (0, -1), (half, -half), (1, 0), (half, half), (0, 1), (-half, half), (-1, 0)])
     if shape == 0:

@@ -34,9 +34,11 @@ class Traced(Listed):
     def arrive(self, line, cycle, place, begun):
         """A result that arrives shows how long its operation took."""
         def sends(operation):
-            return operation.kind() == "store" if place.startswith("word") else operation.spelling.endswith(f"=> {place}")
+            is_word = place.startswith("word")
+            return operation.kind() == "store" if is_word else operation.spelling.endswith(f"=> {place}")
 
-        senders = [operation for operation in self.operations[-RECENT:] if operation.cycle == count(begun) and sends(operation)]
+        senders = [operation
+                   for operation in self.operations[-RECENT:] if operation.cycle == count(begun) and sends(operation)]
         if not senders:
             raise Unread(f"no operation before sends what arrives: {line}")
         self.shown[senders[0].kind()] = count(cycle) - count(begun)
@@ -66,7 +68,7 @@ class Traced(Listed):
             self.operations, self.chain, self.path = known, other.chain, other.path
 
     def number_alike(self):
-        """Gives operations of rows the numbers of those in the block that are written alike, in the order of their issue."""
+        """Gives operations of rows, in order of issue, the numbers of those in the block that are written alike."""
         left = {}
         for number, spelling in sorted(self.source.items(), reverse=True):
             left.setdefault(spelling, []).append(number)

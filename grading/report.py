@@ -120,7 +120,8 @@ def picture(students, tasks):
 
 def cycles(students, tasks):
     """The cycles of who passes anything, by student and task, as a table and a picture."""
-    ranked = sorted((student for student in students if ratios(student)), key=lambda student: (-len(ratios(student)), sum(ratios(student))))
+    ranked = sorted((student for student in students if ratios(student)),
+                    key=lambda student: (-len(ratios(student)), sum(ratios(student))))
     if not ranked:
         return ""
     heads = "".join(f"<th>{escape(shown(task.name))}</th>" for task in tasks)

@@ -36,7 +36,8 @@ def files_of(data):
         return ((entry.filename, entry.file_size, partial(archive.open, entry)) for entry in archive.infolist()
                 if not entry.is_dir() and not stat.S_ISLNK(entry.external_attr >> 16))
     archive = tarfile.open(fileobj=io.BytesIO(data), mode="r:")
-    return ((entry.name, entry.size, partial(archive.extractfile, entry)) for entry in archive if entry.isreg() and not entry.issparse())
+    return ((entry.name, entry.size, partial(archive.extractfile, entry))
+            for entry in archive if entry.isreg() and not entry.issparse())
 
 
 def members(name, data):

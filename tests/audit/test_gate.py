@@ -1,4 +1,4 @@
-""".ci/run with the repository's build and audit/run, and stand-ins for the toolchain, the suites and Debian's packages."""
+""".ci/run with the repository's build and audit/run, and stand-ins for toolchain, suites and Debian's packages."""
 import os
 import shutil
 import signal

@@ -39,12 +39,13 @@ SAID = {
     "other": ("fn high::f: proved\nonly=1 proved=1\n", 0),
     "wrong": (GOAL + NOT_PROVED, 1),
     "unanswered": ("./proofs/f/Answers.antt:3:9: error: `returns`: the two types differ\n" + NOT_PROVED, 1),
-    "searched": ("note: what antt said of a `search` in the proof that rattle made: src/lib.rt:1:4: error: `returns`: give the call "
-                 "less to do\n" + NOT_PROVED, 1),
+    "searched": ("note: what antt said of a `search` in the proof that rattle made: src/lib.rt:1:4: error: `returns`: "
+                 "give the call less to do\n" + NOT_PROVED, 1),
     "unread": ("src/lib.rt:1:10: error: expected an expression\n", 1),
     "misnamed": ("src/lib.rt:1:10: error: `returns`: `y` is not in scope\n" + NOT_PROVED, 1),
     "gone": ("./proofs/f/Answers.antt:3:9: error: `returns`: `c.x` is not in scope\n" + NOT_PROVED, 1),
-    "gone_below": ("./proofs/f/Answers.antt:3:9: error: `returns`: record `In-Err` (nearest: .y)\n  has no field `x`\n" + NOT_PROVED, 1),
+    "gone_below": ("./proofs/f/Answers.antt:3:9: error: `returns`: record `In-Err` (nearest: .y)\n  has no field `x`\n"
+                   + NOT_PROVED, 1),
     "no_function": ("rattle: --only f fits nothing\n", 2),
     "unknown": ("rattle: no verdict\n", 3),
 }
@@ -62,10 +63,10 @@ FAIL = {
     "text_that_does_not_read": ("unread", f"{NO_START}{SAID['unread'][0].strip()}", {}),
     "name_that_is_not_there": ("misnamed", f"{UNREAD}{SAID['misnamed'][0].splitlines()[0]}", {}),
     "proof_that_names_what_is_gone": ("gone", f"{GONE}{SAID['gone'][0].splitlines()[0]}", {}),
-    "proof_that_names_it_on_two_lines": ("gone_below", f"{GONE}{' '.join(map(str.strip, SAID['gone_below'][0].splitlines()[:2]))}", {}),
+    "proof_that_names_it_on_two_lines":
+    ("gone_below", f"{GONE}{' '.join(map(str.strip, SAID['gone_below'][0].splitlines()[:2]))}", {}),
     "function_that_is_not_there": ("no_function", f"{NO_START}{SAID['no_function'][0].strip()}", {}),
-    "no_verdict": ("unknown", f"{NO_START}{SAID['unknown'][0].strip()}", {}),
-}
+    "no_verdict": ("unknown", f"{NO_START}{SAID['unknown'][0].strip()}", {}),}
 # Edits of another form, and what is said of them.
 OTHER_FORMS = {
     "no_function_named": ("file: src/lib.rt\nold: right\nnew: wrong\n", WANTS),
@@ -100,8 +101,8 @@ class Repository(InFolder):
 
     def started(self, name, *words, **more):
         given = {"PATH": f"{self.path('kit/bin')}:{os.environ['PATH']}", "TEST": self.folder, **more}
-        started = subprocess.Popen([self.path(f"top/{name}"), *words], env=given, stdin=subprocess.PIPE, stdout=subprocess.PIPE,
-                                   stderr=subprocess.PIPE, text=True)
+        started = subprocess.Popen([self.path(f"top/{name}"), *words], env=given, stdin=subprocess.PIPE,
+                                   stdout=subprocess.PIPE, stderr=subprocess.PIPE, text=True)
         self.addCleanup(lambda: (started.kill(), started.communicate()))
         return started
 
@@ -126,7 +127,8 @@ class Audit(Repository):
         self.expect("status", status, 0)
         self.expect("lines", lines, [f"refused high/returns_another: {GOAL.strip()}",
                                 *(f"refused high/{name}: {SAID[said][0].splitlines()[0]}"
-                                  for name, said in (("returns_nothing", "unanswered"), ("returns_what_is_far", "searched"))),
+                                  for name, said in (("returns_nothing", "unanswered"),
+                                                     ("returns_what_is_far", "searched"))),
                                 "3 passed, 0 failed"])
         checks = self.asked("checked")
         self.expect("checks, each first without edits", len(checks), 6)
@@ -147,7 +149,8 @@ class Audit(Repository):
         """In a crate that the gate has proved, which isn't checked once more."""
         self.edit("first", "wrong", **GATES)
         self.edit("second", "other")
-        self.expect("the gate", self.status_and_lines("--gate"), (0, [f"refused high/first: {GOAL.strip()}", "1 passed, 0 failed"]))
+        self.expect("the gate", self.status_and_lines("--gate"),
+                    (0, [f"refused high/first: {GOAL.strip()}", "1 passed, 0 failed"]))
         self.expect("checks", len(self.asked("checked")), 1)
         self.expect("last line of all", self.status_and_lines()[1][-1], "1 passed, 1 failed")
 
@@ -162,7 +165,8 @@ class Audit(Repository):
         self.edit("fourth", "other", **GATES, **OF_G)
         status, lines = self.status_and_lines("--gate")
         self.expect("status with one more of a function", status, 1)
-        self.expect("lines", lines, [goals[0], "FAILED high/fourth: it is still proved", goals[1], "2 passed, 1 failed"])
+        self.expect("lines", lines,
+                    [goals[0], "FAILED high/fourth: it is still proved", goals[1], "2 passed, 1 failed"])
         self.expect("checks", len(self.asked("checked")), 3)
         self.status_and_lines()
         self.expect("checks of all, first without edits", len(self.asked("checked")), 7)

@@ -64,7 +64,8 @@ class Suites(InFolder):
         return started.returncode, out, out.splitlines()[-1]
 
     def events(self):
-        return [line.split() for line in self.text("events").splitlines()] if os.path.exists(self.path("events")) else []
+        return [line.split()
+                for line in self.text("events").splitlines()] if os.path.exists(self.path("events")) else []
 
     def test_each_is_shown_whole(self):
         status, out, last = self.ended("one", "two/test_dies")

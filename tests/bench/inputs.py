@@ -18,15 +18,16 @@ from limits import MAX_NUMBER, MOST_BLOCKS, MOST_BYTES, MOST_OPERATIONS  # noqa:
 
 # Operations, what each of their numbers is, and how often they come.
 MIX = [
-    ("load", "address target", 3), ("store", "left address", 2), ("loadI", "small target", 2), ("loadI", "large target", 1),
-    ("add", "left right target", 3), ("sub", "left right target", 1), ("mult", "left right target", 2),
-    ("lshift", "left right target", 1), ("rshift", "left right target", 1), ("addI", "left small target", 2),
-    ("subI", "left small target", 1), ("multI", "left small target", 1), ("lshiftI", "left shift target", 1),
-    ("rshiftI", "left shift target", 1), ("loadAI", "address offset target", 2), ("storeAI", "left address offset", 1),
-    ("output", "offset", 1), ("nop", "", 1),
+    ("load", "address target", 3), ("store", "left address", 2), ("loadI", "small target", 2),
+    ("loadI", "large target", 1), ("add", "left right target", 3), ("sub", "left right target", 1),
+    ("mult", "left right target", 2), ("lshift", "left right target", 1), ("rshift", "left right target", 1),
+    ("addI", "left small target", 2), ("subI", "left small target", 1), ("multI", "left small target", 1),
+    ("lshiftI", "left shift target", 1), ("rshiftI", "left shift target", 1), ("loadAI", "address offset target", 2),
+    ("storeAI", "left address offset", 1), ("output", "offset", 1), ("nop", "", 1),
 ]
 OPERATION = re.compile(rb"(?m)^(?:\w+:)?[ \t]*[a-z]+I?[ \t]")
-FORMS = [SPELLED[opcode].format(*(f"{{{name}}}" for name in names.split())) for opcode, names, times in MIX for _ in range(times)]
+FORMS = [SPELLED[opcode].format(*(f"{{{name}}}" for name in names.split())) for opcode, names, times in MIX
+         for _ in range(times)]
 
 
 class Draw:

@@ -29,7 +29,7 @@ class Result:
 
 @dataclass
 class Counts:
-    """What a program executes: instructions, reads and writes of data, and branches that a simple predictor gets wrong."""
+    """What a program executes: instructions, reads and writes of data, and mispredicted branches."""
     instructions: int
     data: int
     mispredicted: int
@@ -87,7 +87,8 @@ def counted(words, given, output):
     with open(given, "rb") as text, open(output, "wb") as shown:
         said = subprocess.run([*COUNTER, f"--cachegrind-out-file={events}", *words], stdin=text, stdout=shown,
                               stderr=subprocess.PIPE).stderr
-    lines = dict(line.split(b": ", 1) for line in contents(events).splitlines() if line.startswith((b"events: ", b"summary: ")))
+    lines = dict(line.split(b": ", 1)
+                 for line in contents(events).splitlines() if line.startswith((b"events: ", b"summary: ")))
     if len(lines) != 2:
         sys.exit(f"{sys.argv[0]}: {words[0]} isn't counted: {said[-200:].decode()}")
     of = dict(zip(lines[b"events"].decode().split(), map(int, lines[b"summary"].split())))

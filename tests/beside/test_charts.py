@@ -64,7 +64,8 @@ class Charts(Place):
             root = ElementTree.fromstring(self.read(f"docs/{name}.svg"))
             style = root.find(f"{SVG}style").text
             inks = INKS.search(style).groups()
-            self.expect(f"{name}: classes of texts", {text.get("class").split()[0] for text in root.iter(f"{SVG}text")} <= {"ink", "on"}, True)
+            self.expect(f"{name}: classes of texts",
+                        {text.get("class").split()[0] for text in root.iter(f"{SVG}text")} <= {"ink", "on"}, True)
             self.read_well(set(zip(inks, GROUNDS.values())))
             boxes = {group.findall(f"{SVG}rect")[-1].get("fill") for group in root.iter(f"{SVG}g")
                      if any(part.get("class") == "on" for part in group)}
@@ -106,14 +107,14 @@ class Charts(Place):
         self.expect("title", root.find(f"{SVG}title").text, "block 1: 13 cycles, at least 13")
 
     def test_timeline_draws_the_latencies_of_an_explanation(self):
-        """Whatever the options say of kinds that it shows: no operation waits last for the product. Of a path that leaves the
-        chain each operation has its dot."""
+        """Whatever the options say of kinds that it shows: no operation waits last for the product. Of a path that
+        leaves the chain each operation has its dot."""
         words = ("--load", "9", "--store", "2", "--mult", "4")
         listing = self.call("ilocfarm", "explain", *words, given=BLOCK)[1]
         for options, product in (((), 3), (("--load", "3", "--mult", "4"), 4), (words, 4)):
             root = self.picture("charts/timeline", *options, given=listing)
-            bars = {group.find(f"{SVG}text").text[:1]: (height(group.find(f"{SVG}rect")) + 3) / 18 for group in root.iter(f"{SVG}g")
-                    if len(group.findall(f"{SVG}rect")) == 2}
+            bars = {group.find(f"{SVG}text").text[:1]: (height(group.find(f"{SVG}rect")) + 3) / 18
+                    for group in root.iter(f"{SVG}g") if len(group.findall(f"{SVG}rect")) == 2}
             self.expect(f"bars with {options}", bars, {"2": product, "3": 9, "5": 2})
         listing = self.call("ilocfarm", "explain", given=self.read("examples/class/dan.iloc"))[1]
         self.expect("path", b"path 0 +1 1 +5 2 +5 3 =1 4 +5 5 +1 6 +5 7 +1\n" in listing, True)
@@ -152,7 +153,7 @@ class Charts(Place):
         self.expect("tooltips", tooltips(root), issued)
 
     def test_timeline_of_rows_alone(self):
-        """Rows as a student hands them in: comments, no header, any claim of cycles or none, operations that come early."""
+        """Rows as handed in: comments, no header, any claim of cycles or none, operations that come early."""
         for rows, cycles in ((self.read("examples/class/submissions/ada/both.rows"), 16),
                              (self.read("examples/class/submissions/fay/both.rows"), 21),
                              (b"[ loadI 1 => r1;nop ]  // one\r\n\n[ nop ; add r1, r1 => r1 ]\n", 2)):
@@ -170,9 +171,11 @@ class Charts(Place):
             self.expect("title", root.find(f"{SVG}title").text, "block 1 both: 15 cycles, wrong")
             marked = [group.find(f"{SVG}title").text for group in root.iter(f"{SVG}g")
                       if any(part.get("stroke") == WRONG_OUTLINE for part in group)]
-            self.expect("wrong", marked, ["add r1, r2 => r3\nunit 0, issued at 6, arrives at 7\n"
-                                          "row 6: add r1, r2 => r3 reads r2, which row 2: loadAI r0, 4 => r2 brings in row 7"])
-        root = self.picture("charts/timeline", given=b"[ ]\n[ multI r1, 2 => r2 ]\n[ ; output 4 ]\nblock 1 - units cycles 4 ours 4 least 4\n"
+            self.expect("wrong", marked, ["add r1, r2 => r3\nunit 0, issued at 6, arrives at 7\nrow 6: add r1, r2 "
+                                          "=> r3 reads r2, which row 2: loadAI r0, 4 => r2 brings in row 7"])
+        root = self.picture(
+            "charts/timeline",
+            given=b"[ ]\n[ multI r1, 2 => r2 ]\n[ ; output 4 ]\nblock 1 - units cycles 4 ours 4 least 4\n"
                             b"  row 2: [ nop ; output 4 ]\ntotal 4 ours 4 least 4\n")
         self.expect("rows of one operation", tooltips(root), ["multI r1, 2 => r2\nunit 1, issued at 1, arrives at 4",
                     "output 4\nunit 1, issued at 2, arrives at 3\nrow 2: [ nop ; output 4 ]"])
@@ -189,14 +192,16 @@ class Charts(Place):
         self.expect("status", self.call("charts/timeline", "--load", "17", given=listing)[0], 2)
 
     def test_timeline_of_hostile_texts(self):
-        """What can't be drawn is said in a line; what is drawn is XML, whatever the bytes, in time that grows with the text."""
+        """What can't be drawn is said in a line; what is drawn is XML, whatever the bytes, and soon there."""
         late = EXPLAINED.replace(b"6 cycle 12", b"6 cycle 200000").replace(b"cycles 13", b"cycles 200001")
         for given, said in (
                 (b"[ ]\ncycles " + b"9" * 5000, b"a number of 5000 digits: 9999999999.."),
                 (EXPLAINED.replace(b"after 5", b"after 8"), b"operation 6 waited for 8, which the listing hasn't"),
-                (EXPLAINED.replace(b"cycle 1 unit 1", b"cycle 1 unit 0"), b"block 1 has two operations on one unit in one cycle"),
+                (EXPLAINED.replace(b"cycle 1 unit 1", b"cycle 1 unit 0"),
+                 b"block 1 has two operations on one unit in one cycle"),
                 (late, b"block 1 takes 200001 cycles: at most 160000 are drawn")):
-            self.expect(f"{given[:40]}", self.call("charts/timeline", given=given), (1, b"", b"charts/timeline: " + said + b"\n"))
+            self.expect(f"{given[:40]}", self.call("charts/timeline", given=given),
+                        (1, b"", b"charts/timeline: " + said + b"\n"))
         begun = time.monotonic()
         self.picture("charts/timeline", given=b"[ " + b";" * 1_000_000 + b" ]")
         self.picture("charts/timeline", given=b"[ load r1 => r2 ]\n" * 10_000)
@@ -207,7 +212,8 @@ class Charts(Place):
     def test_timeline_of_changed_texts(self):
         """Of listings with other bytes in them, each is drawn as XML, or refused by one line."""
         chance, begun = random.Random(69), (EXPLAINED, self.read("examples/class/submissions/ada/both.rows"))
-        bytes_of = [b";", b"[", b"]", b"\0", b"\x0c", b"\xff", b"\xef\xbf\xbe", b"99999999999", b"-1", b"\xd9\xa3", b" ; ", b"\npath 1"]
+        bytes_of = [b";", b"[", b"]", b"\0", b"\x0c", b"\xff", b"\xef\xbf\xbe", b"99999999999", b"-1", b"\xd9\xa3",
+                    b" ; ", b"\npath 1"]
         for _ in range(100):
             text = bytearray(chance.choice(begun))
             for _ in range(chance.randrange(1, 4)):
@@ -216,7 +222,8 @@ class Charts(Place):
             status, out, err = self.call("charts/timeline", given=bytes(text))
             if status == 0:
                 ElementTree.fromstring(out)
-            self.expect(f"{bytes(text)}", (status in (0, 1), err.count(b"\n"), err.startswith(b"charts/timeline: ") or not err),
+            self.expect(f"{bytes(text)}",
+                        (status in (0, 1), err.count(b"\n"), err.startswith(b"charts/timeline: ") or not err),
                         (True, status, True))
 
     def test_graph(self):
@@ -234,9 +241,12 @@ class Charts(Place):
         words = ("--load", "3", "--store", "3", "--mult", "2")
         dot = self.call("ilocfarm", "graph", *words, given=self.read("examples/book.iloc"))[1].decode()
         root = ElementTree.fromstring(self.read("docs/graph.svg"))
-        titles = [part.find(f"{SVG}title").text for part in root.iter(f"{SVG}g") if part.get("class") in ("node", "edge")]
-        self.expect("edges", sorted(title for title in titles if ">" in title), sorted(f"b{k}_{i}->b{k}_{j}" for k, i, j, _ in EDGE.findall(dot)))
-        self.expect("nodes", sorted(title for title in titles if ">" not in title), sorted(re.findall(r"^        (\w+) \[label", dot, re.MULTILINE)))
+        titles = [part.find(f"{SVG}title").text
+                  for part in root.iter(f"{SVG}g") if part.get("class") in ("node", "edge")]
+        self.expect("edges", sorted(title for title in titles if ">" in title),
+                    sorted(f"b{k}_{i}->b{k}_{j}" for k, i, j, _ in EDGE.findall(dot)))
+        self.expect("nodes", sorted(title for title in titles if ">" not in title),
+                    sorted(re.findall(r"^        (\w+) \[label", dot, re.MULTILINE)))
 
     def test_compare(self):
         self.write("one", b"block 1 - cycles 4\nblock 2 b cycles 20\ntotal 24\n")
@@ -246,7 +256,8 @@ class Charts(Place):
         texts = [text.text for text in root.iter(f"{SVG}text")]
         self.expect("totals", texts[-3:], ["total", "24", "6"])
         first, second = [group.findall(f"{SVG}circle")[0] for group in root.iter(f"{SVG}g")]
-        scale = {text.text: float(text.get("x")) for text in root.iter(f"{SVG}text") if text.get("text-anchor") == "middle"}
+        scale = {text.text: float(text.get("x"))
+                 for text in root.iter(f"{SVG}text") if text.get("text-anchor") == "middle"}
         self.expect("a mark is at its cycles", float(second.get("cx")), scale["20"])
         self.expect("and between", float(first.get("cx")), (4 * scale["0"] + scale["20"]) / 5)
 
@@ -266,7 +277,8 @@ class Charts(Place):
         self.expect("the table's picture", self.call("charts/compare", "table"), drawn)
         marks = {"least": 21, "chain": 22, "slack": 23, "descendants": 22, "successors": 21, "latency": 21, "order": 21}
         told = tooltips(ElementTree.fromstring(drawn[1]))[0].splitlines()
-        self.expect("tooltip", (told[0], sorted(told[1:])), ("1 dot", sorted(f"{name}: {cycles}" for name, cycles in marks.items())))
+        self.expect("tooltip", (told[0], sorted(told[1:])),
+                    ("1 dot", sorted(f"{name}: {cycles}" for name, cycles in marks.items())))
         self.write("counts", self.call("ilocfarm", "counts", given=given)[1])
         told = tooltips(self.picture("charts/compare", "one=table", "counts"))[0].splitlines()
         self.expect("names", (told[1], told[7]), ("one chain: 22", "counts: 22"))
@@ -336,10 +348,12 @@ class Charts(Place):
         self.write("digits", b"block 1 - cycles " + b"9" * 5000 + b"\n")
         for words, said in ((["one", "two"], b"the listings have 1, 2 blocks: only the same ones can be compared"),
                             (["one", "none"], b"none: there is no block"),
-                            (["one", "other"], b"other: line 2 is none of a listing of counts, check or compare: [ nop ; nop ]"),
+                            (["one", "other"],
+                             b"other: line 2 is none of a listing of counts, check or compare: [ nop ; nop ]"),
                             (["one", "digits"], b"a number of 5000 digits: 9999999999.."),
                             (["one"], b"one listing of counts or check can't be compared: give another"),
                             (["both"], b"both: the blocks are listed in more than one way")):
-            self.expect(f"compare {words}", self.call("charts/compare", *words), (1, b"", b"charts/compare: " + said + b"\n"))
+            self.expect(f"compare {words}", self.call("charts/compare", *words),
+                        (1, b"", b"charts/compare: " + said + b"\n"))
         self.expect("status", self.call("charts/compare")[0], 2)
         self.expect("status", self.call("charts/compare", "one", "nowhere")[0], 4)

@@ -1,4 +1,4 @@
-"""Cases of docs/GRADING.md, docs/STUDENTS.md and docs/COMPARING.md: their commands print what is shown, and make the pictures that it shows."""
+"""Cases of docs/: the commands of GRADING, STUDENTS and COMPARING print what is shown, and make their pictures."""
 import re
 
 from harness.place import Place, crates_of, shown_on
@@ -29,12 +29,14 @@ class Guide(Place):
         """README's picture of the book's example, which takes the book's 13 cycles."""
         words = ("--load", "3", "--store", "3", "--mult", "2")
         explained = self.call("ilocfarm", "explain", *words, given=self.read("examples/book.iloc"))[1]
-        self.expect("docs/book.svg", self.call("charts/timeline", *words, given=explained)[1], self.read("docs/book.svg"))
+        self.expect("docs/book.svg", self.call("charts/timeline", *words, given=explained)[1],
+                    self.read("docs/book.svg"))
 
     def test_library(self):
         """docs/LIBRARY.md shows the program of crates/iloc_least, and the lines of crates.txt that it needs."""
         text = self.text("docs/LIBRARY.md")
-        program = "".join(f"    {line}".rstrip() + "\n" for line in self.text(f"{TOP}/crates/iloc_least/src/main.rt").splitlines())
+        program = "".join(f"    {line}".rstrip() + "\n"
+                          for line in self.text(f"{TOP}/crates/iloc_least/src/main.rt").splitlines())
         self.expect("the program is shown", program in text, True)
         shown = dict(re.findall(r"^    (iloc_\w+|yours): (.*)$", text, re.MULTILINE))
         shown["iloc_least"] = shown.pop("yours")

@@ -18,7 +18,8 @@ COMPLETIONS = (
     (["run", "--"], "--at --where --help"),
     (["counts", "--load", ""], ""),
     (["counts", "--load", "1", "--m"], "--mult"),
-    (["check", "--"], "--at --load --store --mult --nodes --task --either-slot --lawful --operations --outputs --csv --json --help"),
+    (["check", "--"],
+     "--at --load --store --mult --nodes --task --either-slot --lawful --operations --outputs --csv --json --help"),
     (["help", "c"], "counts compare check"),
     (["counts", "--priority", ""], PRIORITIES),
     (["schedule", "--load", "1", "--priority", "s"], "slack successors"),
@@ -56,11 +57,13 @@ IN_FISH = (
     ("ilocfarm si", "simulate\tSchedule each block, and run the schedule\n"),
     ("ilocfarm counts --wo", "--workers\tHow many workers share the blocks, 1 to 8 [default: 2]\n"),
     ("ilocfarm run < examples/fir", "examples/first.iloc\n"),
-    ("ilocfarm explain --priority s", "".join(f"{name}\tWhat goes first: chain, slack, descendants, successors, latency or order "
-                                              "[default: chain]\n" for name in ("slack", "successors"))),
+    ("ilocfarm explain --priority s",
+     "".join(f"{name}\tWhat goes first: chain, slack, descendants, successors, latency or order "
+             "[default: chain]\n" for name in ("slack", "successors"))),
     ("ilocview time", "timeline\ta schedule: units over cycles\n"),
     ("ilocview page examples/fir", "examples/first.iloc\n"),
-    ("ilocgrade --policy b", "best\tfull points for passing, or for as few cycles as ours, the bound, or the best of the class "
+    ("ilocgrade --policy b",
+     "best\tfull points for passing, or for as few cycles as ours, the bound, or the best of the class "
                              "[ours]\n"),
 )
 READS_TERMINAL = "ilocfarm: reading {} from the terminal; Ctrl-D on a line of its own ends them\n"
@@ -121,11 +124,13 @@ class Manual(Place):
 
     def test_page_has_the_words_of_listings(self):
         """Each field, verdict and member that docs/LANGUAGE.md lists is on the page."""
-        listings = self.text("docs/LANGUAGE.md").partition("\n## Listings\n")[2].partition("\n## Faults of the program\n")[0]
+        page = self.text("docs/LANGUAGE.md")
+        listings = re.search("\n## Listings\n(.*)\n## Faults of the program\n", page, re.DOTALL)[1]
         named = re.findall(r"^- (`[^`]*`(?:, `[^`]*`)*): ", listings, re.MULTILINE)
         words = [word for words in named for word in re.findall("`([^`]+)`", words) if not word.startswith("line n: ")]
         page = " ".join(re.sub(r'^\.\w+ |"|\\&', "", self.text(PAGE), flags=re.MULTILINE).split())
-        self.expect("words that the page lacks", ([word for word in words if word not in page], len(words) > 20), ([], True))
+        self.expect("words that the page lacks", ([word for word in words if word not in page], len(words) > 20),
+                    ([], True))
 
     def test_page_examples(self):
         text = self.text(PAGE)
@@ -138,7 +143,8 @@ class Manual(Place):
         top = self.call("ilocfarm", "--help")
         self.expect("help", self.call("ilocfarm", "help"), top)
         self.expect("-h", self.call("ilocfarm", "-h"), top)
-        missing = [limit for limit in (MOST_BYTES, MOST_BLOCKS, MOST_OPERATIONS, MAX_NUMBER) if str(limit).encode() not in top[1]]
+        missing = [limit for limit in (MOST_BYTES, MOST_BLOCKS, MOST_OPERATIONS, MAX_NUMBER)
+                   if str(limit).encode() not in top[1]]
         self.expect("limits that the help leaves out", missing, [])
         for name in self.commands_of():
             if name != "help":
@@ -183,9 +189,10 @@ class Manual(Place):
     def test_tells_that_it_reads_a_terminal(self):
         """What a command reads is said on a terminal; nothing is by another, nor by one that is refused."""
         task = self.path("examples/first.iloc")
-        for words, status, told in ((["run"], 0, "blocks"), (["simulate", "3"], 0, "blocks"), (["check"], 1, "blocks and rows"),
-                                    (["check", "--task", task], 5, "rows"), (["explain", "--task", task], 5, "rows"),
-                                    (["run", "--help"], 0, ""), (["--version"], 0, ""), (["help", "run"], 0, ""), (["run", "x"], 2, "")):
+        for words, status, told in ((["run"], 0, "blocks"), (["simulate", "3"], 0, "blocks"),
+                                    (["check"], 1, "blocks and rows"), (["check", "--task", task], 5, "rows"),
+                                    (["explain", "--task", task], 5, "rows"), (["run", "--help"], 0, ""),
+                                    (["--version"], 0, ""), (["help", "run"], 0, ""), (["run", "x"], 2, "")):
             with terminal() as (screen, slave):
                 screen.type("\x04")
                 done = subprocess.run([TESTED.program, *words], stdin=slave, capture_output=True, timeout=SECONDS)
@@ -206,11 +213,13 @@ class Manual(Place):
             self.expect(f"{words} {given}: ending", (done.returncode, done.stdout), (piped.returncode, piped.stdout))
 
     def test_names_of_files(self):
-        """A file's name is answered, before the usage, by how the command is given the file; no advice is refused too."""
+        """A file's name is answered, before the usage, by how a command is given the file; no refused advice is
+        given."""
         for name in self.commands_of():
             if name != "help":
                 status, out, err = self.call("ilocfarm", name, "task.iloc")
-                self.expect(f"{name} task.iloc", (status, out, f"ilocfarm {name} < FILE" in err.decode().partition("Usage")[0]),
+                self.expect(f"{name} task.iloc",
+                            (status, out, f"ilocfarm {name} < FILE" in err.decode().partition("Usage")[0]),
                             (2, b"", True))
         for words in (["run", "-1"], ["run", "--workers", "3"], ["check", "-x"], ["simulate", "--", "-1"]):
             self.expect(f"{words}: advises `--`", b"-- " in self.call("ilocfarm", *words)[2], False)
@@ -222,7 +231,8 @@ class Manual(Place):
 
     def test_tests_want_a_program(self):
         """tests/run ends with a message where it is given no program, or no suite."""
-        for words, said in ((["--program", "nosuch"], "tests/run: nosuch is no program\n"), (["nosuch"], "tests/run: there is no suite nosuch\n")):
+        for words, said in ((["--program", "nosuch"], "tests/run: nosuch is no program\n"),
+                            (["nosuch"], "tests/run: there is no suite nosuch\n")):
             self.expect(f"tests/run {words}", self.call(f"{TOP}/tests/run", *words), (1, b"", said.encode()))
         status, out, err = self.call(f"{TOP}/tests/run", "--help")
         self.expect("usage", (status, b"--program" in out, err), (0, True, b""))

@@ -1,5 +1,5 @@
-"""Cases of charts/page in a browser: what each cycle shows beside the trace, keys, links, what a screen reader meets, narrow
-and printed; and pages of odd listings."""
+"""Cases of charts/page in a browser: what each cycle shows beside the trace, keys, links, what a screen reader meets,
+narrow and printed; and pages of odd listings."""
 import random
 import re
 
@@ -29,7 +29,7 @@ def traced(lines, number=1):
 
 
 def state_at(lines, cycle):
-    """By place its value after the results of the cycle have arrived: the first that the trace has, or what was written."""
+    """By place its value after a cycle's results have arrived: the first that the trace has, or what was written."""
     first, values = {}, {}
     for line in lines:
         if found := WRITE.fullmatch(line):
@@ -44,7 +44,8 @@ def state_at(lines, cycle):
 def sender(lines, write):
     """Where the operation was issued whose result this is."""
     return next(f"{issue[2]}.{issue[3]}" for issue in filter(None, map(ISSUE.fullmatch, lines)) if issue[2] == write[5]
-                and (issue[4].startswith("store") if write[2].startswith("word") else issue[4].endswith(f"=> {write[2]}")))
+                and (issue[4].startswith("store")
+                     if write[2].startswith("word") else issue[4].endswith(f"=> {write[2]}")))
 
 
 class Page(Place):
@@ -68,7 +69,8 @@ class Page(Place):
         task = f"{CLASS}/tasks/both.iloc"
         rows = ("--task", task, "3", "4")
         return (self.listings(("graph",), given=self.read(task))
-                + self.listings(("trace", *rows), ("check", *rows), given=self.read(f"{CLASS}/submissions/ben/both.rows")))
+                + self.listings(("trace", *rows), ("check", *rows),
+                                given=self.read(f"{CLASS}/submissions/ben/both.rows")))
 
     def block(self, text, *options):
         return self.listings(("explain", *options), ("explain", "--cycles", *options), ("graph", *options),
@@ -97,7 +99,7 @@ class Page(Place):
         return sorted(self.value(f'[...document.querySelectorAll("{where}.{kind}")].map(it => it.dataset.op)'))
 
     def shows(self, lines, cycle, last):
-        """Registers, words, results under way, emitted words, events, and what is marked in block, schedule and graph."""
+        """Registers, words, results under way, emitted words, events, and marks in block, schedule and graph."""
         now = [line for line in lines if int(line.split()[1]) == cycle]
         self.expect("output", self.said(), f"cycle {cycle} of {last}")
         self.expect("events", self.texts(".events li"), now or ["nothing arrives, and nothing is issued"])
@@ -106,9 +108,12 @@ class Page(Place):
             shown = dict(text.split(" = ") for text in self.texts(f".{what} li") if " = " in text)
             wanted = {place.removeprefix("word "): value for place, value in state.items() if place.startswith(kind)}
             self.expect(what, shown, {place: wanted.get(place) for place in shown})
-            self.expect(f"hidden {what}", [value for place, value in wanted.items() if place not in shown and value != "0"], [])
-        flights = [write for write in filter(None, map(WRITE.fullmatch, lines)) if int(write[5]) <= cycle < int(write[1])]
-        self.expect("flights", sorted(self.texts(".flights li")), sorted(f"{write[2]} = {write[3]} at {write[1]}" for write in flights) or ["nothing"])
+            self.expect(f"hidden {what}",
+                        [value for place, value in wanted.items() if place not in shown and value != "0"], [])
+        flights = [write
+                   for write in filter(None, map(WRITE.fullmatch, lines)) if int(write[5]) <= cycle < int(write[1])]
+        self.expect("flights", sorted(self.texts(".flights li")),
+                    sorted(f"{write[2]} = {write[3]} at {write[1]}" for write in flights) or ["nothing"])
         emitted = [line.split()[-1] for line in lines if int(line.split()[1]) <= cycle and " emits " in line]
         self.expect("emitted", self.texts(".emitted li"), emitted or ["nothing"])
         issued = sorted(f"{issue[2]}.{issue[3]}" for issue in map(ISSUE.fullmatch, now) if issue)
@@ -143,7 +148,8 @@ class Page(Place):
         self.value('document.querySelector("input").focus()')
         self.browser.key("ArrowRight", 3)
         self.expect("at the slider, one step each", self.said(), "cycle 3 of 15")
-        self.expect("its words", self.value('document.querySelector("input").getAttribute("aria-valuetext")'), self.said())
+        self.expect("its words", self.value('document.querySelector("input").getAttribute("aria-valuetext")'),
+                    self.said())
         self.value('document.querySelector(".timeline").focus()')
         self.browser.key("ArrowRight")
         self.expect("in a box that scrolls", self.said(), "cycle 3 of 15")
@@ -154,12 +160,13 @@ class Page(Place):
         seen = []
         for _ in range(8):
             self.browser.key("Tab")
-            seen.append(self.value("document.activeElement.getAttribute('aria-label') || document.activeElement.textContent"))
+            seen.append(
+                self.value("document.activeElement.getAttribute('aria-label') || document.activeElement.textContent"))
         self.expect("order", seen[:3], ["one cycle back", "cycle", "one cycle on"])
         self.expect("the trace", "The trace" in seen, True)
 
     def test_early_read(self):
-        """A row in what `check` says leads to its cycle, where reader, register and result are marked, and the delay."""
+        """A row in what `check` says leads to its cycle, where reader, register, result and delay are marked."""
         self.open(self.ben())
         self.value('document.querySelector(".said a").click()')
         self.value("new Promise(done => setTimeout(done, 50))")
@@ -196,7 +203,8 @@ class Page(Place):
         for part in (("group", "the schedule"), ("heading", title), ("slider", "cycle"), ("button", "one cycle on"),
                      ("image", title), ("image", "dependence graph of block 1")):
             self.expect(part, part in met, True)
-        self.expect("without a name", [part for part in met if part[0] in ("button", "slider", "link", "image") and not part[1]], [])
+        self.expect("without a name",
+                    [part for part in met if part[0] in ("button", "slider", "link", "image") and not part[1]], [])
 
     def test_narrow(self):
         self.browser.size(400, 800)
@@ -221,7 +229,7 @@ class Page(Place):
         self.expect("last", self.said(), "cycle 16 of 16")
 
     def test_markup(self):
-        """Texts of a listing that was made for it are shown as they are, or refused: no element and no script comes of them."""
+        """Hostile texts of a listing are shown as they are, or refused: no element and no script comes of them."""
         bad = "<img/src=x/onerror=document.title='had'></pre><script>document.title='had'</script>"
         trace = ("issue 0 unit 0 add r1, r1 => r1 reads r1 = 3\nwrite 1 r1 = 6 was 3 from 0\n",
                  f"  row 0: {bad}\n", f'        b1_0 [label="0: {bad}\\npriority 1"];\n')
@@ -232,7 +240,8 @@ class Page(Place):
             self.expect(where, bad in self.texts(where)[0], True)
         for line in (f"issue 0 unit 0 {bad}", f"issue 0 unit 0 nop reads {bad}", f"write 1 {bad} = 1 was 0 from 0"):
             status, out, err = self.call("charts/page", given=f"block 1 -\nissue 0 unit 0 nop\n{line}\n".encode())
-            self.expect(line, (status, out, err.startswith(b"charts/page: line 3 is none of a listing")), (1, b"", True))
+            self.expect(line, (status, out, err.startswith(b"charts/page: line 3 is none of a listing")),
+                        (1, b"", True))
 
     def test_odd_listings(self):
         """Cut off, of two versions, none: refused with the reason, or joined as far as it goes."""
@@ -241,7 +250,8 @@ class Page(Place):
         for given, said in (
                 (b"", b"there is no trace of a block"),
                 (self.listings(("graph",), given=FAULTS), b"there is no trace of a block"),
-                (trace[:-3], b"line "), (trace.replace(b"issue 0", b"issue 5"), b"no operation before sends what arrives: ")):
+                (trace[:-3], b"line "),
+                (trace.replace(b"issue 0", b"issue 5"), b"no operation before sends what arrives: ")):
             status, out, err = self.call("charts/page", given=given)
             self.expect(said, (status, out, err.startswith(b"charts/page: " + said)), (1, b"", True))
         explained = self.listings(("explain", "--load", "9"), given=self.read(f"{CLASS}/tasks/both.iloc"))
@@ -252,7 +262,8 @@ class Page(Place):
         """Ten thousand operations: the graph isn't drawn, and the page steps."""
         text = b"".join(b"load r%d => r%d\n" % (k % 50, k % 50 + 1) for k in range(10_000))
         self.open(self.block(text))
-        self.expect("graph", "Its graph isn't drawn: it has more than 60 operations." in self.texts(".panels > p"), True)
+        self.expect("graph", "Its graph isn't drawn: it has more than 60 operations." in self.texts(".panels > p"),
+                    True)
         self.value("location.hash = '#1.4000'")
         self.value("new Promise(done => setTimeout(done, 50))")
         self.expect("cycle", self.said().split(" of ")[0], "cycle 4000")

@@ -1,4 +1,5 @@
-"""Devices that fail, are full, closed, slow or have no end, what is read of a long text, and the memory that a run holds."""
+"""Devices that fail, are full, closed, slow or endless, what is read of a long text, and the memory that a run
+holds."""
 import os
 import resource
 import select
@@ -29,7 +30,8 @@ def device_cases():
     for command in ALL:
         yield from inputs(command)
         yield from outputs(command)
-        yield Check(f"device/little_room/{command}", little_room, [command], b"strict" if command == "graph" else b"block 1 -")
+        yield Check(f"device/little_room/{command}", little_room, [command],
+                    b"strict" if command == "graph" else b"block 1 -")
     yield Check("device/little_room/help", little_room, ["--help"], b"List")
     yield Run("device/little_room_to_tell", ["run"], BAD, b"", b"ilocfarm", 1, with_room(8, "stderr"))
     yield refused("device/line_comes_before_input", b"", b"--at is not a multiple of 4", 2, ["run", "--at", "2"],
@@ -47,8 +49,8 @@ def device_cases():
         yield refused(f"device/longest_fault/{command}", b"\n" * 16_000_000 + b"nop\n" * 10_001,
                       b"line 16010001: more than 10000 operations in a block", 1, [command])
     fives = b"".join(b"block %d A\n5\n" % k for k in range(1, MOST_BLOCKS + 1))
-    yield listed("device/most_blocks_in_little_memory", b"A: output 0\n" * MOST_BLOCKS, fives, ["run", "--at", "0", "5"],
-                 by=in_little_memory)
+    yield listed("device/most_blocks_in_little_memory", b"A: output 0\n" * MOST_BLOCKS, fives,
+                 ["run", "--at", "0", "5"], by=in_little_memory)
 
 
 def inputs(command):

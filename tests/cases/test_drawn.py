@@ -42,7 +42,8 @@ def listing(command, blocks, latencies, by="chain"):
         others = {"explain": lambda: [head, *schedule.lines()], "graph": lambda: cluster(k, f"B{k}", schedule),
                   "cycles": lambda: [head, *ready_lines(schedule), schedule.summary()],
                   "trace": lambda: [head, *trace(schedule.rows, latencies, words_from(0, WORDS))]}
-        lines += others[command]() if command in others else entry(command, head, ops, lambda: schedule, words_from(0, WORDS))
+        lines += others[command]() if command in others else entry(command, head, ops, lambda: schedule,
+                                                                   words_from(0, WORDS))
         total += cycles
     ending = {"run": [], "simulate": [], "trace": [], "graph": ["}"]}.get(command, [f"total {total}"])
     lines[:0] = [OPENING] if command == "graph" else []
@@ -131,20 +132,24 @@ def made(name, blocks, latencies):
         yield listed(f"drawn/{name}/{command}", text_of(blocks), listing(command, blocks, latencies), [command, *words])
     yield listed(f"drawn/{name}/cycles", text_of(blocks), listing("cycles", blocks, latencies),
                  ["explain", "--cycles", *words_for(latencies)])
-    yield listed(f"drawn/{name}/run_where", text_of(blocks), places(blocks), ["run", "--where", "--at", "0", *map(str, WORDS)])
+    yield listed(f"drawn/{name}/run_where", text_of(blocks), places(blocks),
+                 ["run", "--where", "--at", "0", *map(str, WORDS)])
     yield from by_orders(name, blocks, latencies)
 
 
 def by_orders(name, blocks, latencies):
     text, words = text_of(blocks), words_for(latencies)
     for tag, sought, more in (("", None, []), ("_unsearched", unsearched(blocks, latencies), ["--nodes", "0"])):
-        yield listed(f"drawn/{name}/compare{tag}", text, comparison(blocks, latencies, sought), ["compare", *more, *words])
+        yield listed(f"drawn/{name}/compare{tag}", text, comparison(blocks, latencies, sought),
+                     ["compare", *more, *words])
         yield listed(f"drawn/{name}/compare_csv{tag}", text, comparison_table(blocks, latencies, sought),
                      ["compare", "--csv", *more, *words])
-    yield listed(f"drawn/{name}/optimize", text, best_of_orders(blocks, latencies), ["optimize", "--nodes", "0", *words])
+    yield listed(f"drawn/{name}/optimize", text, best_of_orders(blocks, latencies),
+                 ["optimize", "--nodes", "0", *words])
     by = random.Random(name).choice(ORDERS)
     rows = [[Schedule(ops, latencies, by).cycles()] for ops in blocks]
-    yield listed(f"drawn/{name}/counts_csv", text, table_of(["cycles"], rows), ["counts", "--csv", "--priority", by, *words])
+    yield listed(f"drawn/{name}/counts_csv", text, table_of(["cycles"], rows),
+                 ["counts", "--csv", "--priority", by, *words])
     for command in ("schedule", "counts", "explain"):
         yield listed(f"drawn/{name}/{command}_by_{by}", text, listing(command, blocks, latencies, by),
                      [command, "--priority", by, *words])

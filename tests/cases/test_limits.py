@@ -64,7 +64,8 @@ def schedules():
         yield listed("made/stores_and_loads", pairs, b"block 1 - cycles 30004\ntotal 30004\n", words)
         yield listed("made/most_blocks_counted", b"A:\n" * MOST_BLOCKS, empty + b"total 0\n", words)
     constants = b"".join(b"loadI %d => r7\n" % k for k in range(MOST_OPERATIONS))
-    rows = b"".join(b"[ loadI %d => r%d ; loadI %d => r%d ]\n" % (k, k, k + 1, k + 1) for k in range(0, MOST_OPERATIONS, 2))
+    rows = b"".join(b"[ loadI %d => r%d ; loadI %d => r%d ]\n" % (k, k, k + 1, k + 1)
+                    for k in range(0, MOST_OPERATIONS, 2))
     yield listed("made/numbers_of_up_to_four_digits", constants,
                  b"block 1 -\n" + rows + b"cycles 5000\ntotal 5000\n", ["schedule"])
     yield listed("made/most_nops", b"nop\n" * MOST_OPERATIONS, b"block 1 -\ncycles 0\ntotal 0\n", ["schedule"])

@@ -10,8 +10,8 @@ WRONG = [(line.encode("latin-1"), what, int(at)) for line, what, at in rows_of(f
 MARKED = "the text begins with a byte-order mark: save it without one"
 UTF_16 = "the text is in UTF-16: save it as UTF-8"
 NO_OPERATION = 'expected an operation or "//", found '
-# Lines by which a text's encoding shows where they are the first: what is said of them there, what elsewhere, and how many
-# bytes can be read.
+# Lines by which a text's encoding shows where they are the first: what is said of them there, what elsewhere, and how
+# many bytes can be read.
 ENCODED = [
     (b"\xef\xbb\xbfnop", MARKED, NO_OPERATION + "a byte-order mark", 0),
     (b"\xff\xfen\0o\0p\0", UTF_16, NO_OPERATION + "byte 0xFF", 0),
@@ -103,7 +103,8 @@ def wrong_first():
     """Where the first fault isn't that of `run`, or a text without its faulty lines is refused."""
     for line, _, _ in WRONG:
         given = b"nop\n" + line + b"\nadd r1\n"
-        numbers = [int(line.split(b":")[0][5:]) for line in ending(["lint"], given)[1].split(b"\n") if line.startswith(b"line ")]
+        numbers = [int(line.split(b":")[0][5:])
+                   for line in ending(["lint"], given)[1].split(b"\n") if line.startswith(b"line ")]
         said = ending(["run"], given)[2]
         if not said.startswith(b"ilocfarm: line %d: " % numbers[0]):
             yield f"{line}: {said} of line {numbers[0]}"

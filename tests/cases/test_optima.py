@@ -1,5 +1,5 @@
-"""`optimize`, `compare --nodes` and `check --nodes`: beside an exact search, beside `check`, and on blocks that are hard to search or aren't
-searched."""
+"""`optimize`, `compare --nodes` and `check --nodes`: beside an exact search, beside `check`, and on blocks that are
+hard to search or aren't searched."""
 import json
 import random
 import re
@@ -58,14 +58,15 @@ def exact(count):
 
 def compared(blocks, latencies, sought, words):
     """Where `compare` lists anything but these bounds and best cycles beside the orders', in lines or in a table."""
-    for due, form in ((comparison(blocks, latencies, sought), []), (comparison_table(blocks, latencies, sought), ["--csv"])):
+    for due, form in ((comparison(blocks, latencies, sought), []),
+                      (comparison_table(blocks, latencies, sought), ["--csv"])):
         end = ending(["compare", *words, *words_for(latencies), *form], text_of(blocks))
         if end != (0, due, b""):
             yield f"{[[*map(str, ops)] for ops in blocks]}, {words}, {latencies}: {end} in place of {due}"
 
 
 def exact_beside_orders(count):
-    """With ample nodes `compare` lists the fewest cycles for the bound and for the best, and counts the orders that reach them."""
+    """With ample nodes `compare` lists the fewest cycles as bound and best, and counts the orders that reach them."""
     chance = random.Random("compared optima")
     for _ in range(0, count, TOGETHER):
         latencies = odd_latencies(chance)
@@ -86,8 +87,8 @@ def as_optimized(count):
 
 
 def checked(count):
-    """`check` has the best cycles and the bound after ours, also in JSON: with ample nodes both are the fewest cycles, which
-    the rows take that are handed in."""
+    """`check` has the best cycles and the bound after ours, also in JSON: with ample nodes both are the fewest cycles,
+    which the rows take that are handed in."""
     chance = random.Random("checked optima")
     for _ in range(0, count, TOGETHER):
         latencies = odd_latencies(chance)
@@ -113,8 +114,8 @@ def verdicts(found):
 
 
 def verdict_objects(found, blocks):
-    nothing = {"claimed": None, "void": None, "difference": None, "memory": None, "left_out": None, "added": None, "reasons": [],
-               "more": 0}
+    nothing = {"claimed": None, "void": None, "difference": None, "memory": None, "left_out": None, "added": None,
+               "reasons": [], "more": 0}
     rows = [{"block": k, "name": f"B{k}", "verdict": "lawful", "passes": True, "rows": len(block.rows), "cycles": best,
              "ours": ours, "best": best, "bound": bound, "least": least, **nothing, "claimed": best}
             for k, ((ours, best, bound, least), block) in enumerate(zip(found, blocks), 1)]
@@ -143,7 +144,8 @@ def in_closed_form():
     """Blocks of one class, all alike, and without an edge, whose fewest cycles are known."""
     n = MOST_SEARCHED
     constants = [Op("loadI", [k, k]) for k in range(n)]
-    return [(repeated("mult", [0, 0, 1], n), n + 2), (repeated("output", [4], n), n), (repeated("store", [0, 1], n), n + 4),
+    return [(repeated("mult", [0, 0, 1], n), n + 2), (repeated("output", [4], n), n),
+            (repeated("store", [0, 1], n), n + 4),
             (repeated("loadAI", [0, 4, 1], n), n + 4), (repeated("addI", [1, 1, 1], n), n), (constants, n // 2),
             (repeated("add", [0, 0, 1], n), n // 2), ([], 0), (repeated("nop", [], 3), 0)]
 
@@ -164,7 +166,7 @@ def loads_with_sums(count):
 
 
 def by_one_node():
-    """A load is alone in the first row, so the others need a row more than the least says: one set of windows shows it."""
+    """A load is alone in the first row, so the others need a row more than the least: one set of windows shows it."""
     latencies = {"load": 1, "store": 1, "mult": 1}
     counts = range(4, MOST_SEARCHED // 3 + 1, 12)
     blocks = [loads_with_sums(count) for count in counts]
@@ -180,7 +182,8 @@ def hard_block(count):
     chance = random.Random(count)
     made = [Op("multI", [0, k, k + 1]) for k in range(count // 3)]
     while len(made) < count:
-        made.append(Op(chance.choice(["mult", "add"]), [1 + chance.randrange(len(made)), 1 + chance.randrange(len(made)), len(made) + 1]))
+        made.append(Op(chance.choice(["mult", "add"]),
+                       [1 + chance.randrange(len(made)), 1 + chance.randrange(len(made)), len(made) + 1]))
     return made
 
 

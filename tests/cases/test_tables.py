@@ -48,7 +48,7 @@ def columns(words, head):
 
 
 def checked():
-    """The table of `check` has what its listing says of each block, and each claim, right or wrong; the status is the same."""
+    """The table of `check` has what its listing says of each block, and each claim; the status is the same."""
     for words in ((), ("--lawful",), ("--outputs",)):
         status, out, err = ending(["check", *words], JUDGED)
         found = [match.groups() for match in ENTRY.finditer(out)]
@@ -66,7 +66,7 @@ def checked():
 
 
 def searched():
-    """The table of `check --nodes` is that of `check`, with what its listing says was found between ours and the least."""
+    """The table of `check --nodes` is that of `check`, with what was found, as its listing says, before the least."""
     rows, plain = ([*csv.reader(io.StringIO(ending(["check", "--csv", *words], JUDGED)[1].decode()), strict=True)]
                    for words in (["--nodes", "9"], []))
     found = re.findall(rb" best (\d+) bound (\d+)", ending(["check", "--nodes", "9"], JUDGED)[1])

@@ -121,7 +121,8 @@ class Engines(Place):
         text = self.read("pieces/3.iloc").replace(b"mult r2, r3", b"mult r2 r3")
         self.write("pieces/3.iloc", text)
         self.write("blocks", b"".join(self.read(f"pieces/{number}.iloc") for number in range(1, count + 1)))
-        self.expect("parallel", self.shell(f"seq {count} | parallel PIECE={{}} cluster/job pieces ilocfarm run"), (1, b""))
+        self.expect("parallel", self.shell(f"seq {count} | parallel PIECE={{}} cluster/job pieces ilocfarm run"),
+                    (1, b""))
         status, out, err = self.call("cluster/join", "pieces")
         self.expect("joined", (status, out, err.splitlines(True)[0]), self.one_run("run"))
 
@@ -134,8 +135,8 @@ class Engines(Place):
         self.expect("joined", self.call("cluster/join", "pieces"), self.one_run("schedule"))
 
     def test_slurm_killed_task(self):
-        """A task that hangs with half of its listing written is killed. Nothing is joined, and the array run again gives
-        one run's bytes."""
+        """A task that hangs with half of its listing written is killed. Nothing is joined, and the array run again
+        gives one run's bytes."""
         self.needs(*SLURM)
         self.start_slurm()
         count = self.write_blocks()

@@ -56,7 +56,8 @@ class Pieces(Place):
             self.run_piece(number, *words)
         status, out, err = self.call("ilocfarm", *words, given=self.read("blocks"))
         got_status, got, said = self.join()
-        self.expect(f"{words} of {count} pieces", (got_status, got, b"".join(said.splitlines(True)[:1])), (status, out, err))
+        self.expect(f"{words} of {count} pieces", (got_status, got, b"".join(said.splitlines(True)[:1])),
+                    (status, out, err))
 
     def test_random_files(self):
         """The joined bytes are one run's, or the first line on standard error is."""
@@ -76,7 +77,7 @@ class Pieces(Place):
             self.fail(f"{cuts} files were cut and {faults} are refused: too few to show anything")
 
     def options_of(self, command):
-        """The words that a command's help lists, each with a value; numbers for the operations of one text aren't a piece's."""
+        """The words that a command's help lists, each with a value, but --priorities, which are a whole text's."""
         out = self.call("ilocfarm", command, "--help")[1].decode()
         options = re.findall(r"--([\w-]+)(?: <(\w+)>)?  ", out.partition("Options:\n")[2])
         return [["3", "4"]] * ("[WORD]" in out) + [
@@ -86,17 +87,21 @@ class Pieces(Place):
         """With each option of each command the joined bytes are one run's, or the command is refused by its name."""
         out = self.call("ilocfarm", "--help")[1].decode()
         commands = re.findall(r"^  (\w+) ", out.partition("Commands:\n")[2].partition("\n\n")[0], re.MULTILINE)
-        self.write("blocks", b"nop\nr1: " + self.read("examples/dot.iloc") + b"c:\nd: output 4\n" + self.read("examples/book.iloc"))
+        self.write("blocks", b"nop\nr1: " + self.read("examples/dot.iloc") + b"c:\nd: output 4\n"
+                   + self.read("examples/book.iloc"))
         count, joined = self.split("--blocks", "2"), set()
-        for command, options in [(command, [[], *self.options_of(command)]) for command in commands if command != "help"]:
+        for command, options in [(command, [[], *self.options_of(command)])
+                                 for command in commands if command != "help"]:
             for option in options:
                 for number in range(1, count + 1):
                     self.run_piece(number, command, *option)
                 ended = self.join()
                 if ended[0] == 3:
-                    self.expect(f"{command} {option} is refused by its name", (ended[1], command.encode() in ended[2]), (b"", True))
+                    self.expect(f"{command} {option} is refused by its name", (ended[1], command.encode() in ended[2]),
+                                (b"", True))
                 else:
-                    self.expect(f"{command} {option}", ended, self.call("ilocfarm", command, *option, given=self.read("blocks")))
+                    self.expect(f"{command} {option}", ended,
+                                self.call("ilocfarm", command, *option, given=self.read("blocks")))
                     joined.add((command, *option[:1]))
         self.expect("joined without an option", {words[0] for words in joined if len(words) == 1}, JOINED)
         self.expect("tables", {words[0] for words in joined if words[1:] == ("--csv",)}, {"counts", "compare"})
@@ -141,7 +146,8 @@ class Pieces(Place):
         self.write("blocks", b"a: nop\nb: // " + b"-" * 16_777_216 + b"\nc:\n")
         status, out, err = self.call("cluster/split", "blocks", "more")
         self.expect("split", (status, out), (1, b""))
-        self.expect("said", err, b"cluster/split: the block from line 2 on has more than 16777216 bytes, which no run takes\n")
+        self.expect("said", err,
+                    b"cluster/split: the block from line 2 on has more than 16777216 bytes, which no run takes\n")
         self.expect("folder", os.path.exists(self.path("more")), False)
 
     def two_blocks(self, text=b"a: nop\nb: nop\nc: nop\n"):
@@ -157,13 +163,16 @@ class Pieces(Place):
 
     def test_failed_piece(self):
         self.two_blocks()
-        self.script("failing", "#!/bin/sh\n[ $PIECE != 2 ] || { echo ilocfarm: out of memory >&2; exit 3; }\nexec ilocfarm $@\n")
-        self.expect("statuses", [self.run_piece(number, "counts", program="./failing") for number in (1, 2, 3)], [0, 3, 0])
+        self.script("failing",
+                    "#!/bin/sh\n[ $PIECE != 2 ] || { echo ilocfarm: out of memory >&2; exit 3; }\nexec ilocfarm $@\n")
+        self.expect("statuses", [self.run_piece(number, "counts", program="./failing") for number in (1, 2, 3)],
+                    [0, 3, 0])
         self.expect("joined", self.join(), (3, b"", b"cluster/join: piece 2 ended with 3: ilocfarm: out of memory\n"))
 
     def test_killed_piece(self):
         self.two_blocks()
-        self.script("killed", '#!/bin/sh\n[ $PIECE != 2 ] || { echo block 1; kill -KILL $PPID; exit 1; }\nexec ilocfarm "$@"\n')
+        self.script("killed",
+                    '#!/bin/sh\n[ $PIECE != 2 ] || { echo block 1; kill -KILL $PPID; exit 1; }\nexec ilocfarm "$@"\n')
         for number in (1, 2, 3):
             self.run_piece(number, "counts", program="./killed")
         self.expect("joined", self.join(), (3, b"", b"cluster/join: not run to their end: 2\n"))
@@ -190,8 +199,10 @@ class Pieces(Place):
         self.two_blocks()
         for name, text, said in (
                 ("2.result/status", b"", b"not run to their end: 2"),
-                ("2.result/out", b"block 1 b cycles 0\ntotal " + b"9" * 5000 + b"\n", b"piece 2 has 1 blocks, and its listing others"),
-                ("3.result/out", b"block 1 c cycles 0\ntotal 0 least 0\n", b"the pieces' last lines differ: total 0, .."),
+                ("2.result/out", b"block 1 b cycles 0\ntotal " + b"9" * 5000 + b"\n",
+                 b"piece 2 has 1 blocks, and its listing others"),
+                ("3.result/out", b"block 1 c cycles 0\ntotal 0 least 0\n",
+                 b"the pieces' last lines differ: total 0, .."),
                 ("index", b"1 1 1\n2 x 1\n", b"pieces/index: line 2 is none that cluster/split writes"),
                 ("index", b"", b"pieces/index: line 1 is none that cluster/split writes")):
             for number in (1, 2, 3):

@@ -1,4 +1,4 @@
-"""A class of 120 as the sites of courses export it, with its table; and whom each student is, apart from what reads them."""
+"""A class of 120 as the sites of courses export it, with its table, and who each student is."""
 import csv
 import io
 import random
@@ -53,13 +53,15 @@ class Canvas:
         late = "LATE_" * one.is_late
         for attempt in range(1, one.attempt + 1):
             again = f"-{attempt - 1}" * (attempt > 1)
-            yield f"{short}_{late}{one.id()}_{77000 + attempt}_both{again}.rows", rows if attempt == one.attempt else b"[ nop ]\n"
+            name = f"{short}_{late}{one.id()}_{77000 + attempt}_both{again}.rows"
+            yield name, rows if attempt == one.attempt else b"[ nop ]\n"
 
     @staticmethod
     def table(everybody, points):
         head = ["Student", "ID", "SIS User ID", "SIS Login ID", "Section", "Lab 3 (4711)", "Lab 4 (4712)"]
         odd = [["    Points Possible", "", "", "", "", "10.00", "(read only)"]]
-        return table([head, *odd, *([f"{one.last}, {one.first}", one.id(), f"s{one.id()}", one.user(), "A;1", points[one.kind], "3"] for one in everybody),
+        return table([head, *odd, *([f"{one.last}, {one.first}", one.id(), f"s{one.id()}", one.user(), "A;1",
+                                     points[one.kind], "3"] for one in everybody),
                       ["Student, Test", "77", "", "", "A", "", ""]])
 
 
@@ -76,16 +78,18 @@ class Gradescope:
         lines = ["---"]
         for one in everybody:
             day = 21 if one.is_late else 20
-            lines += [f"submission_{330000 + one.number}:", "  :submitters:", f"  - :name: \"{one.name()}\"", f"    :sid: '{one.id()}'",
-                      f"    :email: {one.user()}@x.edu", f"  :created_at: 2026-11-{day} 22:59:00.000000000 Z", "  :score: 0.0",
-                      "  :status: processed", "  :history:" + " []" * (one.attempt == 1)]
+            lines += [f"submission_{330000 + one.number}:", "  :submitters:", f"  - :name: \"{one.name()}\"",
+                      f"    :sid: '{one.id()}'",
+                      f"    :email: {one.user()}@x.edu", f"  :created_at: 2026-11-{day} 22:59:00.000000000 Z",
+                      "  :score: 0.0", "  :status: processed", "  :history:" + " []" * (one.attempt == 1)]
             lines += [f"  - :id: {k}" for k in range(1, one.attempt)]
         return {"submission_metadata.yml": "\n".join(lines) + "\n"}
 
     @staticmethod
     def table(everybody, points):
         return table([["First Name", "Last Name", "SID", "Email", "Score"],
-                      *([one.first, one.last, one.id(), f"{one.user()}@x.edu", points[one.kind]] for one in everybody)], end="\n")
+                      *([one.first, one.last, one.id(), f"{one.user()}@x.edu", points[one.kind]] for one in everybody)],
+                     end="\n")
 
 
 class GitHub:

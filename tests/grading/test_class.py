@@ -11,9 +11,10 @@ BOTH = "examples/class/tasks"
 # Options, and the points of ada (lawful, 16 cycles as ours and the least), dan (same, 15) and fay (lawful, 21).
 POLICIES = (
     ((), (10, 10, 7.62)), (("--policy", "pass"), (10, 10, 10)), (("--policy", "least"), (10, 10, 7.62)),
-    (("--policy", "best"), (9.38, 10, 7.14)), (("--per-cycle", "1"), (10, 10, 5)), (("--per-cycle", "0.5", "--points", "4"), (4, 4, 2)),
-    (("--per-cycle", "2", "--floor", "0"), (10, 10, 0)), (("--floor", "1"), (10, 10, 10)), (("--points", "0"), (0, 0, 0)),
-    (("--require", "lawful"), (10, 0, 7.62)), (("--require", "outcome"), (10, 10, 7.62)), (("--penalty", "3"), (10, 10, 7.62)),
+    (("--policy", "best"), (9.38, 10, 7.14)), (("--per-cycle", "1"), (10, 10, 5)),
+    (("--per-cycle", "0.5", "--points", "4"), (4, 4, 2)), (("--per-cycle", "2", "--floor", "0"), (10, 10, 0)),
+    (("--floor", "1"), (10, 10, 10)), (("--points", "0"), (0, 0, 0)), (("--require", "lawful"), (10, 0, 7.62)),
+    (("--require", "outcome"), (10, 10, 7.62)), (("--penalty", "3"), (10, 10, 7.62)),
     (("--check=--store=4",), (9.38, 10, 7.14)))
 
 
@@ -55,15 +56,18 @@ class Class(Graded):
     def test_policies(self):
         for words, points in POLICIES:
             status, said, book = self.grade(*words, tasks=BOTH, submissions="examples/class/submissions")
-            self.expect(f"{words}", (status, tuple(float(book[name]["total"]) for name in ("ada", "dan", "fay"))), (0, points))
-            self.expect(f"{words}: the others", {float(book[name]["total"]) for name in ("ben", "cem", "eve", "gus", "hal", "jan")}, {0})
+            self.expect(f"{words}", (status, tuple(float(book[name]["total"]) for name in ("ada", "dan", "fay"))),
+                        (0, points))
+            self.expect(f"{words}: the others",
+                        {float(book[name]["total"]) for name in ("ben", "cem", "eve", "gus", "hal", "jan")}, {0})
 
     def test_roster(self):
         """Everybody of the roster is in the gradebook, with nothing handed in too, and everybody who handed in."""
         for roster in (b"\xef\xbb\xbfStudent,Section\r\nzoe,1\r\nada,2", b"zoe\n\nada\n"):
             self.write("roster.csv", roster)
             status, _, book = self.grade("--roster", "roster.csv", tasks=BOTH, submissions="examples/class/submissions")
-            self.expect("gradebook", (status, len(book), book["zoe"]["both verdict"], book["ada"]["total"]), (0, 11, "missing", "10"))
+            self.expect("gradebook", (status, len(book), book["zoe"]["both verdict"], book["ada"]["total"]),
+                        (0, 11, "missing", "10"))
 
     def test_pages(self):
         """Each drawn hand-in that is traced has the page that charts/page makes of its listings, and a link to it."""
@@ -71,10 +75,13 @@ class Class(Graded):
             self.call("ilocgrade", BOTH, "examples/class/submissions", *(f"--check={word}" for word in words))
             for name in "ben", "eve":
                 page = f"feedback/{name}/both.html"
-                rows, of_rows = self.read(f"examples/class/submissions/{name}/both.rows"), ("--task", f"{BOTH}/both.iloc", "3", "4")
+                rows = self.read(f"examples/class/submissions/{name}/both.rows")
+                of_rows = "--task", f"{BOTH}/both.iloc", "3", "4"
                 listings = [self.call("ilocfarm", "graph", *words, given=self.read(f"{BOTH}/both.iloc"))[1]]
-                listings += [self.call("ilocfarm", command, *words, *of_rows, given=rows)[1] for command in ("trace", "check")]
-                self.expect(f"{name}'s page", self.read(f"grades/{page}"), self.call("charts/page", given=b"".join(listings))[1])
+                listings += [self.call("ilocfarm", command, *words, *of_rows, given=rows)[1]
+                             for command in ("trace", "check")]
+                self.expect(f"{name}'s page", self.read(f"grades/{page}"),
+                            self.call("charts/page", given=b"".join(listings))[1])
                 self.expect(f"{name}'s link", f'href="{page}"' in self.text("grades/report.html"), True)
             for name in ("cem", "gus") if words else ("ada", "cem", "gus"):     # with --load=6 hers is wrong too
                 self.expect(f"{name}'s page", os.path.exists(self.path(f"grades/feedback/{name}/both.html")), False)
@@ -88,4 +95,5 @@ class Class(Graded):
         for line, status, said in rows_of(f"{TOP}/tests/grading/statuses.tsv"):
             line = line.replace("TASKS", BOTH).replace("CLASS", "examples/class/submissions")
             got, told = self.shell(f"ilocgrade --pictures none {line}")
-            self.expect(f"{line}: {told}", (got, said in told.decode(), b"Traceback" in told), (int(status), True, False))
+            self.expect(f"{line}: {told}", (got, said in told.decode(), b"Traceback" in told),
+                        (int(status), True, False))

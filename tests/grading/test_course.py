@@ -1,4 +1,4 @@
-"""What a course asks for: its own points, days, hidden tasks, one student again, archives, a build, and whose are alike."""
+"""What a course asks for: own points, days, hidden tasks, one student again, archives, a build, whose are alike."""
 import io
 import os
 import tarfile
@@ -57,7 +57,8 @@ class Course(Graded):
         self.write("late.csv", "name;late\nFay;2\nben;30:00:00\nada;\n")
         status, _, book = self.grade("--late", "late.csv", "--per-day", "1.5", "--hidden", "other", "--floor", "0")
         fay = round(10 * (1 - 5 / 21), 2), round(20 * (1 - 5 / 21), 2)
-        self.expect("points", {name: (line["both"], line["other"], line["total"], line["days late"]) for name, line in book.items()}, {
+        self.expect("points", {name: (line["both"], line["other"], line["total"], line["days late"])
+                               for name, line in book.items()}, {
             "ada": ("10", "20", "30", ""), "ben": ("0", "0", "0", "2"),
             "fay": (f"{fay[0]}", f"{fay[1]}", f"{round(sum(fay) - 3, 2)}", "2")})
         said = self.text("grades/feedback/fay/feedback.txt").splitlines()
@@ -66,7 +67,8 @@ class Course(Graded):
         self.expect("status", status, 0)
 
     def test_partial(self):
-        """Half for what is wrong but prints, by the oracle, the right words on the task's memory, if its operations count."""
+        """Half for what is wrong but prints, by the oracle, the right words on the task's memory, where operations
+        count."""
         due = {}
         for made in classes.tasks()[::3]:
             self.write(f"tasks/{made.name}.iloc", made.text())
@@ -96,13 +98,15 @@ class Course(Graded):
         self.expect("said", (status, said.decode().splitlines()[0]), (0, "grades.~1~ has the grades that were there"))
         self.expect("others", [*before[:2], "ben,10,10,lawful,16", *before[3:]], after)
         self.expect("feedback", self.text("grades/feedback/fay/feedback.txt"), feedback)
-        self.expect("strange", self.grade("--only", "zoe", tasks=BOTH)[:2], (3, b"ilocgrade: --only: there is no student zoe\n"))
+        self.expect("strange", self.grade("--only", "zoe", tasks=BOTH)[:2],
+                    (3, b"ilocgrade: --only: there is no student zoe\n"))
 
     def test_archives(self):
         """A hand-in is found in any letters, a folder deep or in an archive; what is hostile in one is refused."""
         rows, bomb = self.rows(), bytes(40 << 20)
         self.hand_in(
-            deep=("lab/BOTH.Rows", rows), zip=("lab.zip", zipped({"lab/out/Both.rows": rows, "__MACOSX/both.rows": b""})),
+            deep=("lab/BOTH.Rows", rows),
+            zip=("lab.zip", zipped({"lab/out/Both.rows": rows, "__MACOSX/both.rows": b""})),
             tar=("x.tgz", tarred({"./both.rows": rows})), bz2=("x.tar.bz2", tarred({"both.rows": rows}, "w:bz2")),
             two=("x.tar", tarred({"a/both.rows": rows, "b/both.rows": rows}, "w")),
             up=("x.zip", zipped({"../both.rows": rows})), root=("x.tar", tarred({"/both.rows": rows}, "w")),
@@ -115,7 +119,8 @@ class Course(Graded):
         self.expect("status", status, 1)
         self.expect("verdicts", {name: line["both verdict"] for name, line in book.items()}, {
             **dict.fromkeys(book, "refused"), **dict.fromkeys(right, "lawful"), "link": "missing"})
-        self.expect("said", self.text("grades/feedback/zip/feedback.txt").splitlines()[-1], "  Read from lab.zip/lab/out/Both.rows.")
+        self.expect("said", self.text("grades/feedback/zip/feedback.txt").splitlines()[-1],
+                    "  Read from lab.zip/lab/out/Both.rows.")
 
         self.hand_in(text=("both.txt", rows))
         book = self.grade("--lenient", "--penalty", "1", tasks=BOTH)[2]
@@ -131,7 +136,8 @@ class Course(Graded):
         """A program is built once within the walls, from a folder or an archive, and what fails to is said."""
         needs_bubblewrap()
         make = b"schedule: rows\n\tprintf '#!/bin/sh\\ncat rows\\n' > $@; chmod +x $@\n"
-        for name, files in ("zip", {"lab/Makefile": make, "lab/rows": self.rows()}), ("fails", {"Makefile": b"schedule:\n\tfalse\n"}):
+        for name, files in ("zip", {"lab/Makefile": make,
+                                    "lab/rows": self.rows()}), ("fails", {"Makefile": b"schedule:\n\tfalse\n"}):
             self.hand_in(**{name: ("lab.zip", zipped(files))})
         self.hand_in(plain=("Makefile", make))
         self.hand_in(plain=("rows", self.rows()))
@@ -145,8 +151,8 @@ class Course(Graded):
     def test_alike(self):
         """Equal bytes, and what is wrong in the same way up to registers, are listed for staff alone."""
         wrong = self.rows("ben").replace(b"r1,", b"r77,").replace(b"r1 ", b"r77 ")
-        self.hand_in(ada=("both.rows", self.rows()), ann=("both.rows", self.rows()), ben=("both.rows", self.rows("ben")),
-                     bob=("both.rows", wrong))
+        self.hand_in(ada=("both.rows", self.rows()), ann=("both.rows", self.rows()),
+                     ben=("both.rows", self.rows("ben")), bob=("both.rows", wrong))
         self.grade(tasks=BOTH)
         page = self.text("grades/report.html")
         self.expect("lists", [line in page for line in (

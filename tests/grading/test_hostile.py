@@ -1,4 +1,4 @@
-"""What students hand in, and how they name it, whatever it does to those who grade it: each case with the mark it has to get."""
+"""What students hand in to harm those who grade it, and how they name it: each case with the mark that is due."""
 import csv
 import io
 import os
@@ -14,9 +14,9 @@ from harness.program import TOP, needs
 RIGHT = Path(f"{TOP}/examples/class/submissions/ada/both.rows").read_bytes()
 NAMES = [os.fsdecode(name) for name in (
     b"x\nben 10  lawful cycles 16", b"x\\nben", b"a  b", b"*", b";touch gone", b"-rf", b"--help", b"=1+1", b"+1", b"@x",
-    b"$(touch gone)", b"'\"", b"<script>alert(1)", b"<img src=x onerror=alert(1)>", b"%s{0}", b"%2e", b"\xff\xfe", b"\t",
-    b"\r=1", b"a,b", "Łukasz 李".encode(), b"\x1b[2J", b"::error::x", b"n" * 255, b"<" * 255, b"#", b"..x", b"a;=1+1",
-    "\uff1d1+1".encode(), "a\uff1b=1+1".encode(), "\u202etxt".encode())]
+    b"$(touch gone)", b"'\"", b"<script>alert(1)", b"<img src=x onerror=alert(1)>", b"%s{0}", b"%2e", b"\xff\xfe",
+    b"\t", b"\r=1", b"a,b", "Łukasz 李".encode(), b"\x1b[2J", b"::error::x", b"n" * 255, b"<" * 255, b"#", b"..x",
+    b"a;=1+1", "\uff1d1+1".encode(), "a\uff1b=1+1".encode(), "\u202etxt".encode())]
 MOST_BYTES = 1 << 20
 NUMBERED = b"".join(b"%3d: %s" % entry for entry in enumerate(re.findall(rb"^\[.*\n", RIGHT, re.MULTILINE)))
 
@@ -89,16 +89,20 @@ class Hostile(Graded):
         self.expect("names", len(points), len(NAMES) + 1)
         self.expect("points", (points.pop("ben"), set(points.values())), ("0", {"10"}))
         cells = [cell for line in book.values() for cell in line.values()]
-        self.expect("cells that a spreadsheet computes", [cell for cell in cells if cell[:1] in tuple("=+-@\t\r\n")], [])
+        self.expect("cells that a spreadsheet computes", [cell for cell in cells if cell[:1] in tuple("=+-@\t\r\n")],
+                    [])
         self.expect("nothing ran", os.path.exists(self.path("gone")), False)
         page = Links(self.text("grades/report.html"))
         self.expect("elements", page.tags & {"script", "img", "iframe"}, set())
-        self.expect("dead links", [link for link in page.links if not os.path.exists(self.path(f"grades/{unquote(link)}"))], [])
+        self.expect("dead links",
+                    [link for link in page.links if not os.path.exists(self.path(f"grades/{unquote(link)}"))], [])
         self.expect("links", len(page.links), 3 * len(NAMES) + 1)
-        self.expect("control characters", [letter for letter in self.text("grades/report.html") if letter < " " and letter != "\n"], [])
+        self.expect("control characters",
+                    [letter for letter in self.text("grades/report.html") if letter < " " and letter != "\n"], [])
 
     def test_files(self):
-        """A right file is right with any line ends; what is round the rows costs nothing with --lenient, and is noted."""
+        """A right file is right with any line ends; what is round its rows costs nothing with --lenient, and is
+        noted."""
         for name, (data, *_) in FILES.items():
             self.hand_in(name, data)
         for words, which in ((), 1), (("--lenient", "--penalty", "1"), 2):
@@ -112,8 +116,8 @@ class Hostile(Graded):
     def test_planted(self):
         """Grades are made anew: a link that was put where they were leads nowhere, and nobody else may read them."""
         self.hand_in("right", RIGHT)
-        self.shell("mkdir -p grades/feedback; touch victim grades/gradebook.csv; cd grades; ln -s ../victim report.html;"
-                   "ln -s ../../victim feedback/right")
+        self.shell("mkdir -p grades/feedback; touch victim grades/gradebook.csv; cd grades;"
+                   "ln -s ../victim report.html; ln -s ../../victim feedback/right")
         self.expect("said", self.grade(tasks=BOTH)[1], b"grades.~1~ has the grades that were there\n"
                                                        b"1 student, 1 task, 1 of 1 passed: grades/report.html\n")
         self.expect("planted", self.read("victim"), b"")
@@ -121,7 +125,8 @@ class Hostile(Graded):
 
     def test_bare_operations(self):
         """One operation a line, as a scheduler's log has them."""
-        self.hand_in("ada", RIGHT.replace(b" ; sub r21, r22 => r31 ]", b" ]\nsub r21, r22 => r31").replace(b"[ ", b"").replace(b" ; nop ]", b"")
+        self.hand_in("ada", RIGHT.replace(b" ; sub r21, r22 => r31 ]",
+                                          b" ]\nsub r21, r22 => r31").replace(b"[ ", b"").replace(b" ; nop ]", b"")
                      .replace(b" ]", b""))
         for words, points in ((), "0"), (("--lenient",), "9.41"):
             self.expect(f"{words}", self.mark(*words)["ada"]["total"], points)
@@ -145,9 +150,12 @@ class Hostile(Graded):
         self.write("submissions/other/Both.rows", RIGHT)
         book = self.mark()
         self.expect("verdicts", {name: (line["both verdict"], line["total"]) for name, line in book.items()}, {
-            "right": ("lawful", "10"), "none": ("missing", "0"), "other": ("lawful", "10"), **{name: ("refused", "0") for name in (
-                "pipe", "folder", "dangling", "link", "endless", "itself", "socket", "linked folder", "dangling folder")}})
-        self.expect("what is read is said", "Read from Both.rows." in self.text("grades/feedback/other/feedback.txt"), True)
+            "right": ("lawful", "10"), "none": ("missing", "0"), "other": ("lawful", "10"),
+            **{name: ("refused", "0") for name in (
+                "pipe", "folder", "dangling", "link", "endless", "itself", "socket", "linked folder",
+                "dangling folder")}})
+        self.expect("what is read is said", "Read from Both.rows." in self.text("grades/feedback/other/feedback.txt"),
+                    True)
 
     def test_pandas(self):
         """The gradebook as pandas reads it."""
@@ -168,7 +176,7 @@ class Hostile(Graded):
         for name in NAMES:
             self.hand_in(name, RIGHT)
         self.mark()
-        self.call("soffice", f"-env:UserInstallation=file://{self.folder}/profile", "--headless", "--convert-to", "csv:Text - txt - csv (StarCalc)",
-                  "--outdir", self.folder, self.path("grades/gradebook.csv"))
+        self.call("soffice", f"-env:UserInstallation=file://{self.folder}/profile", "--headless", "--convert-to",
+                  "csv:Text - txt - csv (StarCalc)", "--outdir", self.folder, self.path("grades/gradebook.csv"))
         with open(self.path("gradebook.csv"), newline="", encoding="utf-8") as file:
             self.expect("totals", [row[1] for row in csv.reader(file)][1:], ["10"] * len(NAMES))

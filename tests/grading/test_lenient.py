@@ -12,15 +12,15 @@ LOGS = ("started", "output written to block05.rows", "[INFO] done", "cycles per 
 # How a row is written: its number, and its operations by unit, '' where there is none.
 FORMS = {
     "bare": lambda number, *row: ";".join(op or "nop" for op in row),
-    "alone": lambda number, zero, one: zero or one if bool(zero) + one.startswith("mult") == 1 and not (zero and one) else f"{zero} ; {one}",
-    "numbered": lambda number, *row: f"{number + 1}: [ {' ; '.join(row)} ]",
+    "alone": lambda number, zero, one: zero or one if bool(zero) + one.startswith("mult") == 1 and not (zero and one)
+    else f"{zero} ; {one}", "numbered": lambda number, *row: f"{number + 1}: [ {' ; '.join(row)} ]",
     "counted": lambda number, *row: f"  cycle {number}:\t{' ; '.join(op or 'nop' for op in row)}",
     "table": lambda number, *row: f"| {number} | {' | '.join(row)} |",
     "bars": lambda number, *row: f"[ {' | '.join(op or 'nop' for op in row)} ]",
     "commas": lambda number, *row: f"[{','.join(op or 'nop' for op in row)}]",
     "capitals": lambda number, *row: f"[ {' ; '.join(row)} ]".upper(),
-    "ends": lambda number, *row: f"[ {' ; '.join(row)} ]," if number % 2 else f"{' ; '.join(op or 'nop' for op in row)},",
-    "plain": lambda number, *row: f"[ {' ; '.join(row)} ]",
+    "ends": lambda number, *row: f"[ {' ; '.join(row)} ]," if number % 2
+    else f"{' ; '.join(op or 'nop' for op in row)},", "plain": lambda number, *row: f"[ {' ; '.join(row)} ]",
 }
 
 

@@ -1,4 +1,4 @@
-"""Students' programs that break a limit or attack what is outside of their walls, graded by root and by an ordinary user."""
+"""Students' programs that break a limit or attack what is outside of their walls, graded by root and by a user."""
 import ctypes
 import os
 import re
@@ -58,7 +58,8 @@ class Programs(Graded):
     def graded(self, due, command=("ilocgrade",)):
         """Grades, of which nothing is said but the result; whoever is lawful has all points."""
         words = [*self.user, *command, BOTH, "submissions"]
-        self.expect("status", (self.call(*words, *["--program", "./schedule"] * ("--program" not in command))[::2]), (0, b""))
+        self.expect("status", (self.call(*words, *["--program", "./schedule"] * ("--program" not in command))[::2]),
+                    (0, b""))
         book = self.book()
         self.shell("rm -r grades submissions")
         for name, verdict in due.items():
@@ -103,7 +104,8 @@ class ByRoot(Programs):
         os.symlink(self.path("submissions/right/rows"), self.path("outside/solution"))
         shutil.copy(self.path(f"{BOTH}/both.iloc"), self.path("outside/task.iloc"))
         has_filter = not subprocess.run(["/usr/bin/python3", "-c", "import seccomp"], capture_output=True).returncode
-        values = {"FOLDER": self.folder, "TOP": TOP, "PROGRAM": TESTED.program, "PROCESS": f"{os.getpid()}", "PORT": f"{port}"}
+        values = {"FOLDER": self.folder, "TOP": TOP, "PROGRAM": TESTED.program, "PROCESS": f"{os.getpid()}",
+                  "PORT": f"{port}"}
         for name, (kind, lines) in cases(self.text(f"{TOP}/tests/grading/attacks.cases")).items():
             lines = re.sub("|".join(values), lambda word: values[word[0]], lines)
             with self.subTest(name):
@@ -122,9 +124,11 @@ class ByRoot(Programs):
         with socket.create_server(("127.0.0.1", 0)) as server:
             tried = dict(self.attacks(server.getsockname()[1]))
             for name, lines in tried.items():
-                self.hand_in(name, f"$ ln -s {self.folder}/submissions/right/rows solution\n{{ {lines}}} >&2 && cat rows\n")
+                self.hand_in(name,
+                             f"$ ln -s {self.folder}/submissions/right/rows solution\n{{ {lines}}} >&2 && cat rows\n")
             os.remove(self.path("open/reached"))
-            self.graded({"right": "lawful", **dict.fromkeys(tried, "crashed")}, ("ilocgrade", "--bind", self.path("tools")))
+            self.graded({"right": "lawful", **dict.fromkeys(tried, "crashed")},
+                        ("ilocgrade", "--bind", self.path("tools")))
         self.expect("a file outside", os.path.exists(self.path("open/reached")), False)
 
     def test_changed(self):
@@ -163,8 +167,9 @@ class Unwalled(Programs):
 
     def test_nothing_runs(self):
         status, said, _ = self.grade("--program", "./schedule", tasks=BOTH)
-        self.expect("said", (status, said), (3, b"ilocgrade: programs can't be run apart: bwrap: forbidden: Debian's package "
-                                             b"bubblewrap, 0.8 or later, has to be installed and allowed, or see --unconfined\n"))
+        self.expect("said", (status, said),
+                    (3, b"ilocgrade: programs can't be run apart: bwrap: forbidden: Debian's package "
+                     b"bubblewrap, 0.8 or later, has to be installed and allowed, or see --unconfined\n"))
         self.expect("grades", os.path.exists(self.path("grades")), False)
 
     def test_unconfined(self):

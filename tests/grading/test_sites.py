@@ -11,8 +11,9 @@ from harness.program import TESTED
 
 BEN = "examples/class/submissions/ben"
 # The fields of Gradescope's results.json that are written, and what each may be.
-FIELDS = {"score": float, "execution_time": float, "output": str, "visibility": ("hidden", "after_due_date", "after_published", "visible"),
-          "stdout_visibility": ("hidden", "after_due_date", "after_published", "visible"), "tests": list, "leaderboard": list}
+FIELDS = {"score": float, "execution_time": float, "output": str,
+          "visibility": ("hidden", "after_due_date", "after_published", "visible"), "stdout_visibility":
+          ("hidden", "after_due_date", "after_published", "visible"), "tests": list, "leaderboard": list}
 TEST = {"score": float, "max_score": float, "status": ("passed", "failed"), "name": str, "number": str, "output": str,
         "output_format": ("text", "html", "simple_format", "md", "ansi"), "visibility": FIELDS["visibility"]}
 BOARD = {"name": str, "value": float, "order": ("asc", "desc")}
@@ -23,13 +24,15 @@ class Sites(Graded):
         self.expect("fields", sorted(given), sorted(fields))
         for name, kind in fields.items():
             value = given[name]
-            fine = value in kind if isinstance(kind, tuple) else isinstance(value, (int, float) if kind is float else kind)
+            fine = value in kind if isinstance(kind, tuple) else isinstance(value,
+                                                                            (int, float) if kind is float else kind)
             self.expect(f"{name}: {value!r}", fine, True)
 
     def test_gradescope(self):
         """results.json has the fields that Gradescope reads, and status 0 whatever the student did."""
         for name, points, cycles in ("ada", 10, 16), ("ben", 0, 1_000_000):
-            status, out, err = self.call("ilocgrade", BOTH, f"examples/class/submissions/{name}", "--gradescope", "results.json")
+            status, out, err = self.call("ilocgrade", BOTH, f"examples/class/submissions/{name}", "--gradescope",
+                                         "results.json")
             self.expect(f"{name}: status", (status, out, err), (0, b"", b""))
             made = json.loads(self.read("results.json"))
             self.fits(made, FIELDS)
@@ -37,9 +40,11 @@ class Sites(Graded):
                 self.fits(test, TEST)
             for place in made["leaderboard"]:
                 self.fits(place, BOARD)
-            self.expect("points", (made["score"], made["tests"][0]["score"], made["tests"][0]["max_score"]), (points, points, 10))
+            self.expect("points", (made["score"], made["tests"][0]["score"], made["tests"][0]["max_score"]),
+                        (points, points, 10))
             self.expect("board", [place["value"] for place in made["leaderboard"]], [points, cycles])
-        self.expect("feedback", made["tests"][0]["output"].splitlines()[1], "Word 1 that your rows print is 3; it should be 7.")
+        self.expect("feedback", made["tests"][0]["output"].splitlines()[1],
+                    "Word 1 that your rows print is 3; it should be 7.")
 
     def autograder(self, submission, said=b""):
         """The results of the autograder's files in a folder as Gradescope has it."""
@@ -53,7 +58,7 @@ class Sites(Graded):
         return json.loads(self.read("autograder/results/results.json"))
 
     def test_autograder(self):
-        """The files that a course copies, with an installed ilocfarm; and a task that can't be graded, which blames nobody."""
+        """The files that a course copies, with an installed ilocfarm; a task that can't be graded blames nobody."""
         self.call("./install", self.path("installed"), "bin/ilocfarm")
         self.expect("score", self.autograder(BEN)["score"], 0)
         self.expect("score", self.autograder("examples/class/submissions/ada")["score"], 10)
@@ -62,14 +67,16 @@ class Sites(Graded):
         self.expect("failed", (made["score"], "no fault of yours" in made["output"]), (0, True))
 
     def test_programs_in_a_container(self):
-        """Where bubblewrap is forbidden root runs one student's program as another user, whom what is secret is hidden from."""
+        """Where bubblewrap is forbidden root runs one student's program as another user, who can't read what is
+        secret."""
         if os.geteuid():
             self.skipTest("root is needed")
         self.script("bin/bwrap", "#!/bin/sh\nexit 1\n")
         shutil.copytree(self.path(BOTH), self.path("secret/tasks"))
         shutil.copy(TESTED.program, self.path("secret/ilocfarm"))
         os.chmod(self.folder, 0o755)
-        self.script("one/schedule", f"#!/bin/sh\n(setsid sleep 87654 &) >&-; id -u >&2; cat {self.folder}/secret/*/* || cat rows\n")
+        self.script("one/schedule",
+                    f"#!/bin/sh\n(setsid sleep 87654 &) >&-; id -u >&2; cat {self.folder}/secret/*/* || cat rows\n")
         self.write("one/rows", self.read("examples/class/submissions/ada/both.rows"))
         words = ("ilocgrade", "secret/tasks", "one", "--program", "./schedule", "--ilocfarm", "secret/ilocfarm",
                  "--gradescope", "secret/results.json")
@@ -106,7 +113,8 @@ class Sites(Graded):
             browser.seen_on("screen", scheme)
             browser.open(self.path("grades/report.html"))
             browser.value("document.querySelectorAll('details').forEach(it => { it.open = true; })")
-            self.expect("page as wide as the screen", browser.value("document.documentElement.scrollWidth <= innerWidth"), True)
+            self.expect("page as wide as the screen",
+                        browser.value("document.documentElement.scrollWidth <= innerWidth"), True)
             colours = browser.value("[...document.querySelectorAll('td, th')].map(it => "
                                     "[getComputedStyle(it).color, getComputedStyle(it).backgroundColor].join('; '))")
             faint = [pair for pair in set(colours) if contrast(*pair.split("; ")) < LEAST_CONTRAST]

@@ -9,8 +9,8 @@ import unittest
 
 PROGRAMS = ("chromium", "chromium-browser", "google-chrome")
 CODES = {"ArrowLeft": 37, "ArrowRight": 39, "Home": 36, "End": 35, "Tab": 9}
-FLAGS = ("--headless", "--no-sandbox", "--disable-gpu", "--hide-scrollbars", "--no-first-run", "--disable-dev-shm-usage",
-         "--remote-debugging-pipe", "about:blank")
+FLAGS = ("--headless", "--no-sandbox", "--disable-gpu", "--hide-scrollbars", "--no-first-run",
+         "--disable-dev-shm-usage", "--remote-debugging-pipe", "about:blank")
 
 
 # Of a text to what it is on.
@@ -50,7 +50,8 @@ class Browser:
         # The browser reads its descriptor 3 and writes its 4.
         line = f'exec "$0" "$@" 3<&{to_read} 4>&{to_write}'
         self.process = subprocess.Popen(["bash", "-c", line, chromium, f"--user-data-dir={self.folder.name}", *FLAGS],
-                                        pass_fds=(to_read, to_write), stdout=subprocess.DEVNULL, stderr=subprocess.DEVNULL)
+                                        pass_fds=(to_read, to_write), stdout=subprocess.DEVNULL,
+                                        stderr=subprocess.DEVNULL)
         os.close(to_read)
         os.close(to_write)
         self.number, self.session, self.held, self.problems = 0, None, b"", []
@@ -62,7 +63,8 @@ class Browser:
     def call(self, method, **given):
         self.number += 1
         said = {"id": self.number, "method": method, "params": given}
-        os.write(self.out, json.dumps({**said, **({"sessionId": self.session} if self.session else {})}).encode() + b"\0")
+        os.write(self.out,
+                 json.dumps({**said, **({"sessionId": self.session} if self.session else {})}).encode() + b"\0")
         while (heard := self.heard()).get("id") != self.number:
             if heard.get("method") in ("Runtime.exceptionThrown", "Log.entryAdded"):
                 self.problems.append(json.dumps(heard["params"])[:400])
@@ -100,12 +102,14 @@ class Browser:
         self.call("Emulation.setDeviceMetricsOverride", width=width, height=height, deviceScaleFactor=1, mobile=False)
 
     def seen_on(self, media="", scheme="light"):
-        self.call("Emulation.setEmulatedMedia", media=media, features=[{"name": "prefers-color-scheme", "value": scheme}])
+        self.call("Emulation.setEmulatedMedia", media=media,
+                  features=[{"name": "prefers-color-scheme", "value": scheme}])
 
     def tree(self):
         """What a screen reader meets: role and name of each part."""
         nodes = self.call("Accessibility.getFullAXTree")["nodes"]
-        return [(node["role"]["value"], node.get("name", {}).get("value", "")) for node in nodes if not node.get("ignored")]
+        return [(node["role"]["value"], node.get("name", {}).get("value", ""))
+                for node in nodes if not node.get("ignored")]
 
     def close(self):
         self.session = None

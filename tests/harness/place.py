@@ -8,8 +8,8 @@ import unittest
 
 from harness.program import SECONDS, TESTED, TOP, needs, short
 
-# The commands that a page shows, each after `$ `, with the lines below it; on a page they are indented. A line that ends
-# with `\` or `|` goes on.
+# The commands that a page shows, each after `$ `, with the lines below it; on a page they are indented. A line that
+# ends with `\` or `|` goes on.
 COMMAND = re.compile(r"^\$ ((?:.*[\\|]\n)*.*)\n((?:(?!\$ ).*\n)*)", re.MULTILINE)
 EXAMPLE = re.compile(r"(?:^    .*\n)+", re.MULTILINE)
 

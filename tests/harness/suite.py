@@ -35,8 +35,8 @@ class Check(Case):
 
 
 def plain(text):
-    """What a text in a file of cases stands for: bytes that can't be shown are there by their numbers, and `\\` before a line
-    end is for none."""
+    """What a text in a file of cases stands for: bytes that can't be shown are there by their numbers, and `\\` before
+    a line end is for none."""
     return text.encode().decode("unicode_escape")
 
 

@@ -1,6 +1,6 @@
-"""Inputs at the limits: what each command gives, and a line with the time and the memory of each run. Long texts are of one
-part, time after time: their listing has the part's as often, and the part's is right by the oracle or, of the longest blocks,
-by `check`. The first is an even input, 16 MiB of mixed blocks of about 100 operations."""
+"""Inputs at the limits: what each command gives, and a line with the time and the memory of each run. Long texts are of
+one part, time after time: their listing has the part's as often, and the part's is right by the oracle or, of the
+longest blocks, by `check`. The first is an even input, 16 MiB of mixed blocks of about 100 operations."""
 import itertools
 import re
 import resource
@@ -87,8 +87,8 @@ def full_inputs():
 
 
 def judged_inputs():
-    """Blocks with rows, and how the listing or the refusal starts: our own, those of one form alone, and one more than is
-    allowed."""
+    """Blocks with rows, and how the listing or the refusal starts: our own, those of one form alone, and one more than
+    is allowed."""
     def own(blocks):
         path = stored("blocks", blocks)
         return blocks + contents(measure.run([TESTED.program, "schedule"], path, f"{folder()}/listing").output)
@@ -113,7 +113,8 @@ def judged_inputs():
     yield ("most claims", lambda: rows(b"cycles 7\n" * ((MOST_BYTES - 3) // 9)),
                  lawful + b"cycles 0 ours 0 least 0 claimed 7")
     yield ("a load on the wrong unit", lambda: rows(load * 5000, b"[ nop ; load r0 => r1 ]\n", load * 4999),
-                 b"block 1 A units cycles 10004 ours 0 least 0\n  row 5000: [ nop ; load r0 => r1 ]: a load or store on unit 1\n")
+           b"block 1 A units cycles 10004 ours 0 least 0\n"
+           b"  row 5000: [ nop ; load r0 => r1 ]: a load or store on unit 1\n")
     yield ("useless operations", lambda: rows(b"output 0\n", free * 4999, b"[ output 0 ; nop ]\n"),
            b"block 1 A same cycles 5000 ours 1 least 1\n")
     yield ("rows of a block that shows nothing", lambda: rows(free * 5000),
@@ -122,17 +123,19 @@ def judged_inputs():
            .replace(b"output 1024 ]", b"output 1280 ]"), b"block 1 A differs cycles ")
     yield ("10,001 operations in rows", lambda: rows(free * 5000, load),
            refused_line(f"line 5002: more than {MOST_OPERATIONS} operations in a block"))
-    yield "65,535 heads of one block", lambda: rows(b"block 1 A\n" * MOST_BLOCKS), refused_line(f"line 3: {NO_SUCH_BLOCK}")
+    yield "65,535 heads of one block", lambda: rows(b"block 1 A\n"
+                                                    * MOST_BLOCKS), refused_line(f"line 3: {NO_SUCH_BLOCK}")
     yield "brackets", lambda: rows(b"[]\n", b"[" * (MOST_BYTES - 6)), (
         b"block 1 A unread cycles 0 ours 0 least 0\n  line 3, row 1: expected an operation, found [\n")
     yield "a row without an end", lambda: b"A:\n[" + b" " * (MOST_BYTES - 4), refused_line("line 2: not understood")
     yield "a long number", lambda: b"A:\ncycles " + b"9" * (MOST_BYTES - 10), (
-        b"block 1 A unread cycles 0 ours 0 least 0\n  line 2, row 0: expected a number up to 2147483647, found 99999999999999999999\n")
+        b"block 1 A unread cycles 0 ours 0 least 0\n"
+        b"  line 2, row 0: expected a number up to 2147483647, found 99999999999999999999\n")
 
 
 def multiples():
-    """A block that emits a word if it and the words after it, 64 in all, are its multiples by 1, 2, 3 and so on, and else
-    faults."""
+    """A block that emits a word if it and the words after it, 64 in all, are its multiples by 1, 2, 3 and so on, and
+    else faults."""
     sums = b"".join(b"loadAI r0, %d => r2\nmultI r1, %d => r3\nsub r2, r3 => r4\nmult r4, r4 => r5\nadd r6, r5 => r6\n"
                     % (4 * k, k + 1) for k in range(1, 64))
     return (b"A:\nloadI 1024 => r0\nload r0 => r1\n" + sums * 31
@@ -170,7 +173,8 @@ def size_checks():
 def measured(name, words, path):
     """A run, of which a line is printed, and where it used too much."""
     got = measure.run([TESTED.program, *words], path, f"{folder()}/got")
-    print(f"{' '.join(words):18} {name:28} status {got.status} {got.processor_ms:8.0f} ms {got.mebibytes:7.1f} MiB", flush=True)
+    print(f"{' '.join(words):18} {name:28} status {got.status} {got.processor_ms:8.0f} ms {got.mebibytes:7.1f} MiB",
+          flush=True)
     is_small = got.processor_ms <= MOST_MS and got.mebibytes <= MOST_MIB
     return got, [] if is_small else [f"{words}: {got.processor_ms:.0f} ms, {got.mebibytes:.0f} MiB"]
 
@@ -256,7 +260,8 @@ ALIKE = {"constants": ("loadI 0 => r1", 0), "sums": ("add r0, r0 => r1", 0), "pr
 
 
 def alike(op, unit):
-    """A block of the most operations of one spelling and, for its rows, of another: one a row, after ours would be done."""
+    """A block of the most operations of one spelling, and rows of another spelling: one a row, after ours would be
+    done."""
     slots = [op.replace("r1", "r7"), "nop"][::-1 if unit else 1]
     block = f"A:\noutput 4\n{op}\n" + f"{op}\n" * (MOST_OPERATIONS - 2)
     rows = "[ {} ; {} ]\n".format(*slots) * (MOST_OPERATIONS - 1)
@@ -301,8 +306,9 @@ def slow_listing(command, blocks):
     entry = {"simulate": b"\n", "counts": b" cycles %d\n" % cycles,
              "schedule": b"\n" + rows + b"cycles %d\n" % cycles,
              "explain": b"\n" + b"".join(map(slow_reason, range(MOST_OPERATIONS)))
-             + b"cycles %d least %d optimal\nchain " % (cycles, cycles) + b" ".join(b"%d" % k for k in range(MOST_OPERATIONS))
-             + b"\npath " + b" ".join(b"%d +%d" % (k, SLOWEST) for k in range(MOST_OPERATIONS)) + b"\n"}[command]
+             + b"cycles %d least %d optimal\nchain " % (cycles, cycles)
+             + b" ".join(b"%d" % k for k in range(MOST_OPERATIONS)) + b"\npath "
+             + b" ".join(b"%d +%d" % (k, SLOWEST) for k in range(MOST_OPERATIONS)) + b"\n"}[command]
     for number in range(1, blocks + 1):
         yield b"block %d A" % number + entry
     if command != "simulate":
@@ -312,8 +318,9 @@ def slow_listing(command, blocks):
 def slow_reason(number):
     """The line of one of `slow_loads`, which waits for the one before it."""
     cycle, before = SLOWEST * number, b"%d" % (number - 1) if number else b"-"
-    return (b"%d cycle %d unit 0 ready %d after %s priority %d earliest %d slack 0 held - load r0 => r0 ; load r%d => r%d\n"
-            % (number, cycle, cycle, before, SLOWEST * MOST_OPERATIONS - cycle, cycle, number, number + 1))
+    return (b"%d cycle %d unit 0 ready %d after %s priority %d earliest %d slack 0 held - load r0 => r0 ; "
+            b"load r%d => r%d\n" % (number, cycle, cycle, before, SLOWEST * MOST_OPERATIONS - cycle, cycle,
+                                    number, number + 1))
 
 
 def in_little_memory():

@@ -1,4 +1,4 @@
-"""Texts that are cut at any byte, or have any byte at any place, or are drawn: how each command ends on them, by the oracle."""
+"""Texts that are cut at any byte, have any byte at any place, or are drawn: how each command ends, by the oracle."""
 import random
 
 from harness.program import COMMANDS, TESTED, ending, told

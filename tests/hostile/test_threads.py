@@ -19,7 +19,8 @@ NOBODY = 54_321
 
 
 def thread_checks():
-    for check, commands in ((same_bytes, FARMED), (as_many_as_asked, FARMED), (as_many_that_read, FARMED), (one_processor, FARMED),
+    for check, commands in ((same_bytes, FARMED), (as_many_as_asked, FARMED), (as_many_that_read, FARMED),
+                            (one_processor, FARMED),
                             (none_to_be_had, FARMED), (none_needed, ALONE), (little_stack, ALL)):
         for command in commands:
             yield Check(f"threads/{check.__name__}/{command}", check, command)
@@ -49,7 +50,7 @@ def as_many_as_asked(command):
 
 
 def as_many_that_read(command):
-    """A long text is read by two threads before others work, and by the one that is there already where one is asked for."""
+    """A long text is read by two threads before others work, where one is asked for by the one that is there."""
     for workers in range(1, 9):
         _, report = refusing(Asked([command, *by(workers)], "a long text", long_text()))
         if report.threads != (2 + workers if workers > 1 else 1):

@@ -225,7 +225,7 @@ def with_number(op, k, to):
 
 
 def others(role, near):
-    """Of an operation each with another number in this role, of those that `near` gives for the number and the registers."""
+    """An operation with other numbers in this role, of those that `near` gives for the number and the registers."""
     return lambda op, registers: [with_number(op, k, to) for k, has in enumerate(op.roles) if has == role
                                   for to in near(op.numbers[k], registers) if to != op.numbers[k] and to <= MAX_NUMBER]
 
@@ -245,7 +245,8 @@ CHANGES = {
 
 def changing(name, change):
     """One operation is changed."""
-    return named(lambda chance, given: one_changed(chance, given.rows, lambda op: change(op, sorted(given.values))), name)
+    return named(lambda chance, given: one_changed(chance, given.rows, lambda op: change(op, sorted(given.values))),
+                 name)
 
 
 def missing(name, is_wanted):
@@ -309,6 +310,7 @@ def two_of_a_kind(kind):
 
 
 WRONG = (*map(latency_too_small, ("load", "store", "mult")), *map(early, ("output", "load", "store")),
-         exchanged("outputs_exchanged", ("output",)), exchanged("accesses_exchanged", MEMORY), *(changing(*change) for change in CHANGES.items()),
-         missing("operation_missing", lambda op: True), missing("store_missing", lambda op: op.kind in ("store", "output")),
-         row_too_few, output_too_many, store_too_many, scratch_store, nothing_at_all, wrong_unit, *map(two_of_a_kind, ("mult", "output")))
+         exchanged("outputs_exchanged", ("output",)), exchanged("accesses_exchanged", MEMORY),
+         *(changing(*change) for change in CHANGES.items()), missing("operation_missing", lambda op: True),
+         missing("store_missing", lambda op: op.kind in ("store", "output")), row_too_few, output_too_many,
+         store_too_many, scratch_store, nothing_at_all, wrong_unit, *map(two_of_a_kind, ("mult", "output")))

@@ -1,5 +1,5 @@
-"""Blocks with many operations that are alike: our own rows are by the book, and other rows are where an exhaustive search finds
-a pairing."""
+"""Blocks with many operations that are alike: our own rows are by the book, and other rows are where an exhaustive
+search finds a pairing."""
 import random
 import re
 
@@ -71,7 +71,8 @@ add r5, r5 => r5
 """
 # The first and the last constants, some of which are one modulo 2^31 - 1, and operations that differ in them alone.
 ENDS = [0, 1, MAX_NUMBER - 1, MAX_NUMBER]
-APART = [Op("loadI", [MAX_NUMBER, 4]), Op("loadI", [0, 2]), Op("loadI", [0, 0]), Op("add", [1, 0, 0]), Op("add", [3, 4, 2])]
+APART = [Op("loadI", [MAX_NUMBER, 4]), Op("loadI", [0, 2]), Op("loadI", [0, 0]), Op("add", [1, 0, 0]),
+         Op("add", [3, 4, 2])]
 MILLION = 1_000_000
 NOT_FOUND = {"void", "undecided"}     # of rows for a block that shows nothing
 
@@ -101,7 +102,8 @@ def own_rows_pass(blocks, made, latencies=()):
 
 def unlawful(blocks, listing):
     """The first block whose rows aren't said to be lawful."""
-    return next((f"{[*map(str, ops)]} {found}" for ops, found in zip(blocks, found_of(listing)) if found != "lawful"), None)
+    return next((f"{[*map(str, ops)]} {found}" for ops, found in zip(blocks, found_of(listing)) if found != "lawful"),
+                None)
 
 
 def own_drawn(*constants):
@@ -137,13 +139,15 @@ def as_exhaustively():
     for _ in range((TINY if TESTED.is_short else ALL_TINY) // AT_ONCE):
         latencies = {name: chance.randint(1, 3) for name in SHORT}
         blocks = [alike.block(chance, MOST_TINY) for _ in range(AT_ONCE)]
-        rows = [chance.choice([lawful, rewired, rewired, wrong])(chance, Given(Schedule(ops, latencies))) for ops in blocks]
+        rows = [chance.choice([lawful, rewired, rewired, wrong])(chance, Given(Schedule(ops, latencies)))
+                for ops in blocks]
         text = text_of(blocks) + b"".join(proposed(k, f"B{k}", theirs) for k, theirs in enumerate(rows, 1))
         found = found_of(ending(["check", *words_for(latencies)], text)[1])
         if len(found) != len(blocks):
             yield f"{len(found)} entries of {len(blocks)}"
         for ops, theirs, got in zip(blocks, rows, found):
-            due = "units" if bad_row(theirs) is not None else "lawful" if has_pairing(ops, theirs, latencies) else "other"
+            due = "lawful" if has_pairing(ops, theirs, latencies) else "other"
+            due = due if bad_row(theirs) is None else "units"
             said = got if got in ("units", "lawful", "undecided") else "other"
             counts[due] = counts.get(due, 0) + 1
             if said != due:
@@ -152,15 +156,16 @@ def as_exhaustively():
 
 
 def graphs():
-    """Graphs written as code that nobody uses, of which each point has as many neighbours as any other, beside themselves and
-    beside other ones."""
+    """Graphs written as code that nobody uses, of which each point has as many neighbours as any other, beside
+    themselves and beside other ones."""
     chance = random.Random(8)
     for points in (4, 8, 16, 30, 50):
         drawn = [alike.regular(chance, points, 3) for _ in range(12)]
         own_dues, other_dues = ({"lawful"}, {"void"}) if points < 20 else ({"lawful", *NOT_FOUND}, NOT_FOUND)
         for theirs, dues in ((drawn, own_dues), (drawn[1:] + drawn[:1], other_dues)):
             text = text_of([alike.graph(points, edges) for edges in drawn])
-            text += b"".join(proposed(k, f"B{k}", alike.shuffled(chance, points, edges)) for k, edges in enumerate(theirs, 1))
+            text += b"".join(proposed(k, f"B{k}", alike.shuffled(chance, points, edges))
+                             for k, edges in enumerate(theirs, 1))
             found = found_of(ending(["check"], text)[1])
             print(f"judged/alike/graphs: {points} points: {({verdict: found.count(verdict) for verdict in found})}")
             if len(found) != len(drawn) or not {*found} <= dues:

@@ -33,7 +33,8 @@ CHEATS = {
     "zero_byte": b"\x00[ nop ; nop ]\n",
 }
 
-# What is handed in for blocks a and b, each `output 4`, and what is said of it: lines that can't be read cost their block alone.
+# What is handed in for blocks a and b, each `output 4`, and what is said of it: lines that can't be read cost their
+# block alone.
 SAID = {
     "hello": ("block 1 a\nhello\n[ output 4 ]\nblock 2 b\n[ output 4 ]\n",
               "block 1 a unread cycles 2 ours 1 least 1\n  line 2, row 0: expected [, found hello\n"

@@ -1,5 +1,5 @@
-"""Rows that are explained (`explain --task`): our own as our schedules are, others where `check` finds them lawful, and else
-with the reason that it gives."""
+"""Rows that are explained (`explain --task`): our own as our schedules are, others where `check` finds them lawful, and
+else with the reason that it gives."""
 import random
 import re
 

@@ -15,12 +15,15 @@ from oracle.operations import text_of
 def lines_of(said):
     """What is listed in lines of what a line of JSON says."""
     claimed = f" claimed {said['claimed']}" if said["claimed"] not in (None, said["cycles"]) else ""
-    yield "block {block} {0} {verdict} cycles {cycles} ours {ours} least {least}".format(said["name"] or "-", **said) + claimed
-    shown = f" with --at {said['memory']['at']}" + "".join(f" {word}" for word in said["memory"]["words"]) if said["memory"] else ""
+    head = "block {block} {0} {verdict} cycles {cycles} ours {ours} least {least}"
+    yield head.format(said["name"] or "-", **said) + claimed
+    memory = said["memory"]
+    shown = " ".join(map(str, ["", "with", "--at", memory["at"], *memory["words"]])) if memory else ""
     if not said["rows"] and said["verdict"] != "lawful":
         yield "  no rows"
     if said["void"]:
-        yield "  the block faults: {operation}".format(**said["void"]) if len(said["void"]) > 1 else "  the block shows nothing"
+        operation = said["void"].get("operation")
+        yield f"  the block faults: {operation}" if operation else "  the block shows nothing"
     if said["difference"]:
         difference = {name: "none" if value is None else value for name, value in said["difference"].items()}
         yield "  " + {"output": "output {number}: {got} for {wanted}", "word": "word {address}: {got} for {wanted}",
@@ -38,11 +41,14 @@ def lines_of(said):
 def reason_of(reason):
     forms = {
         "unread": "line {line}, row {row}: {problem}", "units": "row {row}: {text}: {rule}", "undecided": "undecided",
-        "under_way": "{op} while {other} is under way to row {due}", "brings": "{op} reads r{register}, which {other} brings in row {due}",
-        "replaced": "{op} reads r{register} of {other}, no longer of {lost}", "never_read": "{op}, whose result is never read",
-        "order": "{op} {order} {other}", "for": "{op} for operation {number}: {wanted}", "like_none": "{op} like none of the block", "see": "see {op}"}
+        "under_way": "{op} while {other} is under way to row {due}",
+        "brings": "{op} reads r{register}, which {other} brings in row {due}",
+        "replaced": "{op} reads r{register} of {other}, no longer of {lost}",
+        "never_read": "{op}, whose result is never read", "order": "{op} {order} {other}",
+        "for": "{op} for operation {number}: {wanted}", "like_none": "{op} like none of the block", "see": "see {op}"}
     named = {name: f"row {reason[row]}: {reason[op]}" for name, row, op in (
-        ("op", "row", "operation"), ("other", "other_row", "other_operation"), ("lost", "lost_row", "lost_operation")) if reason.get(op)}
+        ("op", "row", "operation"), ("other", "other_row", "other_operation"), ("lost", "lost_row", "lost_operation"))
+             if reason.get(op)}
     rows = reason.get("row", 0), reason.get("other_row", 0)
     order = "before" if rows[0] < rows[1] else "after" if rows[0] > rows[1] else "not after"
     return forms[reason["kind"]].format(**{"lost": "the start", "order": order, **reason, **named})
@@ -84,22 +90,25 @@ def undecided_cases():
             "total 1600 ours 800 least 800\n").encode(), b"", NOT_SAME)
         yield Run(f"judged/json/{verdict}", ["check", "--json", *words], undecided(), (
             f'{{"block":1,"name":"B1","verdict":"{verdict}","passes":false,"rows":1600,"cycles":1600,"ours":800,'
-            '"least":800,"claimed":null,"void":{"kind":"shows_nothing"},"difference":null,"memory":null,"left_out":null,"added":null,'
-            '"reasons":[{"kind":"undecided"}],"more":0}\n').encode(), b"", NOT_SAME)
+            '"least":800,"claimed":null,"void":{"kind":"shows_nothing"},"difference":null,"memory":null,'
+            '"left_out":null,"added":null,"reasons":[{"kind":"undecided"}],"more":0}\n').encode(), b"", NOT_SAME)
 
 
 def json_cases():
     yield from (listed.case(f"json/{name}", listed.in_json) for name, listed in LISTED.items() if listed.in_json)
-    yield Run("judged/json/two_forms", ["check", "--json", "--csv"], b"a:", b"", b"ilocfarm: --csv and --json exclude each other\n", 2)
+    yield Run("judged/json/two_forms", ["check", "--json", "--csv"], b"a:", b"",
+              b"ilocfarm: --csv and --json exclude each other\n", 2)
     yield Run("judged/json/other_commands", ["counts", "--json"], b"a:", b"", None, 2)
     yield from undecided_cases()
     yield Check("judged/json/tables", are_the_same, texts_of(SAME, VERDICTS, UNLIKE))
     yield Check("judged/json/lawful", are_the_same, texts_of(SAME, VERDICTS), "--lawful")
     yield Check("judged/json/outputs", are_the_same, texts_of(SAME, VERDICTS, SHOWN), "--outputs")
     yield Check("judged/json/listed", are_the_same, [listed[0].encode("latin-1") for listed in LISTED.values()])
-    yield Check("judged/json/drawn", are_the_same, [handed_in(seed, "usual", kind) for seed, kind in enumerate((*RIGHT, *WRONG))])
-    yield Check("judged/json/unread", are_the_same, [f"a:\noutput 0\nb:\nc: output 4\nblock 1 a\n{line}\nblock 3 c\n[ output 8 ]\n".encode("latin-1")
-                                                     for line in UNREAD])
+    yield Check("judged/json/drawn", are_the_same,
+                [handed_in(seed, "usual", kind) for seed, kind in enumerate((*RIGHT, *WRONG))])
+    yield Check("judged/json/unread", are_the_same,
+                [f"a:\noutput 0\nb:\nc: output 4\nblock 1 a\n{line}\nblock 3 c\n[ output 8 ]\n".encode("latin-1")
+                 for line in UNREAD])
 
 
 load_tests = table(json_cases)

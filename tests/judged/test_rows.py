@@ -159,7 +159,8 @@ SHOWN = {
     "fault_left_out": (LOADED + "store r1 => r2\noutput 8\n", "output 8\n", "differs", "no fault with --at 8 1"),
     # A word is kept where a word of memory may say that another goes.
     "spilled_under_a_pointer": (LOADED + "loadI 5 => r3\nstore r3 => r2\nstore r1 => r1\noutput 8\n",
-                                LOADED + "loadI 5 => r3\nloadI 2000 => r9\nstore r1 => r9\nstore r3 => r2\nload r9 => r4\n"
+                                LOADED
+                                + "loadI 5 => r3\nloadI 2000 => r9\nstore r1 => r9\nstore r3 => r2\nload r9 => r4\n"
                                 "store r4 => r1\noutput 8\n", "differs", "output 1: 5 for 8 with --at 8 2000"),
     # The word that is stored is there already.
     "word_put_back": ("loadI 4 => r1\nload r1 => r2\nstore r2 => r1\noutput 4\n", "output 4\n", "same"),
@@ -190,23 +191,27 @@ UNREAD_ROWS = {
     "misspelled_claim": ("[ output 4 ]\ncycles: 1\n// 9", 5, 1, 1, "a number", ":"),
 }
 # The last line of each is the third.
-NO_BLOCK = ["a:\nb:\n[ nop ; nop ]", "a:\nb:\ncycles 0", "a:\n[ nop ; nop ]\nblock 1 a", "a:\ncycles 0\nblock 1 a", "a:\nb:\nblock 0 a",
-            "a:\nb:\nblock 0 b", "a:\nb:\nblock 3 c", "a:\nblock 1 a\nblock 1 a", "a:\nblock 1 a\nblock 1 b", "a:\nblock 1 b\nblock 1 a",
-            "a:\nb:\nblock 2147483647 a", "a:\nb:\nblock 65535 a"]
+NO_BLOCK = ["a:\nb:\n[ nop ; nop ]", "a:\nb:\ncycles 0", "a:\n[ nop ; nop ]\nblock 1 a", "a:\ncycles 0\nblock 1 a",
+            "a:\nb:\nblock 0 a",
+            "a:\nb:\nblock 0 b", "a:\nb:\nblock 3 c", "a:\nblock 1 a\nblock 1 a", "a:\nblock 1 a\nblock 1 b",
+            "a:\nblock 1 b\nblock 1 a", "a:\nb:\nblock 2147483647 a", "a:\nb:\nblock 65535 a"]
 # The first block of two, its name, and another one in its head.
-MISNAMED = [("a:", "a", "b"), ("a:", "a", "-"), ("nop", "-", "a"), ("a:", "a", "A"), ("a:", "a", "ab"), ("ab:", "ab", "a")]
+MISNAMED = [("a:", "a", "b"), ("a:", "a", "-"), ("nop", "-", "a"), ("a:", "a", "A"), ("a:", "a", "ab"),
+            ("ab:", "ab", "a")]
 # Lines before the head of the only block, of which the last can't be read, with what is wanted and found there.
-BEFORE_THE_HEAD = [("[ output 2147483648 ]", "a number up to 2147483647", "2147483648"), ("total 1\nhello", "[", "hello"),
-                   ("cycles 2147483648", "a number up to 2147483647", "2147483648")]
+BEFORE_THE_HEAD = [("[ output 2147483648 ]", "a number up to 2147483647", "2147483648"),
+                   ("total 1\nhello", "[", "hello"), ("cycles 2147483648", "a number up to 2147483647", "2147483648")]
 # The last line of each can't be read, and is of no block.
-UNREAD_OF_NONE = ["a:\nb:\n[ output 2147483648 ]", "a:\nb:\ncycles 2147483648", "a:\nb:\nblock 2147483648 b", "a:\nb:\n[ nop\nblock 1 a"]
+UNREAD_OF_NONE = ["a:\nb:\n[ output 2147483648 ]", "a:\nb:\ncycles 2147483648", "a:\nb:\nblock 2147483648 b",
+                  "a:\nb:\n[ nop\nblock 1 a"]
 BAD, LARGE, NONE = "not understood", "number above 2147483647", NO_SUCH_BLOCK
-NOTHING_TO_JUDGE = ["", "\n", "// none", "total 0\n", "// none\n\ntotal 7 // seven", "[ nop ; nop ]", "block 1 a\ncycles 0",
+NOTHING_TO_JUDGE = ["", "\n", "// none", "total 0\n", "// none\n\ntotal 7 // seven", "[ nop ; nop ]",
+                    "block 1 a\ncycles 0",
                     "\ncycles 0\n", "block 99999999999 a", "[ output 2147483648 ; nop ]", "[ nop ; nop ]\n[ nop ]"]
 # The text, the line of its earliest fault, and the fault.
 EARLIEST = [("a:\nb:\nblock 2 b\n[ nop ; nop ]\nblock 1 a", 5, NONE), ("add r1 r2 => r3\n[ nop ; nop ]\nfoo", 1, BAD),
-            ("a:\nfoo\nblock 2 a\n", 2, BAD), ("a:\nb:\ntotal 1\nfoo\nblock 3 c", 4, BAD), ("a:\ncycles 1\nfoo\nblock 3 c", 4, NONE),
-            ("a:\noutput 2147483648\nfoo\n[ nop ; nop ]", 2, LARGE)]
+            ("a:\nfoo\nblock 2 a\n", 2, BAD), ("a:\nb:\ntotal 1\nfoo\nblock 3 c", 4, BAD),
+            ("a:\ncycles 1\nfoo\nblock 3 c", 4, NONE), ("a:\noutput 2147483648\nfoo\n[ nop ; nop ]", 2, LARGE)]
 
 
 class Listed(NamedTuple):
@@ -250,7 +255,7 @@ def spread(text, apart=6, product_unit=1):
 
 
 def judged(name, text, verdict, *below, outputs=False):
-    """A case of one block with its rows, the verdict, and what is listed below it before why the rows aren't by the book."""
+    """A case of one block with its rows, the verdict, and what is below it before why the rows aren't by the book."""
     return Check(f"judged/{name}", wrongly_judged, text.encode("latin-1"), verdict, below, outputs)
 
 
@@ -314,7 +319,7 @@ def only_own_operations():
 
 
 def outputs_alone():
-    """With `--outputs` each verdict is right of emitted words and faults, and with `--lawful` too the same is listed."""
+    """With `--outputs` each verdict is right of emitted words and faults; `--lawful` changes the status alone."""
     for block, theirs, verdict, *_ in [*SAME.values(), *VERDICTS.values(), *SHOWN.values()]:
         given = (block + spread(theirs)).encode()
         entry, = entries_of(given, USUAL, words_from(4, [9]), outputs=True)
@@ -324,7 +329,8 @@ def outputs_alone():
             yield f"{given!r}: {told((status, out, err))}"
             continue
         yield from entry.wrong(got, is_right=verdict == "same" and not entry.void)
-        both, due = ending([*WORDS, "--outputs", "--lawful"], given), (status_of([got[3].decode()], lawful=True), out, err)
+        both = ending([*WORDS, "--outputs", "--lawful"], given)
+        due = status_of([got[3].decode()], lawful=True), out, err
         if both != due:
             yield f"{given!r}: {told(both)} in place of {told(due)}"
 
@@ -359,7 +365,8 @@ def judged_cases():
 
 def refusals():
     for words in (["--at", "2"], ["--at", "6", "--mult", "2"]):
-        yield Run(f"judged/bad_start_{words[1]}", ["check", *words], b"a:", b"", b"ilocfarm: --at is not a multiple of 4\n", 2)
+        yield Run(f"judged/bad_start_{words[1]}", ["check", *words], b"a:", b"",
+                  b"ilocfarm: --at is not a multiple of 4\n", 2)
     for words in (["--workers", "2"], ["--load", "0"], ["--store", "17"], ["4294967296"]):
         yield Run(f"judged/refused_words_{'_'.join(words)}", ["check", *words], b"a:", b"", None, 2)
     for line in UNREAD.keys() - OF_A_BLOCK:
@@ -382,14 +389,16 @@ def unread_rows():
     """A line that can't be read costs its block, and no other."""
     for line, (wanted, found) in UNREAD.items():
         yield unread(repr(line), f"a:\noutput 0\ncycles 1\n{line}",
-                     f"block 1 a unread cycles 0 ours 1 least 1 claimed 1\n  line 4, row 0: expected {wanted}, found {found}\n"
+                     f"block 1 a unread cycles 0 ours 1 least 1 claimed 1\n"
+                     f"  line 4, row 0: expected {wanted}, found {found}\n"
                      "total 0 ours 1 least 1\n")
     for line, found in TOO_LARGE.items():
         yield unread(repr(line), f"a:\n{line}", "block 1 a unread cycles 0 ours 0 least 0\n"
                      f"  line 2, row 0: expected a number up to 2147483647, found {found}\ntotal 0 ours 0 least 0\n")
     for name, (rows, line, row, cycles, wanted, found) in UNREAD_ROWS.items():
         text = f"{UNREAD_FIRST}{rows}\n{THEN_LAWFUL}"
-        out = (f"block 1 a unread cycles {cycles} ours 1 least 1\n  line {line}, row {row}: expected {wanted}, found {found}\n"
+        out = (f"block 1 a unread cycles {cycles} ours 1 least 1\n"
+               f"  line {line}, row {row}: expected {wanted}, found {found}\n"
                f"block 2 b lawful cycles 1 ours 1 least 1\ntotal {cycles + 1} ours 2 least 2\n")
         for words in ([], ["--lawful"], ["--either-slot"]):
             yield unread("_".join([name, *words]), text, out, *words)
@@ -397,7 +406,8 @@ def unread_rows():
                      f"1,a,unread,{cycles},1,1,\n2,b,lawful,1,1,1,\n", "--csv")
     for first, own, name in MISNAMED:
         yield unread(f"{own}_misnamed_{name}", f"{first}\nb:\nblock 1 {name}\n[ output 4 ]\nblock 2 b\n",
-                     f"block 1 {own} unread cycles 2 ours 0 least 0\n  line 3, row 0: expected the block's name, found {name}\n"
+                     f"block 1 {own} unread cycles 2 ours 0 least 0\n"
+                     f"  line 3, row 0: expected the block's name, found {name}\n"
                      "block 2 b lawful cycles 0 ours 0 least 0\ntotal 2 ours 0 least 0\n")
     for lines, wanted, found in BEFORE_THE_HEAD:
         yield unread(f"before_the_head: {lines!r}", f"a: output 4\n{lines}\nblock 1 a\n[ output 4 ]\n",

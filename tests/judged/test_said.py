@@ -1,4 +1,4 @@
-"""What is said of rows that aren't by the book: the memory that refutes them, wherever inputs lie, and why they aren't."""
+"""What is said of rows that aren't by the book: the memory that refutes them, wherever inputs lie, and why."""
 from forms import USUAL
 from harness.program import TOP, ending, told
 from harness.suite import Check, table

@@ -100,7 +100,8 @@ def own_listings(texts):
         claims = [int(line.split()[1]) for line in listing.splitlines() if line.startswith(b"cycles")]
         entries = [match.groups() for match in ENTRY.finditer(got[1])]
         wrong = [groups for groups, claim in zip(entries, claims)
-                 if groups[2] != b"lawful" or int(groups[3]) != claim or int(groups[4]) != claim or groups[6] or groups[7]]
+                 if groups[2] != b"lawful" or int(groups[3]) != claim or int(groups[4]) != claim or groups[6]
+                 or groups[7]]
         last = b"total %d ours %d least %d\n" % (sum(claims), sum(claims), sum(int(groups[5]) for groups in entries))
         if wrong or len(entries) != len(claims) or got[0] or got[2] or not got[1].endswith(last):
             yield f"{text!r}: {wrong or told(got)}"

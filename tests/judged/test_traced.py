@@ -1,5 +1,5 @@
-"""What rows do on the timed machine (`trace --task`), beside the oracle's log: our own, students' and made ones, and rows that
-aren't traced."""
+"""What rows do on the timed machine (`trace --task`), beside the oracle's log: our own, students' and made ones, and
+rows that aren't traced."""
 import random
 import re
 

@@ -12,7 +12,8 @@ TOOLS = ("awk cat chmod cmp cp find flock grep head mkdir mkfifo mktemp mv nproc
          "tar tee wc").split()
 ENDING = (signal.SIGHUP, signal.SIGINT, signal.SIGTERM)
 # It fails with what the file `says` has, and doesn't end where there is a file `hold`. As `rt try` it answers with its
-# words and its input; as `rt ci` it makes a program that does, and prints the number of its build too; `low` it has kept.
+# words and its input; as `rt ci` it makes a program that does, and prints the number of its build too; `low` it has
+# kept.
 RT = """#!/bin/sh
 [ "$1" != version ] || exec cat "$TEST/kit"
 echo "$1" >>"$TEST/asked"
@@ -26,7 +27,8 @@ if [ "$1" = try ]; then
     printf 'checked: ended status=7\\nraces: not looked for\\nrun=ended status=7 runners=1 proved=no\\n' >&2
     exit 7
 fi
-sed 's/[ :].*//; /^#/d' crates.txt | tee "$TEST/proved" | sed 's/.*/== &\\nlogic=proved\\nrt: & proved/; s/rt: low proved/rt: low is kept: as before/'
+sed 's/[ :].*//; /^#/d' crates.txt | tee "$TEST/proved" |
+    sed 's/.*/== &\\nlogic=proved\\nrt: & proved/; s/rt: low proved/rt: low is kept: as before/'
 mkdir -p crates/ilocfarm/out
 printf '#!/bin/sh\\necho "build %s: $*: $(cat)"\\nexit 7\\n' "$(grep -c ci "$TEST/asked")" >crates/ilocfarm/out/ilocfarm
 chmod +x crates/ilocfarm/out/ilocfarm
@@ -132,7 +134,8 @@ class Answers(Repository):
 
         changes = [(in_place, "crates.txt"), (in_place, "HANDLES"), (in_place, "crates/low/src/lib.rt"),
                    (replaced, "crates/low/specs/Lib.antt"), (os.remove, "crates/high/specs/Lib.antt"),
-                   (in_place, "out/ilocfarm"), (os.remove, "out/ilocfarm"), (in_place, "../KIT-ID"), (os.remove, "../KIT-ID")]
+                   (in_place, "out/ilocfarm"), (os.remove, "out/ilocfarm"), (in_place, "../KIT-ID"),
+                   (os.remove, "../KIT-ID")]
         self.write("kit", "kit 1")
         for number, (change, name) in enumerate(changes, 1):
             with self.subTest(f"{change.__name__} {name}"):
@@ -160,7 +163,8 @@ class Answers(Repository):
         self.write(f"{self.top}/crates/low/src/lib.rt", "\n\n")
         os.remove(f"{self.folder}/slow")
         status, _, err = self.ended(started)
-        self.assertEqual((status, err), (125, "ilocfarm: a source changed meanwhile, or the disk is full: look, and run ./build again\n"))
+        said = "ilocfarm: a source changed meanwhile, or the disk is full: look, and run ./build again\n"
+        self.assertEqual((status, err), (125, said))
         self.answers_unproved()
 
     def test_in_place_for_the_gate(self):
@@ -186,14 +190,17 @@ class Answers(Repository):
         os.mkdir(f"{self.folder}/at home")
         for words, made in ((["check", "--task", "a b"], f"check --task {self.folder}/at home/a b"),
                             (["check", "--task=../b", "3"], f"check --task={self.folder}/at home/../b 3"),
-                            (["check", "--task", "/c", "--csv"], "check --task /c --csv"), (["check", "--task=/c"], "check --task=/c"),
-                            (["check", "--task", "--csv"], "check --task --csv"), (["check", "--task"], "check --task")):
+                            (["check", "--task", "/c", "--csv"], "check --task /c --csv"),
+                            (["check", "--task=/c"], "check --task=/c"),
+                            (["check", "--task", "--csv"], "check --task --csv"),
+                            (["check", "--task"], "check --task")):
             with self.subTest(words):
                 _, out, _ = self.ran(*words, cwd=f"{self.folder}/at home")
                 self.assertEqual(out, f"unproved: {made}: \n")
         self.script("bin/rt", RT.replace('"build %s: $*: $(cat)', '"build %s: $*: $(pwd)'))
         self.assertEqual(self.ran(by="build")[0], 0)
-        self.assertEqual(self.ran("--task", "b", cwd=f"{self.folder}/at home"), (7, f"build 1: --task b: {self.folder}/at home\n", ""))
+        self.assertEqual(self.ran("--task", "b", cwd=f"{self.folder}/at home"),
+                         (7, f"build 1: --task b: {self.folder}/at home\n", ""))
 
     def test_any_input_for_the_program(self):
         self.builds(1)
@@ -203,14 +210,16 @@ class Answers(Repository):
 
     def test_terminal(self):
         for words, told in ((["run"], "blocks"), (["check"], "blocks and rows"), (["check", "--task", "/t"], "rows"),
-                            (["explain", "--task=/t"], "rows"), (["run", "--help"], ""), (["check", "-h", "--task=/t"], ""), (["-h"], ""),
+                            (["explain", "--task=/t"], "rows"), (["run", "--help"], ""),
+                            (["check", "-h", "--task=/t"], ""), (["-h"], ""),
                             ([], ""), (["--version"], ""), (["-V"], ""), (["help", "run"], "")):
             with self.subTest(words), terminal() as (screen, slave):
                 started = self.start(*words, stdin=slave)
                 os.write(screen.master, b"text\n\x04")
                 _, out, err = self.ended(started)
                 reads = f"ilocfarm: reading {told} from the terminal; Ctrl-D on a line of its own ends them\n"
-                self.assertEqual("".join(line for line in err.splitlines(True) if "reading" in line), reads if told else "")
+                self.assertEqual("".join(line for line in err.splitlines(True) if "reading" in line),
+                                 reads if told else "")
                 self.assertEqual(out == f"unproved: {' '.join(words)}: text\n", bool(told))
         self.builds(1)
         with self.subTest("the program says it itself"), terminal() as (screen, slave):
@@ -236,13 +245,15 @@ class Answers(Repository):
         for name in ("man", "charts", "cluster", "docs", "examples", "grading", "CHANGELOG.md", "README.md"):
             os.symlink(f"{TOP}/{name}", f"{self.top}/{name}")
         shutil.copy2(f"{TOP}/install", self.top)
-        status, _, err = self.ran(f"{self.folder}/prefix", by="install", env={"PATH": f"{self.folder}/bin:{os.environ['PATH']}"})
+        status, _, err = self.ran(f"{self.folder}/prefix", by="install",
+                                  env={"PATH": f"{self.folder}/bin:{os.environ['PATH']}"})
         self.assertEqual((status, BUILT in err, os.path.exists(f"{self.folder}/prefix")), (1, True, False))
 
 
 class Fails(Repository):
     def test_without_the_toolchain(self):
-        self.fails("no proved program is here, and the toolchain's command rt is not on the PATH: add its folder", "run", with_rt=False)
+        self.fails("no proved program is here, and the toolchain's command rt is not on the PATH: add its folder",
+                   "run", with_rt=False)
         self.fails("the toolchain's command rt is not on the PATH: add its folder", by="build", with_rt=False)
         self.builds(1)
         self.assertEqual(self.ran("run", given="text", with_rt=False), (7, "build 1: run: text\n", ""))
@@ -250,7 +261,8 @@ class Fails(Repository):
     def test_no_answer(self):
         says = {"checked: no-answer: the program did not end within the time limit\nrun=no-answer proved=no\n":
                 f"no answer: an unproved run has a minute and writes at most 1 MiB\\. {ADVICE}, without these limits",
-                "src/main.rt:1:1: error[x]: y\nrun=none proved=no\n": "no answer: the unproved run failed, as rt says above",
+                "src/main.rt:1:1: error[x]: y\nrun=none proved=no\n":
+                "no answer: the unproved run failed, as rt says above",
                 "": "no answer: the unproved run failed, as rt says above"}
         for said, why in says.items():
             with self.subTest(said):
@@ -263,7 +275,8 @@ class Fails(Repository):
         self.write("says", "rt: low NOT PROVED\n")
         for words in ((), ("--all",)):
             status, out, err = self.ran(*words, by="build")
-            self.assertEqual((status, err), (125, "ilocfarm: not proved, so not built: out/build.log has what rt said\n"))
+            self.assertEqual((status, err),
+                             (125, "ilocfarm: not proved, so not built: out/build.log has what rt said\n"))
             self.assertRegex(out, r"\A(low NOT PROVED, 1 of 3|rt: low NOT PROVED)\n\Z")
         os.remove(f"{self.folder}/says")
         self.answers_unproved()
@@ -284,7 +297,8 @@ class Fails(Repository):
             started = self.start("run")
             script = [f"{self.top}/ilocfarm", "run"]
             given = {"PATH": f"{self.folder}/bin:{self.folder}/tools", "TEST": self.folder}
-            ran = subprocess.run(script, stdin=subprocess.DEVNULL, stdout=full, stderr=subprocess.PIPE, text=True, env=given)
+            ran = subprocess.run(script, stdin=subprocess.DEVNULL, stdout=full, stderr=subprocess.PIPE, text=True,
+                                 env=given)
             started.communicate("", timeout=SECONDS)
         self.assertEqual(ran.returncode, 125)
         self.assertRegex(ran.stderr, r"\nilocfarm: standard output can't be written\n\Z")
@@ -296,12 +310,14 @@ class Fails(Repository):
         self.fails(why, by="build", **nowhere)
         shutil.rmtree(f"{self.top}/out")
         self.write(f"{self.top}/out", "")
-        self.fails(f"{self.top}/out can't be written: make it writable, or build in a copy of the repository", by="build")
+        self.fails(f"{self.top}/out can't be written: make it writable, or build in a copy of the repository",
+                   by="build")
 
     def test_no_repository(self):
         shutil.copy2(f"{self.top}/ilocfarm", self.folder)
         shutil.copy2(f"{self.top}/launcher.sh", self.folder)
-        self.fails(f"no crates.txt in {self.folder}: start this in its repository, or by a link to it", by=f"{self.folder}/ilocfarm")
+        self.fails(f"no crates.txt in {self.folder}: start this in its repository, or by a link to it",
+                   by=f"{self.folder}/ilocfarm")
 
     def test_signals(self):
         advice = {"ilocfarm": ADVICE, "build": "The next ./build proves what rt has not kept"}

@@ -5,7 +5,8 @@ from forms import ROLES
 from oracle.operations import Op
 
 # The opcodes of which a block is drawn.
-FEW = (("loadI", "add"), ("loadI", "sub"), ("loadI", "load", "add"), ("load", "add"), ("load", "output", "add"), ("addI", "mult"),
+FEW = (("loadI", "add"), ("loadI", "sub"), ("loadI", "load", "add"), ("load", "add"), ("load", "output", "add"),
+       ("addI", "mult"),
        ("loadI", "load", "store"), ("loadI", "add", "store", "output"), ("load", "loadAI", "storeAI", "add"))
 
 
@@ -20,14 +21,16 @@ def block(chance, most=12, constants=()):
     """A block of few opcodes, registers and constants: of these, if any are given."""
     opcodes, registers = chance.choice(FEW), chance.choice([2, 3, 4, 6])
     constants = constants or chance.choice([[4], [4], [4, 8]])
-    return [Op(opcode, [chance.choice(constants) if role == "c" else chance.randrange(registers) for role in ROLES[opcode]])
+    return [Op(opcode,
+               [chance.choice(constants) if role == "c" else chance.randrange(registers) for role in ROLES[opcode]])
             for opcode in chance.choices(opcodes, k=chance.randint(2, most))]
 
 
 def rewired(chance, ops):
     """The operations, of which some use and bring other registers."""
     registers, share = sorted({n for op in ops for n in (*op.used, *op.defined)}), chance.choice([0.1, 0.3, 1])
-    return [op.with_numbers(lambda n, role: n if role == "c" or chance.random() > share else chance.choice(registers)) for op in ops]
+    return [op.with_numbers(lambda n, role: n if role == "c" or chance.random() > share else chance.choice(registers))
+            for op in ops]
 
 
 def regular(chance, points, ways):

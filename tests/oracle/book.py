@@ -1,6 +1,6 @@
-"""Whether rows are a schedule of a block by the book: each operation reads what it reads in the block, and no delay by memory
-or outputs is broken. Operations are paired by a plain search among those that are used alike. And whether what is said of other
-rows is so."""
+"""Whether rows are a schedule of a block by the book: each operation reads what it reads in the block, and no delay by
+memory or outputs is broken. Operations are paired by a plain search among those that are used alike. And whether what
+is said of other rows is so."""
 import operator
 import re
 from collections import Counter
@@ -24,7 +24,7 @@ def sources_in_block(ops):
 
 
 def sources_in_rows(issued, latencies):
-    """The same for operations that are issued in cycles: each reads what arrived last, and of equals what was issued last."""
+    """The same for operations issued in cycles: each reads what arrived last, and of equals what was issued last."""
     for cycle, op in issued:
         yield [max(((at + other.latency(latencies), k) for k, (at, other) in enumerate(issued)
                     if register in other.defined and at + other.latency(latencies) <= cycle), default=(0, None))[1]
@@ -36,7 +36,7 @@ def issued_in(rows):
 
 
 def shapes(ops, sources):
-    """What tells operations apart: labels, what is read and by whom each is read, over and over until no more are told apart."""
+    """What tells operations apart: labels, what is read and by whom each is read, until no more are told apart."""
     found, count = [hash(label(op)) for op in ops], 0
     while len(set(found)) > count:
         count = len(set(found))
@@ -64,7 +64,8 @@ def narrowed(found, issued, waits):
         before = [*found]
         for j, earlier in enumerate(waits):
             for i, d in earlier:
-                first, last = min((cycles[k] for k in found[i]), default=0), max((cycles[k] for k in found[j]), default=0)
+                first = min((cycles[k] for k in found[i]), default=0)
+                last = max((cycles[k] for k in found[j]), default=0)
                 found[i] = [k for k in found[i] if cycles[k] + d <= last]
                 found[j] = [k for k in found[j] if first + d <= cycles[k]]
     return found
@@ -75,7 +76,8 @@ def is_paired(ops, wanted, issued, read, latencies):
     if Counter(here) != Counter(there):
         return False
     waits = [[(i, d) for i in range(j) for d in memory_delays(ops[i], ops[j], latencies)] for j in range(len(ops))]
-    found = narrowed([[k for k, shape_there in enumerate(there) if shape_there == shape] for shape in here], issued, waits)
+    found = narrowed([[k for k, shape_there in enumerate(there) if shape_there == shape] for shape in here], issued,
+                     waits)
     partner, taken = {}, set()
 
     def fits(j, k):
@@ -134,7 +136,8 @@ class Reasons:
     def are_counted(self, found):
         what, count, row, op, left_out = found.groups()
         lacking = self.left_out if what == "left out" else self.added
-        named = [self.issued[k][1] for k in self.numbers(row, op)] if what == "added" else [own for own in self.ops if str(own) == left_out]
+        named = [self.issued[k][1] for k in self.numbers(row, op)] if what == "added" else [own for own in self.ops
+                                                                                            if str(own) == left_out]
         return int(count) == lacking.total() and any(lacking[label(own)] for own in named)
 
     def numbers(self, row, text):
@@ -159,20 +162,20 @@ class Reasons:
     def replaces(self, k, register, row, op, lost_row, lost_op):
         cycle, reader = self.issued[k]
         read = {i for used, i in zip(reader.used, self.read[k]) if used == int(register)} & {*self.numbers(row, op)}
-        return any(lost_row is None or any(n != i and int(register) in self.issued[n][1].defined and self.due[n] <= cycle
-                                           for n in self.numbers(lost_row, lost_op)) for i in read)
+        return any(lost_row is None or any(n != i and int(register) in self.issued[n][1].defined and self.due[n]
+                                           <= cycle for n in self.numbers(lost_row, lost_op)) for i in read)
 
     def is_never_read(self, k):
         return bool(self.issued[k][1].defined) and not any(k in read for read in self.read)
 
     def aren_t_in_order(self, k, side, row, op):
-        """Whether the rows have these on those sides, and the block has two that differ from them in registers alone on others."""
+        """Whether the rows have these on those sides, and the block has two, but for registers, on other sides."""
         return any({op.kind for op in (self.issued[k][1], self.issued[n][1])} in KEPT_IN_ORDER
-                   and SIDES[side](self.issued[k][0], int(row)) and self.has_others(self.issued[k][1], self.issued[n][1], side)
-                   for n in self.numbers(row, op))
+                   and SIDES[side](self.issued[k][0], int(row))
+                   and self.has_others(self.issued[k][1], self.issued[n][1], side) for n in self.numbers(row, op))
 
     def has_others(self, one, other, side):
-        """Whether the block has two of these labels of which the first comes later, or sooner if in the rows it comes `after`."""
+        """Whether of two of these labels the block has the first later, or sooner if it comes `after` in the rows."""
         here, there = ([i for i, own in enumerate(self.ops) if label(own) == label(op)] for op in (one, other))
         return any(i < o if side == "after" else o < i for i in here for o in there)
 
@@ -190,7 +193,7 @@ class Reasons:
         return there[k] not in here
 
     def reads_others(self, k):
-        """Whether it doesn't read what its counterpart reads: of a label the first is that of the block's first, and so on."""
+        """Whether it reads other than its counterpart: of a label the first is that of the block's first, and so on."""
         here, there = numbered(self.ops), numbered([op for _, op in self.issued])
         wanted = [self.given[i] for i, other_label in enumerate(here) if other_label == there[k]]
         return any(names(here, given) != names(there, self.read[k]) for given in wanted)
@@ -210,7 +213,8 @@ def terms(ops, sources):
     """A number for each operation that tells its label and the terms of what it reads."""
     found = []
     for op, read in zip(ops, sources):
-        found.append(NUMBERS.setdefault((label(op), tuple(None if i is None else found[i] for i in read)), len(NUMBERS)))
+        found.append(NUMBERS.setdefault((label(op), tuple(None if i is None else found[i] for i in read)),
+                                        len(NUMBERS)))
     return found
 
 

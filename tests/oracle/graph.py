@@ -9,8 +9,8 @@ MARKED = f' [color="{CHAIN}", penwidth=2];'
 
 
 def nearest_pairs(schedule):
-    """Of each two operations the longest delay, unless it is one by memory or outputs and an operation between takes the first
-    one's place: an output an output's, a store any other's."""
+    """Of each two operations the longest delay, unless it is one by memory or outputs and an operation between takes
+    the first one's place: an output an output's, a store any other's."""
     longest = {}
     for i, j, d in schedule.pairs:
         longest[i, j] = max(d, longest.get((i, j), 0))

@@ -1,11 +1,11 @@
 """What `check` must say of schedules that others made.
 
-What is right is worked out anew: texts are read by reader.py, rows and blocks are run on machine.py, our cycles and
-the least ones come of scheduler.py, and what is by the book of book.py. So `unread` has to be said exactly of blocks with a line
-that can't be read, with the place of the first one, `lawful` has to be said exactly of rows by the book, `void` of blocks that
-fault or show nothing, a verdict may never be `same` or, with `--outputs`, `prints` where a run differs on some memory,
-`differs` has to name the place that differs, what is said of rows that aren't by the book has to be so under some pairing,
-and schedules of the kinds in students.py that are right have to be found so.
+What is right is worked out anew: texts are read by reader.py, rows and blocks are run on machine.py, our cycles and the
+least ones come of scheduler.py, and what is by the book of book.py. So `unread` has to be said exactly of blocks with a
+line that can't be read, with the place of the first one, `lawful` has to be said exactly of rows by the book, `void` of
+blocks that fault or show nothing, a verdict may never be `same` or, with `--outputs`, `prints` where a run differs on
+some memory, `differs` has to name the place that differs, what is said of rows that aren't by the book has to be so
+under some pairing, and schedules of the kinds in students.py that are right have to be found so.
 """
 import re
 from functools import cache
@@ -23,8 +23,8 @@ AT = 1024
 MEMORIES = 24
 NOT_SAME = 5
 PASSING = {"lawful", "same", "prints"}
-ENTRY = re.compile(rb"block (\d+) (\S+) (lawful|same|prints|agrees|differs|void|units|unread) cycles (\d+) ours (\d+) least (\d+)"
-                   rb"(?: claimed (\d+))?\n((?:  [^\n]*\n)*)")
+ENTRY = re.compile(rb"block (\d+) (\S+) (lawful|same|prints|agrees|differs|void|units|unread) "
+                   rb"cycles (\d+) ours (\d+) least (\d+)(?: claimed (\d+))?\n((?:  [^\n]*\n)*)")
 MADE_UP = re.compile(r"(.*) with --at (\d+)((?: \d+)*)")
 
 
@@ -133,8 +133,8 @@ class Entry:
             yield f"{got[0]!r}, where line and row {self.block.unread} can't be read"
 
     def says_why(self, lines):
-        """Whether lines say why the rows aren't by the book, all that has to be said. Nothing is said of rows that are, or that
-        break the rules of the units."""
+        """Whether lines say why the rows aren't by the book, all that has to be said. Nothing is said of rows that are,
+        or that break the rules of the units."""
         if self.bad is not None or self.is_lawful:
             return not lines
         return book.Reasons(self.block.ops, self.block.rows, self.latencies).are(lines)
@@ -147,13 +147,15 @@ class Entry:
             yield f"block {self.number}: {verdict}"
         elif verdict != "agrees":
             places = (self.differs_on(start, verdict == "prints") for start in memories(MEMORIES))
-            yield from (f"block {self.number} isn't {verdict}: {place}" for place in [next(filter(None, places), None)] if place)
+            yield from (f"block {self.number} isn't {verdict}: {place}"
+                        for place in [next(filter(None, places), None)] if place)
 
     def wrong_memory(self, detail=""):
         """What is wrong with a difference on a memory that the judge made up."""
         made = MADE_UP.fullmatch(detail)
         at, words = (int(made[2]), [*map(int, made[3].split())]) if made else (0, [])
-        if not made or at % 4 or at // 4 + len(words) > WORDS or self.differs_on(words_from(at, words), self.outputs) != made[1]:
+        is_memory = made and at % 4 == 0 and at // 4 + len(words) <= WORDS
+        if not is_memory or self.differs_on(words_from(at, words), self.outputs) != made[1]:
             yield f"{detail!r} isn't so"
         elif words and not (words[0] and words[-1]):
             yield f"{detail!r} has a 0 at an end"

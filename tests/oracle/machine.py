@@ -95,7 +95,8 @@ def fault_place(ops, start):
 
 
 def difference(ops, rows, latencies, start, outputs=False):
-    """Where the rows differ from the block on a memory, as `check` lists it, or None; memory counts only without `outputs`."""
+    """Where rows differ from the block on a memory, as `check` lists it, or None; memory counts only without
+    `outputs`."""
     wanted = outcome(start, lambda machine: machine.run(ops))
     got = outcome(start, lambda machine: machine.run_timed(rows, latencies))
     if got is None or wanted is None:
@@ -139,7 +140,8 @@ def row_text(row):
 
 def bad_row_text(row):
     """A row that breaks the rules of the units, and the first rule that it breaks."""
-    zero, one = (op and {"load": "load or store", "store": "load or store", "mult": "product", "output": "output"}.get(op.kind)
+    zero, one = (op and {"load": "load or store", "store": "load or store", "mult": "product",
+                         "output": "output"}.get(op.kind)
                  for op in row)
     if zero and zero == one:
         return f"{row_text(row)}: two {' or '.join(f'{rule}s' for rule in zero.split(' or '))}"

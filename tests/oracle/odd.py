@@ -55,7 +55,8 @@ def spoiled(chance, text):
     """The text with a few bytes taken out, put in, exchanged or repeated, or cut off."""
     for _ in range(chance.randrange(1, 4)):
         at, byte = chance.randrange(len(text) + 1), chance.choice(BYTES)
-        text = text[:at] + chance.choice([text[at + 1:], byte + text[at:], byte + text[at + 1:], text[at:at + 6] + text[at:], ""])
+        text = text[:at] + chance.choice([text[at + 1:], byte + text[at:], byte + text[at + 1:],
+                                          text[at:at + 6] + text[at:], ""])
     return text
 
 

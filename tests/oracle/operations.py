@@ -5,7 +5,8 @@ from forms import ROLES, SPELLED, kind_of
 class Op:
     def __init__(self, opcode, numbers):
         self.opcode, self.numbers, self.roles, self.kind = opcode, [*numbers], ROLES[opcode], kind_of(opcode)
-        self.used, self.defined, constants = ([n for n, had in zip(numbers, self.roles) if had == role] for role in "udc")
+        self.used, self.defined, constants = ([n for n, had in zip(numbers, self.roles) if had == role]
+                                              for role in "udc")
         self.constant = constants[0] if constants else None
 
     def latency(self, latencies):

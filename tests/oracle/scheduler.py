@@ -117,7 +117,8 @@ class Schedule:
         return ",".join(map(str, sorted(ended, key=lambda i: self.places[i]))) or "-"
 
     def keeper(self, j, cycle):
-        """What keeps operation j out of the row of a cycle: the first that can't be beside it, or that on unit 0 of a full row."""
+        """What keeps operation j out of a cycle's row: the first that can't be beside it, or that on unit 0 of a full
+        row."""
         there = [i for _, i in sorted((unit, i) for i, (at, unit) in self.places.items() if at == cycle)]
         barring = [i for i in there if not beside(self.ops[i], self.ops[j])]
         return (barring + there[:1] if len(there) == 2 else barring + [None])[0]

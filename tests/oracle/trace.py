@@ -47,8 +47,9 @@ class Issued:
         for place in self.places:
             due = min((sent.due for sent in log if sent.place == place and sent.due > cycle), default=None)
             reads.append(f"{place} = {signed(self.value(place))}" + ("" if due is None else f" until {due}"))
-        verb = " emits " if self.op.kind == "output" else " reads "
-        return f"{'fault' if self.faults else 'issue'} {cycle} unit {unit} {self.op}" + (verb + ", ".join(reads) if reads else "")
+        verb = "emits" if self.op.kind == "output" else "reads"
+        more = f" {verb} {', '.join(reads)}" if reads else ""
+        return f"{'fault' if self.faults else 'issue'} {cycle} unit {unit} {self.op}{more}"
 
 
 def held(arrived, place, start):

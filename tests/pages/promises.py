@@ -96,7 +96,8 @@ class Module:
             clauses = list(CLAUSE.finditer(head))
             cited = cited_in(" ".join(head[clause.end():end_of(head, clause.end())] for clause in clauses), names)
             promise, _ = promise_above(self.source, found.start())
-            yield Row(prefix + found["name"], promise, [clause[2] for clause in clauses if clause[1] == "ensures"], cited)
+            yield Row(prefix + found["name"], promise, [clause[2] for clause in clauses if clause[1] == "ensures"],
+                      cited)
 
     def ghosts(self, place, items, names):
         """The modules that these ghost items within a place cite."""

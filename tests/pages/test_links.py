@@ -1,4 +1,4 @@
-"""The pages lead somewhere: their links, and the files in the table of docs/ARCHITECTURE.md, are there; edits cost what is said."""
+"""Links of pages, and files in the table of docs/ARCHITECTURE.md, are there; edits cost what is said."""
 import glob
 import os
 import re
@@ -28,7 +28,8 @@ class Links(unittest.TestCase):
                 for path in [first, *(f"{folder}/{name}" for name in more if name[0].isupper())]:
                     self.assertTrue(os.path.exists(f"{CRATES}/{path}.antt") or os.path.isdir(f"{CRATES}/{path}"), path)
                 for path, name in re.findall(r"`([\w/]+(?:\.rt|/))`(?: \(`(\w+)`\))?", code):
-                    found = glob.glob(f"{CRATES}/{path}") or glob.glob(f"{CRATES}/{crate}/src/**/{path}", recursive=True)
+                    places = f"{CRATES}/{path}", f"{CRATES}/{crate}/src/**/{path}"
+                    found = [file for place in places for file in glob.glob(place, recursive=True)]
                     self.assertTrue(found, path)
                     self.assertTrue(not name or f"fn {name}" in read(found[0]), name)
                 for path, name in re.findall(r"`([\w/]+)` \(`(\w+)`\)", specs):

@@ -3,8 +3,8 @@
 The tests below are run as `rt test` or the gate built them (crates/CRATE/out). A run in which a growth was refused must
 end with the error of a call that memory, or a thread, was refused to: a test that looks at what is left after the
 refusal and tries again ends with that error all the same. One in which none was refused passes. A run that stops
-elsewhere, at an assertion for one, or doesn't end in time, fails; and so does one that passes though a growth was refused.
-Each run with a refusal counts.
+elsewhere, at an assertion for one, or doesn't end in time, fails; and so does one that passes though a growth was
+refused. Each run with a refusal counts.
 """
 import itertools
 import os
@@ -52,7 +52,8 @@ TESTS = {
 }
 # What a test ends with where a call answers that memory, or a thread, was refused to it.
 REFUSED = [b"error: NoMemory\n", b"error: AllocError\n", b"error: AllocFailed { .. }\n", b"error: NoThread\n",
-           b"error: Read(NoMemory)\n", b"error: Text(NoMemory)\n", b"error: Farm(NoMemory)\n", b"error: Farm(NoThread)\n"]
+           b"error: Read(NoMemory)\n", b"error: Text(NoMemory)\n", b"error: Farm(NoMemory)\n",
+           b"error: Farm(NoThread)\n"]
 
 
 def is_told(ending):

@@ -28,23 +28,25 @@ SAMPLED = 40
 SMALL = (b"A: loadI 8 => r2\nmult r2, r2 => r2\nstore r2 => r2\nB: output 0\noutput 64\nC: output 2\n"
          b"D: loadI 8 => r2\noutput 8\nE: output 8\noutput 2\n")
 BAD = b"output 0\nadd r1 r2 => r3\n"
-# Rows for the small blocks: some with a wrong word, two outputs in a row, a schedule that isn't ours, and none for a block
-# that faults.
+# Rows for the small blocks: some with a wrong word, two outputs in a row, a schedule that isn't ours, and none for a
+# block that faults.
 ROWS = (b"block 1 A\n[ loadI 64 => r1 ; nop ]\n[ storeAI r1 => r1, 4 ; nop ]\nblock 2 B\n[ output 64 ; nop ]\n"
         b"[ nop ; output 0 ]\nblock 3 C\n[ output 2 ; output 2 ]\n"
         b"block 4 D\n[ output 8 ; nop ]\n[ loadI 8 => r3 ; nop ]\n")
-# By name a block and rows for it: sums of which each may be one of several of the block; wrong rows of which only a memory
-# that is made up shows it; and an operation that reads what is brought elsewhere.
+# By name a block and rows for it: sums of which each may be one of several of the block; wrong rows of which only a
+# memory that is made up shows it; and an operation that reads what is brought elsewhere.
 JUDGED = {
     "alike operations": (
         b"a: loadI 4 => r0\nloadI 4 => r1\nadd r0, r0 => r2\nadd r1, r1 => r3\nadd r0, r1 => r4\n",
-        b"block 1 a\n[ loadI 4 => r0 ; loadI 4 => r1 ]\n[ add r0, r1 => r4 ; add r0, r0 => r2 ]\n[ add r1, r1 => r3 ; nop ]\n"),
+        b"block 1 a\n[ loadI 4 => r0 ; loadI 4 => r1 ]\n[ add r0, r1 => r4 ; add r0, r0 => r2 ]\n[ add r1, r1 => r3 ]\n"),
     "a word read too early": (
         b"a: loadI 2048 => r0\nload r0 => r1\nadd r1, r1 => r2\nstoreAI r2 => r0, 4\noutput 2052\n",
-        b"block 1 a\n[ loadI 2048 => r0 ]\n[ load r0 => r1 ]\n[ add r1, r1 => r2 ]\n[ storeAI r2 => r0, 4 ]\n[ output 2052 ]\n"),
+        b"block 1 a\n[ loadI 2048 => r0 ]\n[ load r0 => r1 ]\n[ add r1, r1 => r2 ]\n"
+        b"[ storeAI r2 => r0, 4 ]\n[ output 2052 ]\n"),
     "a sum in another register": (
         b"a: loadI 4 => r1\nloadI 5 => r2\nadd r1, r2 => r3\nstore r3 => r1\nstoreAI r2 => r1, 4\n",
-        b"block 1 a\n[ loadI 4 => r1 ; loadI 5 => r2 ]\n[ add r1, r2 => r2 ]\n[ store r3 => r1 ]\n[ storeAI r2 => r1, 4 ]\n"),
+        b"block 1 a\n[ loadI 4 => r1 ; loadI 5 => r2 ]\n[ add r1, r2 => r2 ]\n"
+        b"[ store r3 => r1 ]\n[ storeAI r2 => r1, 4 ]\n"),
 }
 NO_ROW = b"a: output 0\nblock 1 a\nnop nop\n"
 UNREAD = b"a: output 0\nblock 1 a\n[ nop nop ]\n"
@@ -81,7 +83,8 @@ class Tally:
         return [NO_MEMORY, *[NO_WORKER] * is_starting]
 
     def faults(self):
-        print(f"{self.run}: {self.memory} without memory, {self.workers} without a worker, {self.readers} without a reader")
+        print(f"{self.run}: {self.memory} without memory, {self.workers} without a worker, "
+              f"{self.readers} without a reader")
         is_some = self.memory + self.workers + self.readers
         return self.wrong if is_some else [f"{self.run}: nothing was refused"]
 
