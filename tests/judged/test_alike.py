@@ -1,7 +1,6 @@
 """Blocks with many operations that are alike: our own rows are by the book, and other rows are where an exhaustive
 search finds a pairing."""
 import random
-import re
 
 from harness.program import TESTED, Run, ending, stored, told
 from harness.suite import Check, table
@@ -9,7 +8,7 @@ from judged.labs import Given, scheduled
 from judged.students import WRONG, own_names, registers_reused
 from limits import MAX_NUMBER
 from oracle import alike
-from oracle.judge import proposed
+from oracle.judge import ENTRY, proposed
 from oracle.machine import bad_row, row_text
 from oracle.operations import Op, text_of, words_for
 from oracle.pairings import has_pairing
@@ -20,7 +19,6 @@ OWN, ALL_OWN = 5000, 50_000
 TINY, ALL_TINY = 2000, 20_000
 MOST_TINY = 7
 AT_ONCE = 500           # blocks of a text
-ENTRY = re.compile(rb"block \d+ \S+ (\w+) cycles [^\n]*\n((?:  [^\n]*\n)*)")
 # How schedules are made.
 MADE = [*(["schedule", "--priority", by] for by in ORDERS), ["optimize", "--nodes", "20"]]
 SHORT, LONG = {"load": 2, "store": 3, "mult": 1}, {"load": 16, "store": 7, "mult": 2}
@@ -56,19 +54,7 @@ ROWS_OF_LOADS = """\
 [ add r10, r2 => r16 ; nop ]
 [ add r11, r10 => r14 ; add r11, r8 => r15 ]
 """
-UNUSED_SUMS = b"""\
-x:
-load r0 => r5
-load r0 => r4
-add r2, r4 => r3
-load r0 => r3
-add r2, r2 => r4
-load r0 => r1
-add r3, r5 => r1
-add r2, r3 => r1
-add r2, r3 => r3
-add r5, r5 => r5
-"""
+
 # The first and the last constants, some of which are one modulo 2^31 - 1, and operations that differ in them alone.
 ENDS = [0, 1, MAX_NUMBER - 1, MAX_NUMBER]
 APART = [Op("loadI", [MAX_NUMBER, 4]), Op("loadI", [0, 2]), Op("loadI", [0, 0]), Op("add", [1, 0, 0]),
@@ -79,7 +65,8 @@ NOT_FOUND = {"void", "undecided"}     # of rows for a block that shows nothing
 
 def found_of(listing):
     """Of each block its verdict, `undecided` where it isn't decided whether its rows are by the book."""
-    return ["undecided" if b"undecided" in below else verdict.decode() for verdict, below in ENTRY.findall(listing)]
+    entries = ENTRY.findall(listing)
+    return ["undecided" if b"undecided" in below else verdict.decode() for _, _, verdict, *_, below in entries]
 
 
 def parts(items, count):
@@ -172,14 +159,6 @@ def graphs():
                 yield f"{points} points: {found}"
 
 
-def own_as_ours(block):
-    """Our own rows are explained, byte for byte, as our schedule is."""
-    due = ending(["explain"], block)
-    got = ending(["explain", "--task", stored("own.iloc", block)], ending(["schedule"], block)[1])
-    if got != due or due[0] != PASSED:
-        yield f"{told(got)} in place of {told(due)}"
-
-
 def lawful_rows(name, text, cycles, ours, *words):
     """By `check` of a block with rows that take so many cycles, where ours and the least take as many as is said."""
     listing = f"block 1 - lawful cycles {cycles} ours {ours} least {ours}\ntotal {cycles} ours {ours} least {ours}\n"
@@ -189,7 +168,6 @@ def lawful_rows(name, text, cycles, ours, *words):
 def alike_checks():
     yield lawful_rows("sums_of_constants", SUMS + ROWS_OF_SUMS, 3, 3)
     yield lawful_rows("sums_of_loads", SEVEN_LOADS + ROWS_OF_LOADS, 11, 11, "--lawful")
-    yield Check("judged/alike/unused_sums", own_as_ours, UNUSED_SUMS)
     yield lawful_rows("behind_empty_rows", SUMS + "[ ]\n" * MILLION + ROWS_OF_SUMS, MILLION + 3, 3)
     yield lawful_rows("behind_empty_lines", SUMS + "[ ]\n" + "\n" * MILLION + ROWS_OF_SUMS, 4, 3)
     for made in MADE:
