@@ -2,6 +2,7 @@
 import os
 import re
 from dataclasses import dataclass, field
+from pathlib import Path
 
 # The names of the lines; what follows a name is the line's text, blanks and all.
 LINE = re.compile(r"(only|gate|file|old|new):(?: (.*))?")
@@ -36,8 +37,7 @@ class Edit:
 
 def read(path):
     try:
-        with open(path, encoding="utf-8") as file:
-            return file.read()
+        return Path(path).read_text("utf-8")
     except (OSError, UnicodeDecodeError) as why:
         raise BadEdit(f"{path} can't be read: {why}") from why
 

@@ -7,6 +7,7 @@ import shutil
 import subprocess
 import tempfile
 import threading
+from pathlib import Path
 
 PARTS = ("src", "specs", "proofs")
 BUILDING, BUILT = threading.Lock(), set()
@@ -89,8 +90,7 @@ class Prover:
                 if os.path.isdir(f"{self.crate_folder()}/{part}"):
                     shutil.copytree(f"{self.crate_folder()}/{part}", f"{room}/{part}")
             for name, text in texts.items():
-                with open(f"{room}/{name}", "w", encoding="utf-8") as file:
-                    file.write(text)
+                Path(f"{room}/{name}").write_text(text, "utf-8")
             only = [word for function in functions for word in ("--only", function)]
             words = ["setpriv", "--pdeathsig", "KILL", f"{self.kit}/bin/rattle", "check", *self.words(kept), *only]
             ran = subprocess.run(words, cwd=room, **QUIET)

@@ -4,6 +4,7 @@ import hashlib
 import os
 import re
 from html import escape
+from pathlib import Path
 
 from forms import kind_of
 from lanes import HEIGHT, TOP, Chart
@@ -16,8 +17,7 @@ PARTS = os.path.join(os.path.dirname(os.path.realpath(__file__)), "steps")
 
 
 def part(name):
-    with open(os.path.join(PARTS, name), encoding="utf-8") as file:
-        return file.read()
+    return Path(os.path.join(PARTS, name)).read_text("utf-8")
 
 
 def source_of(block):

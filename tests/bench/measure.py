@@ -6,6 +6,7 @@ import sys
 import time
 from contextlib import contextmanager
 from dataclasses import dataclass
+from pathlib import Path
 
 PR_SET_CHILD_SUBREAPER = 36
 TURNS = 100
@@ -36,13 +37,11 @@ class Counts:
 
 
 def contents(path):
-    with open(path, "rb") as file:
-        return file.read()
+    return Path(path).read_bytes()
 
 
 def stored(path, data):
-    with open(path, "wb") as file:
-        file.write(data)
+    Path(path).write_bytes(data)
     return path
 
 

@@ -2,6 +2,7 @@
 import random
 import re
 import time
+from pathlib import Path
 from xml.etree import ElementTree
 
 from cases.test_stored import CASES, read
@@ -132,8 +133,7 @@ class Charts(Place):
     def test_timeline_of_rows_explained(self):
         """Each operation as it is issued; a register that is used again blames no latency."""
         task, handed_in = (f"{TOP}/tests/cases/stored/rows_explained.{ending}" for ending in ("task", "in"))
-        with open(handed_in, "rb") as file:
-            given = file.read()
+        given = Path(handed_in).read_bytes()
         rows = self.call("ilocfarm", "explain", "--task", task, given=given)[1]
         root = self.picture("charts/timeline", given=rows)
         self.expect("tooltip", tooltips(root)[3].splitlines()[0], "add r1, r2 => r1")

@@ -13,6 +13,7 @@ From these follow more cases, since a rule of the program says so:
 - what `schedule`, `counts`, `compare` and `optimize` print doesn't depend on the number of workers.
 """
 import os
+from pathlib import Path
 
 from harness.program import ALL, FARMED, Run
 from harness.suite import table
@@ -23,8 +24,7 @@ CASES = os.path.join(os.path.dirname(os.path.abspath(__file__)), "stored")
 def read(path, otherwise):
     if not os.path.exists(path):
         return otherwise
-    with open(path, "rb") as file:
-        return file.read()
+    return Path(path).read_bytes()
 
 
 def words_of(path, otherwise):

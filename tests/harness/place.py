@@ -5,6 +5,7 @@ import subprocess
 import tempfile
 import time
 import unittest
+from pathlib import Path
 
 from harness.program import SECONDS, TESTED, TOP, needs, short
 
@@ -28,16 +29,14 @@ class InFolder(unittest.TestCase):
 
     def write(self, name, data):
         os.makedirs(os.path.dirname(self.path(name)), exist_ok=True)
-        with open(self.path(name), "wb") as file:
-            file.write(data.encode() if isinstance(data, str) else data)
+        Path(self.path(name)).write_bytes(data.encode() if isinstance(data, str) else data)
 
     def script(self, name, text):
         self.write(name, text)
         os.chmod(self.path(name), 0o755)
 
     def read(self, name):
-        with open(self.path(name), "rb") as file:
-            return file.read()
+        return Path(self.path(name)).read_bytes()
 
     def text(self, name):
         return self.read(name).decode(errors="replace")
@@ -82,15 +81,13 @@ class Place(InFolder):
 
 def shown_on(page):
     """The commands of a page of the repository, with what is shown below them."""
-    with open(f"{TOP}/{page}", encoding="utf-8") as file:
-        blocks = EXAMPLE.findall(file.read())
+    blocks = EXAMPLE.findall(Path(f"{TOP}/{page}").read_text("utf-8"))
     return [shown for block in blocks for shown in COMMAND.findall(re.sub("^    ", "", block, flags=re.MULTILINE))]
 
 
 def crates_of(name):
     """By name what a crate uses, as crates.txt says, and each crate that it needs."""
-    with open(f"{TOP}/crates.txt", encoding="utf-8") as file:
-        uses = dict(re.findall(r"^(\w+)[^:#\n]*: (.*)$", file.read(), re.MULTILINE))
+    uses = dict(re.findall(r"^(\w+)[^:#\n]*: (.*)$", Path(f"{TOP}/crates.txt").read_text("utf-8"), re.MULTILINE))
     needed = {name}
     while more := {used for crate in needed for used in uses[crate].split() if used in uses} - needed:
         needed |= more

@@ -88,8 +88,7 @@ def is_refused(given):
 
 def cut_anywhere():
     """A hand-in that is cut passes nowhere before its last row."""
-    with open(f"{CLASS}/submissions/ada/both.rows", "rb") as file:
-        rows = file.read()
+    rows = Path(f"{CLASS}/submissions/ada/both.rows").read_bytes()
     for end in range(rows.index(b"[ output 1036")):
         yield from is_refused(rows[:end])
 

@@ -2,6 +2,7 @@
 else with the reason that it gives."""
 import random
 import re
+from pathlib import Path
 
 from forms import USUAL
 from harness.program import TESTED, TOP, ending, stored, told
@@ -78,11 +79,9 @@ TASK = f"{CLASS}/tasks/both.iloc"
 
 
 def class_as_checked():
-    with open(TASK, "rb") as file:
-        task = file.read()
+    task = Path(TASK).read_bytes()
     for name in ("ada", "ben", "dan", "fay", "hal", "gus"):
-        with open(f"{CLASS}/submissions/{name}/both.rows", "rb") as file:
-            rows = file.read()
+        rows = Path(f"{CLASS}/submissions/{name}/both.rows").read_bytes()
         status = ending(["check", "--task", TASK], rows)[0]
         if status in (PASSED, FAILED):
             yield from as_checked(task, rows)

@@ -1,5 +1,6 @@
 """Rows with their blocks and the verdicts due, and lines of schedules that are refused; memory has 9 at 4, else 0."""
 import re
+from pathlib import Path
 from typing import NamedTuple
 
 from forms import USUAL
@@ -231,8 +232,7 @@ class Listed(NamedTuple):
 
 def listed_rows():
     """The cases of rows.cases, by name."""
-    with open(f"{TOP}/tests/judged/rows.cases", encoding="ascii") as file:
-        cases = re.split(r"^= ", file.read(), flags=re.MULTILINE)[1:]
+    cases = re.split(r"^= ", Path(f"{TOP}/tests/judged/rows.cases").read_text("ascii"), flags=re.MULTILINE)[1:]
     for case in cases:
         head, rest = re.sub("^#.*\n", "", case, flags=re.MULTILINE).split("\n", 1)
         text, *listings = re.split(r"^-\n", rest, flags=re.MULTILINE)

@@ -7,12 +7,12 @@ from oracle.judge import NOT_SAME, proposed, wrong_ending
 from oracle.machine import keeps_units
 from oracle.reader import read
 from oracle.scheduler import Schedule
+from pathlib import Path
 
 
 def dot(second):
     """The inner product of examples/dot.iloc, with its second vector at this address."""
-    with open(f"{TOP}/examples/dot.iloc", encoding="utf-8") as file:
-        return file.read().replace("loadI 1036 ", f"loadI {second} ")
+    return Path(f"{TOP}/examples/dot.iloc").read_text("utf-8").replace("loadI 1036 ", f"loadI {second} ")
 
 
 def early_products(rows):

@@ -3,6 +3,7 @@ import os
 import shutil
 import signal
 import subprocess
+from pathlib import Path
 
 from harness.place import InFolder, crates_of, until
 from harness.program import SECONDS, TOP
@@ -42,8 +43,7 @@ BUILT = "ilocfarm: out/ilocfarm is proved and built, and ./ilocfarm runs it\n"
 
 def is_running(pid):
     try:
-        with open(f"/proc/{pid}/stat", encoding="utf-8") as file:
-            return file.read().rpartition(")")[2].split()[0] != "Z"
+        return Path(f"/proc/{pid}/stat").read_text("utf-8").rpartition(")")[2].split()[0] != "Z"
     except (FileNotFoundError, ProcessLookupError):
         return False
 

@@ -5,6 +5,7 @@ import shlex
 import stat
 import subprocess
 import unittest
+from pathlib import Path
 
 from harness.place import Place
 from harness.program import TESTED, TOP
@@ -41,8 +42,7 @@ def folders_above(name):
 def dead_links(folder):
     """The links of pages to what isn't there."""
     for page in sorted(name for name in files_below(folder) if name.endswith(".md")):
-        with open(f"{folder}/{page}", encoding="utf-8") as file:
-            links = re.findall(r"\]\(([^)#:]+)[^):]*\)", file.read())
+        links = re.findall(r"\]\(([^)#:]+)[^):]*\)", Path(f"{folder}/{page}").read_text("utf-8"))
         at = os.path.join(folder, os.path.dirname(page))
         yield from (f"{page}: {link}" for link in links if not os.path.exists(os.path.join(at, link)))
 

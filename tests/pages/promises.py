@@ -13,6 +13,7 @@ import os
 import re
 import sys
 from dataclasses import dataclass
+from pathlib import Path
 
 TOP = os.path.dirname(os.path.dirname(os.path.dirname(os.path.abspath(__file__))))
 CRATES = os.path.join(TOP, "crates")
@@ -46,8 +47,7 @@ class Row:
 
 
 def read(path):
-    with open(path, encoding="utf-8") as file:
-        return file.read()
+    return Path(path).read_text("utf-8")
 
 
 def end_of(text, start):
@@ -241,8 +241,7 @@ def faults():
 def main():
     if sys.argv[1:] != ["--write"]:
         sys.exit(__doc__)
-    with open(PAGE, "w", encoding="utf-8") as file:
-        file.write("\n".join([HEAD, *sections().values()]))
+    Path(PAGE).write_text("\n".join([HEAD, *sections().values()]), "utf-8")
 
 
 if __name__ == "__main__":

@@ -6,6 +6,7 @@ import struct
 import subprocess
 from dataclasses import dataclass
 from functools import cache
+from pathlib import Path
 
 from harness.program import TESTED, ending, folder, needs, stored
 
@@ -88,8 +89,7 @@ def refusing(asked, program=None, **what):
     around = {f"REFUSE_{name.upper()}": str(number) for name, number in what.items()}
     around.update(LD_PRELOAD=library(), REFUSE_REPORT=path)
     end = ending(asked.words, asked.given, program or TESTED.program, env=around)
-    with open(path, "rb") as file:
-        report = Report.of(file.read())
+    report = Report.of(Path(path).read_bytes())
     if report.refused == GROWTH and symbols(program or TESTED.program).is_of_a_start(report):
         report.refused = GROWTH_OF_A_START
     return end, report
