@@ -1,6 +1,6 @@
 """What `lint` says of wrong lines, one by one; its hints; and its texts at the limits."""
 from harness.program import TOP, ending, told
-from harness.suite import Case, Check, rows_of, table
+from harness.suite import Case, rows_of, table
 from limits import MOST_BLOCKS, MOST_BYTES, MOST_OPERATIONS
 
 # So many faults are listed.
@@ -96,21 +96,6 @@ def limits():
     for count, more in ((MOST_LISTED, b""), (MOST_LISTED + 1, b"and 1 more\n"), (2_000_000, b"and 1999000 more\n")):
         bad = b"".join(entry(k, b"x", 'no such opcode "x"', 0) for k in range(1, MOST_LISTED + 1))
         yield Lint(f"{count} faults", b"x\n" * count, bad + more + totals(0, 0, count))
-    yield Check("lint/the reader's fault first", wrong_first)
-
-
-def wrong_first():
-    """Where the first fault isn't that of `run`, or a text without its faulty lines is refused."""
-    for line, _, _ in WRONG:
-        given = b"nop\n" + line + b"\nadd r1\n"
-        numbers = [int(line.split(b":")[0][5:])
-                   for line in ending(["lint"], given)[1].split(b"\n") if line.startswith(b"line ")]
-        said = ending(["run"], given)[2]
-        if not said.startswith(b"ilocfarm: line %d: " % numbers[0]):
-            yield f"{line}: {said} of line {numbers[0]}"
-        left = [b"" if k + 1 in numbers else line for k, line in enumerate(given.split(b"\n"))]
-        if ending(["lint"], b"\n".join(left))[0]:
-            yield f"{line}: refused without lines {numbers}"
 
 
 load_tests = table(cases)

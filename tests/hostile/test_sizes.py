@@ -86,32 +86,36 @@ def full_inputs():
     yield "registers anywhere", registers_anywhere()
 
 
+def own(blocks):
+    """Blocks with our schedules of them."""
+    path = stored("blocks", blocks)
+    return blocks + contents(measure.run([TESTED.program, "schedule"], path, f"{folder()}/listing").output)
+
+
+def lawful_inputs():
+    """Blocks with rows by the book."""
+    yield "own rows, even", lambda: own(filled(even())[:4_000_000].rsplit(b"L", 1)[0])
+    yield "own rows, loads", lambda: own(blocks_of(b"load r0=>r0\n")[:1_100_000].rsplit(b"A", 1)[0])
+    yield "own rows, stores and loads", lambda: own(
+        blocks_of(b"store r1=>r0\n", b"load r0=>r0\n")[:1_800_000].rsplit(b"A", 1)[0])
+    yield "own rows, sums", lambda: own(b"A:\n" + b"add r0, r1 => r0\nmult r0, r0 => r1\n" * 5000)
+    yield "own rows, pointers", lambda: own(b"A:\nload r0 => r1\n" + b"store r1 => r1\nload r1 => r1\n" * 4999)
+    yield "own rows, a table", lambda: own(b"A:\nload r0 => r1\n" + b"".join(
+        b"storeAI r1 => r1, %d\nloadAI r1, %d => r2\n" % (4 * k, 4 * (k - k % 7)) for k in range(4999)))
+    yield "empty rows", lambda: rows(b"[ nop ; nop ]\n" * ((MOST_BYTES - 3) // 14))
+    yield "65,535 heads", lambda: b"A:\n" * MOST_BLOCKS + b"".join(
+        b"block %d A\n" % k for k in range(1, MOST_BLOCKS + 1))
+
+
+def rows(*parts):
+    return b"A:\n" + b"".join(parts)
+
+
 def judged_inputs():
-    """Blocks with rows, and how the listing or the refusal starts: our own, those of one form alone, and one more than
-    is allowed."""
-    def own(blocks):
-        path = stored("blocks", blocks)
-        return blocks + contents(measure.run([TESTED.program, "schedule"], path, f"{folder()}/listing").output)
-
-    def rows(*parts):
-        return b"A:\n" + b"".join(parts)
-
-    empty, lawful, load = b"[ nop ; nop ]\n", b"block 1 A lawful ", b"[ load r0 => r1 ; nop ]\n"
-    free = b"[ loadI 0 => r1 ; addI r2, 1 => r3 ]\n"
-    yield ("own rows, even", lambda: own(filled(even())[:4_000_000].rsplit(b"L", 1)[0]), b"block 1 L1 lawful ")
-    yield ("own rows, loads", lambda: own(blocks_of(b"load r0=>r0\n")[:1_100_000].rsplit(b"A", 1)[0]), lawful)
-    yield ("own rows, stores and loads", lambda: own(blocks_of(b"store r1=>r0\n", b"load r0=>r0\n")[:1_800_000]
-                                                           .rsplit(b"A", 1)[0]), lawful)
-    yield ("own rows, sums", lambda: own(b"A:\n" + b"add r0, r1 => r0\nmult r0, r0 => r1\n" * 5000), lawful)
-    yield ("own rows, pointers", lambda: own(
-        b"A:\nload r0 => r1\n" + b"store r1 => r1\nload r1 => r1\n" * 4999), lawful)
-    yield ("own rows, a table", lambda: own(b"A:\nload r0 => r1\n" + b"".join(
-        b"storeAI r1 => r1, %d\nloadAI r1, %d => r2\n" % (4 * k, 4 * (k - k % 7)) for k in range(4999))), lawful)
-    yield ("empty rows", lambda: rows(empty * ((MOST_BYTES - 3) // len(empty))), lawful)
-    yield ("65,535 heads", lambda: b"A:\n" * MOST_BLOCKS + b"".join(
-        b"block %d A\n" % k for k in range(1, MOST_BLOCKS + 1)), lawful)
+    """Blocks with other rows, and how the listing or the refusal starts: of one form alone, or more than is allowed."""
+    load, free = b"[ load r0 => r1 ; nop ]\n", b"[ loadI 0 => r1 ; addI r2, 1 => r3 ]\n"
     yield ("most claims", lambda: rows(b"cycles 7\n" * ((MOST_BYTES - 3) // 9)),
-                 lawful + b"cycles 0 ours 0 least 0 claimed 7")
+           b"block 1 A lawful cycles 0 ours 0 least 0 claimed 7")
     yield ("a load on the wrong unit", lambda: rows(load * 5000, b"[ nop ; load r0 => r1 ]\n", load * 4999),
            b"block 1 A units cycles 10004 ours 0 least 0\n"
            b"  row 5000: [ nop ; load r0 => r1 ]: a load or store on unit 1\n")
@@ -119,18 +123,18 @@ def judged_inputs():
            b"block 1 A same cycles 5000 ours 1 least 1\n")
     yield ("rows of a block that shows nothing", lambda: rows(free * 5000),
            b"block 1 A void cycles 5000 ours 0 least 0\n  the block shows nothing\n")
-    yield ("a memory of which no word can be left out", lambda: own(multiples())
-           .replace(b"output 1024 ]", b"output 1280 ]"), b"block 1 A differs cycles ")
+    yield ("a memory of which no word can be left out",
+           lambda: own(multiples()).replace(b"output 1024 ]", b"output 1280 ]"), b"block 1 A differs cycles ")
     yield ("10,001 operations in rows", lambda: rows(free * 5000, load),
            refused_line(f"line 5002: more than {MOST_OPERATIONS} operations in a block"))
-    yield "65,535 heads of one block", lambda: rows(b"block 1 A\n"
-                                                    * MOST_BLOCKS), refused_line(f"line 3: {NO_SUCH_BLOCK}")
-    yield "brackets", lambda: rows(b"[]\n", b"[" * (MOST_BYTES - 6)), (
-        b"block 1 A unread cycles 0 ours 0 least 0\n  line 3, row 1: expected an operation, found [\n")
+    yield ("65,535 heads of one block", lambda: rows(b"block 1 A\n" * MOST_BLOCKS),
+           refused_line(f"line 3: {NO_SUCH_BLOCK}"))
+    yield ("brackets", lambda: rows(b"[]\n", b"[" * (MOST_BYTES - 6)),
+           b"block 1 A unread cycles 0 ours 0 least 0\n  line 3, row 1: expected an operation, found [\n")
     yield "a row without an end", lambda: b"A:\n[" + b" " * (MOST_BYTES - 4), refused_line("line 2: not understood")
-    yield "a long number", lambda: b"A:\ncycles " + b"9" * (MOST_BYTES - 10), (
-        b"block 1 A unread cycles 0 ours 0 least 0\n"
-        b"  line 2, row 0: expected a number up to 2147483647, found 99999999999999999999\n")
+    yield ("a long number", lambda: b"A:\ncycles " + b"9" * (MOST_BYTES - 10),
+           b"block 1 A unread cycles 0 ours 0 least 0\n"
+           b"  line 2, row 0: expected a number up to 2147483647, found 99999999999999999999\n")
 
 
 def multiples():
@@ -161,8 +165,8 @@ def size_checks():
             yield Check(f"sizes/{name}", listed_so, name, part * times, part, times)
         yield Check("sizes/slow loads", slow_loads)
         yield Check("sizes/slow loads in little memory", in_little_memory)
-    for name, make, start in judged_inputs():
-        yield Check(f"sizes/check/{name}", begins_so, name, make, start)
+    for case in [*lawful_inputs(), *judged_inputs()]:
+        yield Check(f"sizes/check/{case[0]}", begins_so, *case)
     for case in traced_inputs():
         yield Check(f"sizes/trace/{case[0]}", traced_in_time, *case)
     for name, (op, unit) in ALIKE.items():
@@ -223,9 +227,11 @@ def repeated(listing, times):
     yield b"" if total is None else b"total %d\n" % (times * int(total))
 
 
-def begins_so(name, make, start):
+def begins_so(name, make, start=None):
     """How `check` ends, and how its listing or what it says begins."""
-    got, wrong = measured(name, ["check"], stored("given", make()))
+    given = make()
+    start = start or b"block 1 %s lawful " % given.partition(b":")[0]
+    got, wrong = measured(name, ["check"], stored("given", given))
     status = 1 if start.startswith(b"ilocfarm: ") else 0 if b" same " in start or b" lawful " in start else NOT_SAME
     begun = front(got.output + ".err" * (status == 1))
     if got.status != status or not begun.startswith(start):

@@ -1,6 +1,8 @@
 """Texts that are cut at any byte, have any byte at any place, or are drawn: how each command ends, by the oracle."""
 import random
+import re
 
+from cases.test_lint import WRONG
 from harness.program import COMMANDS, TESTED, ending, told
 from harness.suite import Check, table
 from oracle.odd import odd_text
@@ -53,6 +55,7 @@ def text_checks():
     kinds = {"cut": [FORMS[:end] for end in range(len(FORMS) + 1)],
              "changed": [*changed_texts(SHORT, KINDS if TESTED.is_short else ALL)],
              "drawn": [odd_text(chance) for _ in range(DRAWN if TESTED.is_short else ALL_DRAWN)]}
+    yield Check("texts/wrong/lint", unlike_run, [b"nop\n" + line + b"\nadd r1\n" for line, *_ in WRONG])
     for name, texts in kinds.items():
         for command in COMMANDS:
             step = SELDOM if TESTED.is_short and command != "run" else 1
@@ -82,13 +85,18 @@ def wrong_among(command, texts):
 
 
 def unlike_run(texts):
-    """Where the first line that `lint` lists isn't that for which `run` refuses the text."""
+    """Where the first line that `lint` lists isn't that for which `run` refuses the text, or without those lines a text
+    is refused."""
     for text in texts:
         status, out, err = ending(["lint"], text)
         said = ending(["run"], text)[2]
         first = out.split(b":")[0] if status else b""
         if err or said.removeprefix(b"ilocfarm: ").split(b":")[0] != first:
             yield f"{text!r}: {first} beside {said}"
+        numbers = {int(number) for number in re.findall(rb"(?m)^line (\d+):", out)}
+        left = b"\n".join(b"" if k in numbers else line for k, line in enumerate(text.split(b"\n"), 1))
+        if numbers and ending(["lint"], left)[0]:
+            yield f"{text!r}: refused without lines {numbers}"
 
 
 load_tests = table(text_checks)

@@ -39,7 +39,8 @@ def delays(first, second, latencies):
 
 def pairs_of(ops, latencies):
     """Two operations' numbers and the cycles from one to the other, for each delay."""
-    return [(i, j, d) for j in range(len(ops)) for i in range(j) for d in delays(ops[i], ops[j], latencies)]
+    both = ((i, j) for j in range(len(ops)) for i in range(j))
+    return [(i, j, d) for i, j in both for d in delays(ops[i], ops[j], latencies)]
 
 
 def befores_of(ops, pairs):
