@@ -1,6 +1,5 @@
 """Many blocks in one picture: how many have cycles within which ratio of the least, or of the first column's."""
 import bisect
-import itertools
 import math
 from dataclasses import dataclass
 
@@ -39,11 +38,6 @@ class Ratios:
                 *(f"{number:.3f}" for number in numbers)]
 
 
-def step_for(length):
-    """A round number, of which at most six make this length."""
-    return next(digit * 10 ** zeros for zeros in itertools.count(-2)
-                for digit in (1, 2, 5) if length <= 6 * digit * 10 ** zeros)
-
 
 class Curve:
     """Curves that rise with the share of blocks, and a table."""
@@ -60,7 +54,7 @@ class Curve:
         self.all = [self.ratios(column) for column in columns]
         self.drawn = [ratios for ratios in self.all if ratios.column is not self.base]
         low, high = min(ratios.sorted[0] for ratios in self.drawn), max(ratios.at(0.99) for ratios in self.drawn)
-        self.step = step_for(max(high - low, 0.03))
+        self.step = svg.step_for(max(high - low, 0.03), 6, -2)
         self.low = math.floor(low / self.step + 1e-9) * self.step
         self.high = max(math.ceil(high / self.step - 1e-9) * self.step, self.low + self.step)
 

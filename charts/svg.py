@@ -1,5 +1,6 @@
 """What the charts share: the parts of an SVG picture, in colours that read on light and on dark ground."""
 import html
+import itertools
 import re
 import sys
 
@@ -71,6 +72,12 @@ def group(tooltip, *parts, **attributes):
 
 def width_of(words):
     return LETTER * len(words)
+
+
+def step_for(length, parts, power=0):
+    """A round number, of which at most so many make this length, from this power of ten on."""
+    steps = (digit * 10 ** zeros for zeros in itertools.count(power) for digit in (1, 2, 5))
+    return next(step for step in steps if length <= parts * step)
 
 
 def picture(width, height, title, parts):
