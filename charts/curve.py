@@ -38,7 +38,6 @@ class Ratios:
                 *(f"{number:.3f}" for number in numbers)]
 
 
-
 class Curve:
     """Curves that rise with the share of blocks, and a table."""
 

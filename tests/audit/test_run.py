@@ -4,7 +4,6 @@ In place of the prover is a script that says of each of two functions what its b
 """
 import os
 import shutil
-import subprocess
 
 from harness.place import InFolder, until
 from harness.program import SECONDS, TOP
@@ -101,10 +100,7 @@ class Repository(InFolder):
 
     def started(self, name, *words, **more):
         given = {"PATH": f"{self.path('kit/bin')}:{os.environ['PATH']}", "TEST": self.folder, **more}
-        started = subprocess.Popen([self.path(f"top/{name}"), *words], env=given, stdin=subprocess.PIPE,
-                                   stdout=subprocess.PIPE, stderr=subprocess.PIPE, text=True)
-        self.addCleanup(lambda: (started.kill(), started.communicate()))
-        return started
+        return self.process(self.path(f"top/{name}"), *words, env=given)
 
     def ended(self, started, said=None):
         out, err = started.communicate(said, timeout=SECONDS)

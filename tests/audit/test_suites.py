@@ -2,8 +2,6 @@
 import os
 import shutil
 import signal
-import subprocess
-
 from harness.place import InFolder, until
 from harness.program import SECONDS, TOP
 from launcher.test_launcher import is_running
@@ -51,10 +49,7 @@ class Suites(InFolder):
             self.write(f"tests/{name}.py", MODULE.format(folder=self.folder, name=name, body=body))
 
     def started(self, *words):
-        ran = subprocess.Popen([self.path("tests/run"), "--program", "/bin/true", *words], cwd=self.folder,
-                               stdout=subprocess.PIPE, stderr=subprocess.PIPE, text=True)
-        self.addCleanup(lambda: (ran.kill(), ran.communicate()))
-        return ran
+        return self.process(self.path("tests/run"), "--program", "/bin/true", *words, cwd=self.folder)
 
     def ended(self, *words):
         """Status, what was said, and of that the last line."""

@@ -51,9 +51,7 @@ def shape(mark):
 
 class Charts(Place):
     def picture(self, *words, given=b""):
-        status, out, err = self.call(*words, given=given)
-        self.expect(f"{words}", (status, err), (0, b""))
-        return ElementTree.fromstring(out)
+        return ElementTree.fromstring(self.printed(*words, given=given))
 
     def read_well(self, pairs):
         faint = {pair for pair in pairs if contrast(*pair) < LEAST_CONTRAST}

@@ -90,10 +90,6 @@ COMPLETE = ('source made/$0.bash; COMP_WORDS=($0 "$@"); COMP_CWORD=$#; _$0; echo
 
 
 class Manual(Place):
-    def commands_of(self):
-        """The commands that the top help lists, `help` among them."""
-        out = self.call("ilocfarm", "--help")[1].decode()
-        return re.findall(r"^  (\w+) ", out.partition("Commands:\n")[2].partition("\n\n")[0], re.MULTILINE)
 
     def make(self):
         """Makes the page and the completions of the program's help."""
@@ -136,7 +132,7 @@ class Manual(Place):
         text = self.text(PAGE)
         commands = [command for part in LITERAL.findall(text) for command in COMMAND.findall(part)]
         named = {name for command, _ in commands for name in re.findall(r"\bilocfarm (\w+)", command)}
-        self.expect("commands with an example", named, set(self.commands_of()))
+        self.expect("commands with an example", named, {*self.commands(), "help"})
         self.follows(commands)
 
     def test_help_in_three_ways(self):
@@ -146,11 +142,10 @@ class Manual(Place):
         missing = [limit for limit in (MOST_BYTES, MOST_BLOCKS, MOST_OPERATIONS, MAX_NUMBER)
                    if str(limit).encode() not in top[1]]
         self.expect("limits that the help leaves out", missing, [])
-        for name in self.commands_of():
-            if name != "help":
-                shown = self.call("ilocfarm", name, "--help")
-                self.expect(f"{name}: status", shown[0], 0)
-                self.expect(f"help {name}", self.call("ilocfarm", "help", name), shown)
+        for name in self.commands():
+            shown = self.call("ilocfarm", name, "--help")
+            self.expect(f"{name}: status", shown[0], 0)
+            self.expect(f"help {name}", self.call("ilocfarm", "help", name), shown)
 
     def test_completes(self):
         self.make()
@@ -215,12 +210,10 @@ class Manual(Place):
     def test_names_of_files(self):
         """A file's name is answered, before the usage, by how a command is given the file; no refused advice is
         given."""
-        for name in self.commands_of():
-            if name != "help":
-                status, out, err = self.call("ilocfarm", name, "task.iloc")
-                self.expect(f"{name} task.iloc",
-                            (status, out, f"ilocfarm {name} < FILE" in err.decode().partition("Usage")[0]),
-                            (2, b"", True))
+        for name in self.commands():
+            status, out, err = self.call("ilocfarm", name, "task.iloc")
+            is_told = f"ilocfarm {name} < FILE" in err.decode().partition("Usage")[0]
+            self.expect(f"{name} task.iloc", (status, out, is_told), (2, b"", True))
         for words in (["run", "-1"], ["run", "--workers", "3"], ["check", "-x"], ["simulate", "--", "-1"]):
             self.expect(f"{words}: advises `--`", b"-- " in self.call("ilocfarm", *words)[2], False)
 

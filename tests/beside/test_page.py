@@ -60,10 +60,6 @@ class Page(Place):
         self.browser.seen_on()
         self.lines = []
 
-    def listings(self, *commands, given=b""):
-        """What these commands print of the same input, one after the other."""
-        return b"".join(self.call("ilocfarm", *command, given=given)[1] for command in commands)
-
     def ben(self):
         """The page's listings of Ben's rows, where memory from 1024 on holds 3 and 4."""
         task = f"{CLASS}/tasks/both.iloc"
@@ -78,9 +74,7 @@ class Page(Place):
 
     def open(self, listing, fragment=""):
         """Makes a page of a listing and opens it; nothing may go wrong there until the end of the case."""
-        status, page, err = self.call("charts/page", given=listing)
-        self.expect("page", (status, err), (0, b""))
-        self.write("page.html", page)
+        self.write("page.html", self.printed("charts/page", given=listing))
         self.lines = listing.decode().splitlines()
         self.browser.problems.clear()
         self.browser.open(self.path("page.html"), fragment)

@@ -42,64 +42,57 @@ class View(Place):
         self.expect(f"{words} to a file", self.call("ilocview", *words, "-o", f"drawn.{ending}", **more), (0, b"", b""))
         self.expect(f"the file of {words}", self.read(f"drawn.{ending}"), drawn)
 
-    def listings(self, *commands, path):
-        return b"".join(self.call("ilocfarm", *words, given=self.read(path))[1] for words in commands)
-
-    def filtered(self, *words, given=b""):
-        status, drawn, err = self.call(*words, given=given)
-        self.expect(f"{words}", (status, err), (0, b""))
-        return drawn
-
     def test_page(self):
         """Of our schedules and of rows, on the words that the task has a line for, or those that are given."""
         commands = (["explain"], ["explain", "--cycles"], ["graph"], ["trace"])
-        listing = self.listings(*([*command, *LAB] for command in commands), path=BOOK)
-        self.draws(["page", *LAB, BOOK], self.filtered("charts/page", given=listing))
-        listing = self.listings(*commands[:3], ("trace", "--at", "8", "3", "4294967292"), path=DAN)
-        self.draws(["page", DAN, "-i", "8", "3", "-4"], self.filtered("charts/page", given=listing))
+        listing = self.listings(*([*command, *LAB] for command in commands), given=self.read(BOOK))
+        self.draws(["page", *LAB, BOOK], self.printed("charts/page", given=listing))
+        listing = self.listings(*commands[:3], ("trace", "--at", "8", "3", "4294967292"), given=self.read(DAN))
+        self.draws(["page", DAN, "-i", "8", "3", "-4"], self.printed("charts/page", given=listing))
         rows = ("--task", TASK, *WORDS)
-        listing = self.listings(("graph",), path=TASK) + self.listings(("trace", *rows), ("check", *rows), path=BEN)
-        self.draws(["page", TASK, BEN], self.filtered("charts/page", given=listing))
+        listing = self.listings(("graph",), given=self.read(TASK))
+        listing += self.listings(("trace", *rows), ("check", *rows), given=self.read(BEN))
+        self.draws(["page", TASK, BEN], self.printed("charts/page", given=listing))
 
     def test_timeline(self):
         """With the latencies of its listing, whatever they are; docs/ has two as they are drawn."""
         self.draws(["timeline", *LAB, BOOK], self.read("docs/book.svg"))
         self.draws(["timeline", DAN], self.read("docs/timeline.svg"))
         self.write("two.iloc", self.read(BOOK) + b"second: load r1 => r2\noutput 4\n")
-        listing = self.listings(("explain", "--load", "9"), path="two.iloc")
+        listing = self.listings(("explain", "--load", "9"), given=self.read("two.iloc"))
         options = ("--block", "2", "--load", "9")
-        self.draws(["timeline", "two.iloc", *options], self.filtered("charts/timeline", *options, given=listing))
+        self.draws(["timeline", "two.iloc", *options], self.printed("charts/timeline", *options, given=listing))
         rows = self.read(BEN).rstrip(b"\n")     # without its last line's end
         self.write("a b.rows", rows)
-        listing = rows + b"\n" + self.listings(("check", "--task", TASK, *WORDS), path="a b.rows")
-        self.draws(["timeline", TASK, "a b.rows"], self.filtered("charts/timeline", given=listing))
+        listing = rows + b"\n" + self.listings(("check", "--task", TASK, *WORDS), given=self.read("a b.rows"))
+        self.draws(["timeline", TASK, "a b.rows"], self.printed("charts/timeline", given=listing))
 
     def test_graph(self):
         self.needs("dot")
-        dot = self.listings(("graph", *LAB), path=BOOK)
-        self.draws(["graph", *LAB, BOOK], self.filtered("dot", "-Tsvg", given=dot))
+        dot = self.listings(("graph", *LAB), given=self.read(BOOK))
+        self.draws(["graph", *LAB, BOOK], self.printed("dot", "-Tsvg", given=dot))
 
     def test_compare(self):
         """One file by each priority, several by their cycles, and schedules of one task by what `check` says."""
-        self.write("all", self.listings(("compare", "--nodes", "100"), path=BOOK))
-        self.draws(["compare", "--nodes", "100", BOOK], self.filtered("charts/compare", "all"))
+        self.write("all", self.listings(("compare", "--nodes", "100"), given=self.read(BOOK)))
+        self.draws(["compare", "--nodes", "100", BOOK], self.printed("charts/compare", "all"))
         options = ("--priority", "order", "--load", "2")
         for name, path in (("dan", DAN), ("book", BOOK)):
-            self.write(name, self.listings(("counts", *options), path=path))
-        self.draws(["compare", DAN, BOOK, *options], self.filtered("charts/compare", "dan", "book"))
+            self.write(name, self.listings(("counts", *options), given=self.read(path)))
+        self.draws(["compare", DAN, BOOK, *options], self.printed("charts/compare", "dan", "book"))
         for name, path in (("ben", BEN), ("fay", FAY)):
-            self.write(name, self.listings(("check", "--task", TASK, *WORDS), path=path))
-        self.draws(["compare", "--task", TASK, BEN, FAY], self.filtered("charts/compare", "ben", "fay"))
+            self.write(name, self.listings(("check", "--task", TASK, *WORDS), given=self.read(path)))
+        self.draws(["compare", "--task", TASK, BEN, FAY], self.printed("charts/compare", "ben", "fay"))
 
     def test_compare_names(self):
         """Files are called by what tells them apart: their names, else their folders."""
         for path in ("a=b.iloc", "c d.iloc", "other/c d.iloc"):
             self.write(path, self.read(BOOK))
-        self.write("counts", self.listings(("counts",), path=BOOK))
+        self.write("counts", self.listings(("counts",), given=self.read(BOOK)))
         here = os.path.basename(self.folder)
         for paths, names in ((["a=b.iloc", "c d.iloc"], ["a-b", "c d"]),
                              (["c d.iloc", "other/c d.iloc"], [here, "other"])):
-            drawn = self.filtered("charts/compare", *(f"{name}=counts" for name in names))
+            drawn = self.printed("charts/compare", *(f"{name}=counts" for name in names))
             self.draws(["compare", *paths], drawn)
 
     def test_forms(self):

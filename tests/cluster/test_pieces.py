@@ -38,9 +38,7 @@ def random_file(draw):
 class Pieces(Place):
     def split(self, *options):
         """Cuts the file `blocks`, and gives the number of pieces."""
-        status, out, err = self.call("cluster/split", "blocks", "pieces", *options)
-        self.expect("split", (status, err), (0, b""))
-        return int(out)
+        return int(self.printed("cluster/split", "blocks", "pieces", *options))
 
     def run_piece(self, number, *words, program="ilocfarm"):
         return self.call("cluster/job", "pieces", program, *words, PIECE=str(number))[0]
@@ -85,14 +83,11 @@ class Pieces(Place):
 
     def test_every_command(self):
         """With each option of each command the joined bytes are one run's, or the command is refused by its name."""
-        out = self.call("ilocfarm", "--help")[1].decode()
-        commands = re.findall(r"^  (\w+) ", out.partition("Commands:\n")[2].partition("\n\n")[0], re.MULTILINE)
         self.write("blocks", b"nop\nr1: " + self.read("examples/dot.iloc") + b"c:\nd: output 4\n"
                    + self.read("examples/book.iloc"))
         count, joined = self.split("--blocks", "2"), set()
-        for command, options in [(command, [[], *self.options_of(command)])
-                                 for command in commands if command != "help"]:
-            for option in options:
+        for command in self.commands():
+            for option in [[], *self.options_of(command)]:
                 for number in range(1, count + 1):
                     self.run_piece(number, command, *option)
                 ended = self.join()

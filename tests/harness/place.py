@@ -41,6 +41,19 @@ class InFolder(unittest.TestCase):
     def text(self, name):
         return self.read(name).decode(errors="replace")
 
+    def call(self, *words, given=b"", at=".", **more):
+        """Status, standard output and standard error, in the case's environment."""
+        done = subprocess.run(words, cwd=self.path(at), env={**self.environment, **more}, input=given,
+                              capture_output=True, timeout=5 * SECONDS)
+        return done.returncode, done.stdout, done.stderr
+
+    def process(self, *words, **how):
+        """A process whose streams are texts; it ends with the case."""
+        pipes = dict.fromkeys(("stdin", "stdout", "stderr"), subprocess.PIPE)
+        begun = subprocess.Popen(words, text=True, **{**pipes, **how})
+        self.addCleanup(lambda: (begun.kill(), begun.communicate()))
+        return begun
+
     def expect(self, what, got, wanted):
         if got != wanted:
             self.fail(f"{what}: {short(got, 600)} in place of {short(wanted, 600)}")
@@ -59,11 +72,21 @@ class Place(InFolder):
             os.symlink(f"{TOP}/{name}", self.path(name))
         self.environment = {**os.environ, "PATH": f"{self.path('bin')}:{os.environ['PATH']}", "LC_ALL": "C.UTF-8"}
 
-    def call(self, *words, given=b"", **more):
-        """Status, standard output and standard error."""
-        done = subprocess.run(words, cwd=self.folder, env={**self.environment, **more}, input=given,
-                              capture_output=True, timeout=SECONDS)
-        return done.returncode, done.stdout, done.stderr
+    def printed(self, *words, **how):
+        """What a command prints that ends well and says nothing."""
+        status, out, err = self.call(*words, **how)
+        self.expect(f"{words}", (status, err), (0, b""))
+        return out
+
+    def listings(self, *commands, given=b""):
+        """What these commands print of the same input, one after the other."""
+        return b"".join(self.call("ilocfarm", *words, given=given)[1] for words in commands)
+
+    def commands(self):
+        """The commands that the top help lists, but `help`."""
+        out = self.call("ilocfarm", "--help")[1].decode()
+        found = re.findall(r"^  (\w+) ", out.partition("Commands:\n")[2].partition("\n\n")[0], re.MULTILINE)
+        return [name for name in found if name != "help"]
 
     def shell(self, line):
         """Status, and both outputs as one, as on a terminal."""

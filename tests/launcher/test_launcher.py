@@ -70,13 +70,10 @@ class Repository(InFolder):
             for part in ("src/lib.rt", "specs/Lib.antt", "out/rlib"):
                 self.write(f"{self.top}/crates/{name}/{part}", "\n")
 
-    def start(self, *words, by="ilocfarm", with_rt=True, stdin=subprocess.PIPE, **how):
+    def start(self, *words, by="ilocfarm", with_rt=True, **how):
         path = [f"{self.folder}/bin"] * with_rt + [f"{self.folder}/tools"]
         given = {"PATH": ":".join(path), "TEST": self.folder, "TMPDIR": f"{self.folder}/tmp", **how.pop("env", {})}
-        started = subprocess.Popen([os.path.join(self.top, by), *words], stdin=stdin, stdout=subprocess.PIPE,
-                                   stderr=subprocess.PIPE, text=True, env=given, **how)
-        self.addCleanup(lambda: (started.kill(), started.communicate()))
-        return started
+        return self.process(os.path.join(self.top, by), *words, env=given, **how)
 
     def ended(self, started, given=None):
         """Its status and what it wrote, once nothing of it is left among the temporary files."""

@@ -7,12 +7,11 @@ import os
 import re
 import shutil
 import stat
-import subprocess
 import tarfile
 import unittest
 
 from harness.place import InFolder
-from harness.program import SECONDS, TESTED, TOP, needs
+from harness.program import TESTED, TOP, needs
 from package.test_install import COMMANDS, GRADED, LAB, dead_links, files_below, mounted
 
 CLONED = ("build", "install", "launcher.sh", "package", "packaging", "charts", "cluster", "docs", "examples", "grading",
@@ -64,11 +63,6 @@ class Clones(InFolder):
             copy(f"{TOP}/{name}", self.path(f"one/{name}"))
         self.git("one", "init", "--quiet", "--initial-branch=main")
         self.commits("one")
-
-    def call(self, *words, at=".", **more):
-        done = subprocess.run(words, cwd=self.path(at), env={**self.environment, **more}, capture_output=True,
-                              timeout=5 * SECONDS, stdin=subprocess.DEVNULL)
-        return done.returncode, done.stdout, done.stderr
 
     def git(self, at, *words):
         status, out, err = self.call("git", *words, at=at)
