@@ -2,7 +2,7 @@
 import random
 
 from forms import USUAL
-from harness.program import COMMANDS, listed
+from harness.program import listed
 from harness.suite import table
 from oracle.drawn import made_block
 from oracle.graph import OPENING, cluster
@@ -15,6 +15,10 @@ from oracle.scheduler import ORDERS, Schedule
 from oracle.trace import trace
 
 WORDS = [3, 4_294_967_295, 8, 70, 5, 1_000_000]
+AT = ["--at", "0", *map(str, WORDS)]
+# By name the words that ask for a listing.
+LISTINGS = {"run": ["run", *AT], "simulate": ["simulate", *AT], "schedule": ["schedule"], "counts": ["counts"],
+            "explain": ["explain"], "cycles": ["explain", "--cycles"], "graph": ["graph"], "trace": ["trace", *AT]}
 ODD = {"load": 1, "store": 2, "mult": 16}
 SHORT = {"load": 1, "store": 1, "mult": 1}
 # All but the first two wait for others.
@@ -126,38 +130,22 @@ def drawn_cases():
 
 
 def made(name, blocks, latencies):
-    for command in (*COMMANDS, "explain", "graph", "trace"):
-        words = [] if command == "run" else words_for(latencies)
-        words += ["--at", "0", *map(str, WORDS)] if command in ("run", "simulate", "trace") else []
-        yield listed(f"drawn/{name}/{command}", text_of(blocks), listing(command, blocks, latencies), [command, *words])
-    yield listed(f"drawn/{name}/cycles", text_of(blocks), listing("cycles", blocks, latencies),
-                 ["explain", "--cycles", *words_for(latencies)])
-    yield listed(f"drawn/{name}/run_where", text_of(blocks), places(blocks),
-                 ["run", "--where", "--at", "0", *map(str, WORDS)])
-    yield from by_orders(name, blocks, latencies)
+    text, words, by = text_of(blocks), words_for(latencies), random.Random(name).choice(ORDERS)
 
+    def case(tag, out, *asked):
+        return listed(f"drawn/{name}/{tag}", text, out, [*asked])
 
-def by_orders(name, blocks, latencies):
-    text, words = text_of(blocks), words_for(latencies)
-    for tag, sought, more in (("", None, []), ("_unsearched", unsearched(blocks, latencies), ["--nodes", "0"])):
-        yield listed(f"drawn/{name}/compare{tag}", text, comparison(blocks, latencies, sought),
-                     ["compare", *more, *words])
-        yield listed(f"drawn/{name}/compare_csv{tag}", text, comparison_table(blocks, latencies, sought),
-                     ["compare", "--csv", *more, *words])
-    yield listed(f"drawn/{name}/optimize", text, best_of_orders(blocks, latencies),
-                 ["optimize", "--nodes", "0", *words])
-    by = random.Random(name).choice(ORDERS)
+    for tag, asked in LISTINGS.items():
+        yield case(tag, listing(tag, blocks, latencies), *asked, *words * (tag != "run"))
+        if tag not in ("run", "graph"):
+            yield case(f"{tag}_by_{by}", listing(tag, blocks, latencies, by), *asked, "--priority", by, *words)
+    yield case("run_where", places(blocks), *LISTINGS["run"], "--where")
+    yield case("optimize", best_of_orders(blocks, latencies), "optimize", "--nodes", "0", *words)
     rows = [[Schedule(ops, latencies, by).cycles()] for ops in blocks]
-    yield listed(f"drawn/{name}/counts_csv", text, table_of(["cycles"], rows),
-                 ["counts", "--csv", "--priority", by, *words])
-    for command in ("schedule", "counts", "explain"):
-        yield listed(f"drawn/{name}/{command}_by_{by}", text, listing(command, blocks, latencies, by),
-                     [command, "--priority", by, *words])
-    yield listed(f"drawn/{name}/cycles_by_{by}", text, listing("cycles", blocks, latencies, by),
-                 ["explain", "--cycles", "--priority", by, *words])
-    for command in ("simulate", "trace"):
-        yield listed(f"drawn/{name}/{command}_by_{by}", text, listing(command, blocks, latencies, by),
-                     [command, "--priority", by, *words, "--at", "0", *map(str, WORDS)])
+    yield case("counts_csv", table_of(["cycles"], rows), "counts", "--csv", "--priority", by, *words)
+    for tag, sought, more in (("", None, []), ("_unsearched", unsearched(blocks, latencies), ["--nodes", "0"])):
+        yield case(f"compare{tag}", comparison(blocks, latencies, sought), "compare", *more, *words)
+        yield case(f"compare_csv{tag}", comparison_table(blocks, latencies, sought), "compare", "--csv", *more, *words)
 
 
 def known(name, text, latencies, least):

@@ -26,6 +26,15 @@ class Graded(Place):
         status, out, err = self.call("ilocgrade", tasks, submissions, "--pictures", "none", *words)
         return status, out + err, self.book() if os.path.exists(self.path("grades")) else {}
 
+    def class_of(self, tasks, step=1):
+        """Hands in for these tasks, one student in so many: name, task, kind and rows of each hand-in."""
+        for made in tasks:
+            self.write(f"tasks/{made.name}.iloc", made.text())
+            for number, (name, kind) in [*enumerate(classes.students().items())][::step]:
+                rows = classes.handed_in(made, kind, number)
+                self.write(f"submissions/{name}/{made.name}.rows", classes.text(rows, number if number % 3 else None))
+                yield name, made, kind, rows
+
     def book(self):
         with open(self.path("grades/gradebook.csv"), newline="", encoding="utf-8") as file:
             return {line["student"]: line for line in csv.DictReader(file)}
@@ -35,12 +44,8 @@ class Class(Graded):
     def test_kinds(self):
         """No right hand-in gets less than its points, no wrong one any, and a cheat what the policy gives: nothing."""
         due = {}
-        for made in classes.tasks():
-            self.write(f"tasks/{made.name}.iloc", made.text())
-            for number, (name, kind) in enumerate(classes.students().items()):
-                rows = classes.handed_in(made, kind, number)
-                self.write(f"submissions/{name}/{made.name}.rows", classes.text(rows, number if number % 3 else None))
-                due[name, made.name] = kind in classes.RIGHT, classes.keeps_operations(made, rows), *made.judged(rows)
+        for name, made, kind, rows in self.class_of(classes.tasks()):
+            due[name, made.name] = kind in classes.RIGHT, classes.keeps_operations(made, rows), *made.judged(rows)
         for required in "operations", "outcome":
             status, said, book = self.grade("--require", required)
             self.expect("status", (status, len(book)), (0, classes.STUDENTS))

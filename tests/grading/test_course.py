@@ -70,13 +70,9 @@ class Course(Graded):
         """Half for what is wrong but prints, by the oracle, the right words on the task's memory, where operations
         count."""
         due = {}
-        for made in classes.tasks()[::3]:
-            self.write(f"tasks/{made.name}.iloc", made.text())
-            for number, (name, kind) in enumerate(classes.students().items()):
-                rows = classes.handed_in(made, kind, number)
-                self.hand_in(**{name: (f"{made.name}.rows", classes.text(rows))})
-                differs = Entry(1, Block("B1", made.ops, rows), USUAL, made.start).differs_on(made.start, True)
-                due[name, made.name] = not differs, classes.keeps_operations(made, rows)
+        for name, made, _, rows in self.class_of(classes.tasks()[::3]):
+            differs = Entry(1, Block("B1", made.ops, rows), USUAL, made.start).differs_on(made.start, True)
+            due[name, made.name] = not differs, classes.keeps_operations(made, rows)
         for required in "operations", "outcome":
             book, halves = self.grade("--partial", "0.5", "--require", required)[2], 0
             for (name, task), (prints, keeps) in due.items():

@@ -86,11 +86,8 @@ class ByRoot(Programs):
     def test_class(self):
         """A class's programs have the marks of the rows that they print, with walls and without."""
         apart = 6 if TESTED.is_short else 1
-        for made in classes.tasks()[::apart]:
-            self.write(f"tasks/{made.name}.iloc", made.text())
-            for number, (name, kind) in [*enumerate(classes.students().items())][::apart]:
-                self.write(f"submissions/{name}/{made.name}.rows", classes.text(classes.handed_in(made, kind, number)))
-                self.script(f"submissions/{name}/schedule", '#!/bin/sh\nexec cat "$(sed -n "s,^// ,,p").rows"\n')
+        for name, *_ in self.class_of(classes.tasks()[::apart], apart):
+            self.script(f"submissions/{name}/schedule", '#!/bin/sh\nexec cat "$(sed -n "s,^// ,,p").rows"\n')
         books = [self.grade(*words)[2] for words in (
             (), ("--program", "./schedule"), ("--program", "./schedule", "--unconfined"))]
         for line in (line for book in books for line in book.values()):

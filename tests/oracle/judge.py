@@ -46,7 +46,8 @@ def judged_by(program, cases, *words):
     found = ENTRY.findall(ending(["check", *words], text, program)[1])
     if len(found) != len(cases):
         raise RuntimeError(f"{len(found)} verdicts on {len(cases)} blocks")
-    return [(verdict.decode(), [line[2:] for line in below.decode().splitlines()]) for _, _, verdict, *_, below in found]
+    return [(verdict.decode(), [line[2:] for line in below.decode().splitlines()])
+            for _, _, verdict, *_, below in found]
 
 
 @cache

@@ -38,7 +38,8 @@ ROWS = (b"block 1 A\n[ loadI 64 => r1 ; nop ]\n[ storeAI r1 => r1, 4 ; nop ]\nbl
 JUDGED = {
     "alike operations": (
         b"a: loadI 4 => r0\nloadI 4 => r1\nadd r0, r0 => r2\nadd r1, r1 => r3\nadd r0, r1 => r4\n",
-        b"block 1 a\n[ loadI 4 => r0 ; loadI 4 => r1 ]\n[ add r0, r1 => r4 ; add r0, r0 => r2 ]\n[ add r1, r1 => r3 ]\n"),
+        b"block 1 a\n[ loadI 4 => r0 ; loadI 4 => r1 ]\n[ add r0, r1 => r4 ; add r0, r0 => r2 ]\n"
+        b"[ add r1, r1 => r3 ]\n"),
     "a word read too early": (
         b"a: loadI 2048 => r0\nload r0 => r1\nadd r1, r1 => r2\nstoreAI r2 => r0, 4\noutput 2052\n",
         b"block 1 a\n[ loadI 2048 => r0 ]\n[ load r0 => r1 ]\n[ add r1, r1 => r2 ]\n"
