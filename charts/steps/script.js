@@ -145,7 +145,8 @@ class Stepper {
 
   // Moves slider, band and what scrolls to the cycle.
   place(cycle) {
-    const said = `cycle ${cycle} of ${this.last}`, top = +this.section.dataset.top + this.section.dataset.height * cycle;
+    const said = `cycle ${cycle} of ${this.last}`;
+    const top = +this.section.dataset.top + this.section.dataset.height * cycle;
     this.find("input").value = cycle;
     this.find("input").setAttribute("aria-valuetext", said);
     this.find("output").textContent = said;
@@ -160,7 +161,9 @@ class Stepper {
 }
 
 function reveal(box, top) {
-  if (top < box.scrollTop + 40 || top > box.scrollTop + box.clientHeight - 40) box.scrollTop = top - box.clientHeight / 2;
+  if (top < box.scrollTop + 40 || top > box.scrollTop + box.clientHeight - 40) {
+    box.scrollTop = top - box.clientHeight / 2;
+  }
 }
 
 const steppers = [...document.querySelectorAll("section")].map(it => new Stepper(it));
