@@ -291,29 +291,21 @@ def listed(name, text, *entries):
     return Listed(text, [], out).case(name)
 
 
-def only_lawful():
-    """With `--lawful` the same is listed, and nothing passes but rows by the book."""
-    for block, theirs, verdict, *_ in [*SAME.values(), *VERDICTS.values()]:
-        given = (block + spread(theirs)).encode()
-        _, out, err = ending(WORDS, given)
-        got, due = ending([*WORDS, "--lawful"], given), (status_of([verdict], lawful=True), out, err)
-        if got != due:
-            yield f"{given!r}: {told(got)} in place of {told(due)}"
-
-
-def only_own_operations():
-    """With `--operations` the same is listed, and no rows pass that leave operations of their block out or add some."""
+def other_statuses():
+    """With `--lawful`, `--operations` or both the same is listed, and nothing passes but rows by the book, of operations
+    of which none is left out or added."""
     passed = set()
     for block, theirs, verdict, *_ in [*SAME.values(), *VERDICTS.values()]:
         given = (block + spread(theirs)).encode()
         _, out, err = ending(WORDS, given)
         keeps = operations_of(read(block.encode())[0].ops) == operations_of(read(theirs.encode())[0].ops)
-        for words in [], ["--lawful"]:
-            got = ending([*WORDS, "--operations", *words], given)
-            due = status_of([verdict], lawful=bool(words)) if keeps else NOT_SAME, out, err
+        for words in ["--lawful"], ["--operations"], ["--operations", "--lawful"]:
+            got = ending([*WORDS, *words], given)
+            is_kept = keeps or "--operations" not in words
+            due = status_of([verdict], "--lawful" in words) if is_kept else NOT_SAME, out, err
             passed |= {(verdict, keeps, got[0] == 0)}
             if got != due:
-                yield f"{given!r}: {told(got)} in place of {told(due)}"
+                yield f"{given!r}: {told(got)} with {words} in place of {told(due)}"
     if not passed >= {("same", True, True), ("same", False, False), ("lawful", True, True)}:
         yield f"no more than {passed} were tried"
 
@@ -344,8 +336,7 @@ def judged_cases():
         yield judged(name, block + spread(theirs), *said)
     for name, (block, theirs) in UNLIKE.items():
         yield Check(f"judged/unlike_{name}", isnt_passed, block + spread(theirs))
-    yield Check("judged/only_lawful", only_lawful)
-    yield Check("judged/only_own_operations", only_own_operations)
+    yield Check("judged/other_statuses", other_statuses)
     for name, (block, theirs, *said) in SHOWN.items():
         yield judged(f"outputs_{name}", block + spread(theirs), *said, outputs=True)
     yield Check("judged/outputs_alone", outputs_alone)
