@@ -53,6 +53,11 @@ class Charts(Place):
     def picture(self, *words, given=b""):
         return ElementTree.fromstring(self.printed(*words, given=given))
 
+    def refuses(self, script, words, given, said):
+        """Nothing is drawn, and why is said in a line."""
+        ended = self.call(f"charts/{script}", *words, given=given)
+        self.expect(f"{script} {words} {given[:40]}", ended, (1, b"", f"charts/{script}: {said}\n".encode()))
+
     def read_well(self, pairs):
         faint = {pair for pair in pairs if contrast(*pair) < LEAST_CONTRAST}
         self.expect("texts of too little contrast", (faint, bool(pairs)), (set(), True))
@@ -137,10 +142,9 @@ class Charts(Place):
         self.expect("tooltip", tooltips(root)[3].splitlines()[0], "add r1, r2 => r1")
         self.expect("title", root.find(f"{SVG}title").text, "block 1: 14 cycles, at least 13")
         early = self.call("ilocfarm", "explain", "--task", task, given=given.replace(b"[ ]\n", b""))
-        self.expect("rows that come early", self.call("charts/timeline", given=early[1]),
-                    (1, b"", b"charts/timeline: the rows of block 1 are not lawful: row 3: add r1, r2 => r1 reads r1, "
-                             b"which row 1: load r9 => r1 brings in row 6; row 3: add r1, r2 => r1 reads r2, "
-                             b"which row 2: loadAI r9, 4 => r2 brings in row 7\n"))
+        self.refuses("timeline", (), early[1], "the rows of block 1 are not lawful: row 3: add r1, r2 => r1 reads r1, "
+                     "which row 1: load r9 => r1 brings in row 6; row 3: add r1, r2 => r1 reads r2, "
+                     "which row 2: loadAI r9, 4 => r2 brings in row 7")
 
     def test_timeline_of_many(self):
         """Three hundred operations, each drawn once; the second block of two, for other latencies."""
@@ -181,25 +185,23 @@ class Charts(Place):
     def test_timeline_refuses(self):
         listing = self.call("ilocfarm", "schedule", "--load", "2", given=BLOCK)[1]
         for words, given, said in (
-                ([], listing, b"these are not the latencies of the listing: give them by --load, --store and --mult"),
-                (["--block", "2", "--load", "2"], listing, b"the listing has no block 2"),
-                ([], b"", b"the listing has no block 1"),
-                ([], b"block 1 a\n7\n", b"line 2 is none of a listing of schedule or explain: 7")):
-            self.expect(f"timeline {words}", self.call("charts/timeline", *words, given=given),
-                   (1, b"", b"charts/timeline: " + said + b"\n"))
+                ([], listing, "these are not the latencies of the listing: give them by --load, --store and --mult"),
+                (["--block", "2", "--load", "2"], listing, "the listing has no block 2"),
+                ([], b"", "the listing has no block 1"),
+                ([], b"block 1 a\n7\n", "line 2 is none of a listing of schedule or explain: 7")):
+            self.refuses("timeline", words, given, said)
         self.expect("status", self.call("charts/timeline", "--load", "17", given=listing)[0], 2)
 
     def test_timeline_of_hostile_texts(self):
         """What can't be drawn is said in a line; what is drawn is XML, whatever the bytes, and soon there."""
         late = EXPLAINED.replace(b"6 cycle 12", b"6 cycle 200000").replace(b"cycles 13", b"cycles 200001")
         for given, said in (
-                (b"[ ]\ncycles " + b"9" * 5000, b"a number of 5000 digits: 9999999999.."),
-                (EXPLAINED.replace(b"after 5", b"after 8"), b"operation 6 waited for 8, which the listing hasn't"),
+                (b"[ ]\ncycles " + b"9" * 5000, "a number of 5000 digits: 9999999999.."),
+                (EXPLAINED.replace(b"after 5", b"after 8"), "operation 6 waited for 8, which the listing hasn't"),
                 (EXPLAINED.replace(b"cycle 1 unit 1", b"cycle 1 unit 0"),
-                 b"block 1 has two operations on one unit in one cycle"),
-                (late, b"block 1 takes 200001 cycles: at most 160000 are drawn")):
-            self.expect(f"{given[:40]}", self.call("charts/timeline", given=given),
-                        (1, b"", b"charts/timeline: " + said + b"\n"))
+                 "block 1 has two operations on one unit in one cycle"),
+                (late, "block 1 takes 200001 cycles: at most 160000 are drawn")):
+            self.refuses("timeline", (), given, said)
         begun = time.monotonic()
         self.picture("charts/timeline", given=b"[ " + b";" * 1_000_000 + b" ]")
         self.picture("charts/timeline", given=b"[ load r1 => r2 ]\n" * 10_000)
@@ -297,18 +299,16 @@ class Charts(Place):
         row = next(root.iter(f"{SVG}g"))
         marks = {(mark.tag, mark.get("fill"), shape(mark)) for mark in row if mark.get("fill")}
         self.expect("marks", len(marks), 36)
-        self.expect("status", self.call("charts/compare", *(f"l{k}" for k in range(37))),
-               (1, b"", b"charts/compare: more than 36 listings can't be told apart\n"))
+        self.refuses("compare", [f"l{k}" for k in range(37)], b"", "more than 36 listings can't be told apart")
 
     def test_page_refuses(self):
         """A listing that was changed: a number that is too long, edges from and to no operation."""
-        listing = b"".join(self.call("ilocfarm", command, given=BLOCK)[1] for command in ("graph", "trace"))
+        listing = self.listings(["graph"], ["trace"], given=BLOCK)
         for old, new, said in (
-                (b"issue 0", b"issue " + b"0" * 5000, b"a number of 5000 digits: 0000000000.."),
-                (b"b1_5 -> b1_6", b"b1_5 -> b1_9", b"the graph of block 1 lacks an operation"),
-                (b"b1_5 -> b1_6", b"b1_6 -> b1_5", b"the graph of block 1 lacks an operation")):
-            self.expect(f"{new[:20]}", (self.call("charts/page", given=listing.replace(old, new)), old in listing),
-                        ((1, b"", b"charts/page: " + said + b"\n"), True))
+                (b"issue 0", b"issue " + b"0" * 5000, "a number of 5000 digits: 0000000000.."),
+                (b"b1_5 -> b1_6", b"b1_5 -> b1_9", "the graph of block 1 lacks an operation"),
+                (b"b1_5 -> b1_6", b"b1_6 -> b1_5", "the graph of block 1 lacks an operation")):
+            self.refuses("page", (), listing.replace(old, new), said)
 
     def test_compare_of_many(self):
         """Above sixty blocks ratios, not rows: a curve a listing, and a table."""
@@ -344,14 +344,13 @@ class Charts(Place):
         self.write("other", b"block 1 - cycles 4\n[ nop ; nop ]\n")
         self.write("both", b"block 1 - cycles 4\nblock 2 - least 4 chain 5\n")
         self.write("digits", b"block 1 - cycles " + b"9" * 5000 + b"\n")
-        for words, said in ((["one", "two"], b"the listings have 1, 2 blocks: only the same ones can be compared"),
-                            (["one", "none"], b"none: there is no block"),
+        for words, said in ((["one", "two"], "the listings have 1, 2 blocks: only the same ones can be compared"),
+                            (["one", "none"], "none: there is no block"),
                             (["one", "other"],
-                             b"other: line 2 is none of a listing of counts, check or compare: [ nop ; nop ]"),
-                            (["one", "digits"], b"a number of 5000 digits: 9999999999.."),
-                            (["one"], b"one listing of counts or check can't be compared: give another"),
-                            (["both"], b"both: the blocks are listed in more than one way")):
-            self.expect(f"compare {words}", self.call("charts/compare", *words),
-                        (1, b"", b"charts/compare: " + said + b"\n"))
+                             "other: line 2 is none of a listing of counts, check or compare: [ nop ; nop ]"),
+                            (["one", "digits"], "a number of 5000 digits: 9999999999.."),
+                            (["one"], "one listing of counts or check can't be compared: give another"),
+                            (["both"], "both: the blocks are listed in more than one way")):
+            self.refuses("compare", words, b"", said)
         self.expect("status", self.call("charts/compare")[0], 2)
         self.expect("status", self.call("charts/compare", "one", "nowhere")[0], 4)

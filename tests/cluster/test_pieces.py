@@ -182,18 +182,12 @@ class Pieces(Place):
         self.expect("joined", self.join(), (3, b"", b"cluster/join: piece 3 was run as ['counts', '--load', '1'], "
                                                 b"and piece 1 as ['counts']\n"))
 
-    def test_short_listing(self):
-        self.two_blocks()
-        for number in (1, 2, 3):
-            self.run_piece(number, "counts")
-        self.write("pieces/2.result/out", b"")
-        self.expect("joined", self.join(), (3, b"", b"cluster/join: piece 2 has 1 blocks, and its listing others\n"))
-
     def test_broken_pieces(self):
         """A file that was changed or cut is no listing, and its piece is named."""
         self.two_blocks()
         for name, text, said in (
                 ("2.result/status", b"", b"not run to their end: 2"),
+                ("2.result/out", b"", b"piece 2 has 1 blocks, and its listing others"),
                 ("2.result/out", b"block 1 b cycles 0\ntotal " + b"9" * 5000 + b"\n",
                  b"piece 2 has 1 blocks, and its listing others"),
                 ("3.result/out", b"block 1 c cycles 0\ntotal 0 least 0\n",
