@@ -96,9 +96,9 @@ class Chart:
         marked = {"stroke": mark, "stroke_width": 2} if mark else {}
         x, y = self.starts[operation.unit], self.y(operation.cycle)
         dot = [svg.mark(0, x, y + HEIGHT / 2, PATH, DOT)] if operation.number in self.path else []
-        return [svg.rectangle(x, y + 1, self.boxes[operation.unit], HEIGHT - 2, COLOURS[operation.kind()], class_="box",
-                              **marked), *dot,
-                svg.text(x + 6, y + 13, operation.label(), "on")]
+        filled = svg.rectangle(x, y + 1, self.boxes[operation.unit], HEIGHT - 2, COLOURS[operation.kind()],
+                               class_="box", **marked)
+        return [filled, *dot, svg.text(x + 6, y + 13, operation.label(), "on")]
 
     def parts(self):
         yield svg.text(MARGIN, 20, self.title(), "ink head")

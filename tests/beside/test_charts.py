@@ -175,10 +175,9 @@ class Charts(Place):
                       if any(part.get("stroke") == WRONG_OUTLINE for part in group)]
             self.expect("wrong", marked, ["add r1, r2 => r3\nunit 0, issued at 6, arrives at 7\nrow 6: add r1, r2 "
                                           "=> r3 reads r2, which row 2: loadAI r0, 4 => r2 brings in row 7"])
-        root = self.picture(
-            "charts/timeline",
-            given=b"[ ]\n[ multI r1, 2 => r2 ]\n[ ; output 4 ]\nblock 1 - units cycles 4 ours 4 least 4\n"
-                            b"  row 2: [ nop ; output 4 ]\ntotal 4 ours 4 least 4\n")
+        rows = b"[ ]\n[ multI r1, 2 => r2 ]\n[ ; output 4 ]\n"
+        said = b"block 1 - units cycles 4 ours 4 least 4\n  row 2: [ nop ; output 4 ]\ntotal 4 ours 4 least 4\n"
+        root = self.picture("charts/timeline", given=rows + said)
         self.expect("rows of one operation", tooltips(root), ["multI r1, 2 => r2\nunit 1, issued at 1, arrives at 4",
                     "output 4\nunit 1, issued at 2, arrives at 3\nrow 2: [ nop ; output 4 ]"])
 

@@ -64,9 +64,9 @@ class Page(Place):
         """The page's listings of Ben's rows, where memory from 1024 on holds 3 and 4."""
         task = f"{CLASS}/tasks/both.iloc"
         rows = ("--task", task, "3", "4")
-        return (self.listings(("graph",), given=self.read(task))
-                + self.listings(("trace", *rows), ("check", *rows),
-                                given=self.read(f"{CLASS}/submissions/ben/both.rows")))
+        given = self.read(f"{CLASS}/submissions/ben/both.rows")
+        graph = self.listings(("graph",), given=self.read(task))
+        return graph + self.listings(("trace", *rows), ("check", *rows), given=given)
 
     def block(self, text, *options):
         return self.listings(("explain", *options), ("explain", "--cycles", *options), ("graph", *options),
@@ -152,10 +152,10 @@ class Page(Place):
         """Each control is reached by the keyboard."""
         self.open(self.block(self.read(f"{CLASS}/tasks/both.iloc")))
         seen = []
+        active = "document.activeElement"
         for _ in range(8):
             self.browser.key("Tab")
-            seen.append(
-                self.value("document.activeElement.getAttribute('aria-label') || document.activeElement.textContent"))
+            seen.append(self.value(f"{active}.getAttribute('aria-label') || {active}.textContent"))
         self.expect("order", seen[:3], ["one cycle back", "cycle", "one cycle on"])
         self.expect("the trace", "The trace" in seen, True)
 

@@ -1,5 +1,6 @@
 """What the commands must print of drawn blocks, by the oracle; and what is known of some blocks beside it."""
 import random
+from functools import partial
 
 from forms import USUAL
 from harness.program import listed
@@ -46,8 +47,8 @@ def listing(command, blocks, latencies, by="chain"):
         others = {"explain": lambda: [head, *schedule.lines()], "graph": lambda: cluster(k, f"B{k}", schedule),
                   "cycles": lambda: [head, *ready_lines(schedule), schedule.summary()],
                   "trace": lambda: [head, *trace(schedule.rows, latencies, words_from(0, WORDS))]}
-        lines += others[command]() if command in others else entry(command, head, ops, lambda: schedule,
-                                                                   words_from(0, WORDS))
+        usual = partial(entry, command, head, ops, lambda: schedule, words_from(0, WORDS))
+        lines += others.get(command, usual)()
         total += cycles
     ending = {"run": [], "simulate": [], "trace": [], "graph": ["}"]}.get(command, [f"total {total}"])
     lines[:0] = [OPENING] if command == "graph" else []

@@ -57,8 +57,8 @@ class Course(Graded):
         self.write("late.csv", "name;late\nFay;2\nben;30:00:00\nada;\n")
         status, _, book = self.grade("--late", "late.csv", "--per-day", "1.5", "--hidden", "other", "--floor", "0")
         fay = round(10 * (1 - 5 / 21), 2), round(20 * (1 - 5 / 21), 2)
-        self.expect("points", {name: (line["both"], line["other"], line["total"], line["days late"])
-                               for name, line in book.items()}, {
+        cells = ("both", "other", "total", "days late")
+        self.expect("points", {name: tuple(line[cell] for cell in cells) for name, line in book.items()}, {
             "ada": ("10", "20", "30", ""), "ben": ("0", "0", "0", "2"),
             "fay": (f"{fay[0]}", f"{fay[1]}", f"{round(sum(fay) - 3, 2)}", "2")})
         said = self.text("grades/feedback/fay/feedback.txt").splitlines()

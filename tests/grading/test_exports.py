@@ -61,12 +61,13 @@ class Exports(Graded):
         self.write("late.csv", "name,late\nAnn X,soon 1\n")
         self.write("short.csv", "ID,Grade\n1\n2,\n")
         for words, why in (
-            (("--merge", "site.csv", "--by", "ID", "--column", "Grad"),
-             "site.csv: there is no column Grad; there is Name, ID, Grade"),
-            (("--roster", "site.csv", "--by", "Id No"), "site.csv: there is no column Id No; there is Name, ID,"),
-            (("--late", "late.csv"), "late.csv: soon 1 is neither days nor a time after --due"),
-            (("--merge", "short.csv", "--by", "ID", "--column", "Grade"), "short.csv: 1 row too short to be filled"),
-                           (("--layout", "gradescope"), "submission_metadata.yml")):
+                (("--merge", "site.csv", "--by", "ID", "--column", "Grad"),
+                 "site.csv: there is no column Grad; there is Name, ID, Grade"),
+                (("--roster", "site.csv", "--by", "Id No"), "site.csv: there is no column Id No; there is Name, ID,"),
+                (("--late", "late.csv"), "late.csv: soon 1 is neither days nor a time after --due"),
+                (("--merge", "short.csv", "--by", "ID", "--column", "Grade"),
+                 "short.csv: 1 row too short to be filled"),
+                (("--layout", "gradescope"), "submission_metadata.yml")):
             status, said, _ = self.grade(*words, tasks=BOTH, submissions="export")
             self.expect(f"{words}: {said}", (status, why in said.decode(), b"Traceback" in said), (3, True, False))
 

@@ -24,9 +24,9 @@ class Sites(Graded):
         self.expect("fields", sorted(given), sorted(fields))
         for name, kind in fields.items():
             value = given[name]
-            fine = value in kind if isinstance(kind, tuple) else isinstance(value,
-                                                                            (int, float) if kind is float else kind)
-            self.expect(f"{name}: {value!r}", fine, True)
+            types = (int, float) if kind is float else kind
+            is_fine = value in kind if isinstance(kind, tuple) else isinstance(value, types)
+            self.expect(f"{name}: {value!r}", is_fine, True)
 
     def test_gradescope(self):
         """results.json has the fields that Gradescope reads, and status 0 whatever the student did."""

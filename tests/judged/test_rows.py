@@ -292,8 +292,8 @@ def listed(name, text, *entries):
 
 
 def other_statuses():
-    """With `--lawful`, `--operations` or both the same is listed, and nothing passes but rows by the book, of operations
-    of which none is left out or added."""
+    """With `--lawful`, `--operations` or both the same is listed, and nothing passes but rows by the book, or of just
+    the block's operations, or both."""
     passed = set()
     for block, theirs, verdict, *_ in [*SAME.values(), *VERDICTS.values()]:
         given = (block + spread(theirs)).encode()

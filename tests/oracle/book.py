@@ -136,8 +136,8 @@ class Reasons:
     def are_counted(self, found):
         what, count, row, op, left_out = found.groups()
         lacking = self.left_out if what == "left out" else self.added
-        named = [self.issued[k][1] for k in self.numbers(row, op)] if what == "added" else [own for own in self.ops
-                                                                                            if str(own) == left_out]
+        issued = [self.issued[k][1] for k in self.numbers(row, op)] if what == "added" else []
+        named = issued if what == "added" else [own for own in self.ops if str(own) == left_out]
         return int(count) == lacking.total() and any(lacking[label(own)] for own in named)
 
     def numbers(self, row, text):
