@@ -136,14 +136,14 @@ def groups(students, tasks):
     for at, task in enumerate(tasks):
         found = defaultdict(list)
         for student in students:
-            for number, text in enumerate(student.row[at].alike):
-                found[number, text].append(student)
+            for kind, text in enumerate(student.row[at].alike):
+                found[kind, text].append(student)
         seen = set()
-        for (number, _), several in sorted(found.items(), key=lambda entry: entry[0][0]):
+        for (kind, _), several in sorted(found.items(), key=lambda entry: entry[0][0]):
             names = tuple(student.name for student in several)
             if len(names) > 1 and names not in seen:
                 seen.add(names)
-                how = "wrong in the same way, but for registers and blanks" if number else "equal to the byte"
+                how = "wrong in the same way, but for registers and blanks" if kind else "equal to the byte"
                 yield task, how, several[0].row[at].passes(), names
 
 

@@ -1,6 +1,5 @@
 """The ready list (`explain --cycles`) beside what a script makes of `explain`, and the schedule that its lines give."""
 import subprocess
-from pathlib import Path
 
 from harness.program import TOP, ending
 from harness.suite import Check, table

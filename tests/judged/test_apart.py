@@ -1,6 +1,7 @@
 """Tasks in files of their own (`--task`): what is said of rows is what is said of them after their blocks, and what
 tries to change the task, or to pass without solving it, doesn't pass."""
 import os
+from pathlib import Path
 
 from harness.program import TOP, Run, ending, folder, stored, told
 from harness.suite import Check, table
