@@ -1,3 +1,4 @@
+mod addresses;
 mod delay_pairs;
 mod heuristics;
 mod priority;

@@ -1,0 +1,11 @@
+use Rattle.std.specs.Prelude.{◌≡◌, map}
+use Rattle.std.specs.List.{range_with_len}
+use Rattle.iloc_rules.specs.Apart.{address_at}
+use Rattle.iloc_addresses.specs.Steps.Registers.{AreBefore}
+use Rattle.iloc_addresses.proofs.addresses.known_addresses.Given as goal
+
+abbrev pub invariant-loop-i : goal.invariant-loop-i
+invariant-loop-i l = record {
+  found : l.found.items ≡ map (address_at l.ops) (range_with_len 0 l.i);
+  known : AreBefore l.ops l.i l.registers;
+}
