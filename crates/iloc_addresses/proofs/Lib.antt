@@ -1,1 +1,2 @@
 pub mod KnownBefore
+pub mod FarPairs

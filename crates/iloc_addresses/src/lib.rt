@@ -2,6 +2,7 @@
 #![tactic(auto)]
 
 mod addresses;
+pub mod laws;
 mod registers;
 mod words;
 
