@@ -1,5 +1,5 @@
 -- Requests that ask alike list one text.
-use Rattle.std.proofs.Common.{◌≡◌, ℕ, Bool, true, false, List, ◌++◌, Option, Some, None, refl, sym, ap, ap₂, ◌∙◌, arith}
+use Rattle.std.proofs.Common.{◌≡◌, ℕ, Bool, true, false, ◌&&◌, List, ◌++◌, Option, Some, None, is_none, refl, sym, ap, ap₂, ◌∙◌, arith}
 use Rattle.std.proofs.Math.Path.{transport}
 use Rattle.std.specs.Prelude.{codes, is_some}
 use Rattle.iloc_ops.specs.declared.file.Block.{Block}
@@ -10,7 +10,7 @@ use Rattle.iloc_explain.proofs.OneText.{one_explanation}
 use Rattle.iloc_graph.specs.Listing.{IsCluster}
 use Rattle.iloc_graph.proofs.OneText.{one_cluster}
 use Rattle.iloc_meaning.specs.Memory.{words_from}
-use Rattle.iloc_meaning.specs.Outcome.{outcome}
+use Rattle.iloc_meaning.specs.Outcome.{outcome, shown}
 use Rattle.iloc_args.specs.declared.request.Request.{Request}
 use Rattle.iloc_args.specs.declared.request.Task.{Task}
 use Rattle.iloc_args.specs.declared.request.Task.TheVariants as task
@@ -26,7 +26,7 @@ use Rattle.iloc_block_commands.specs.Simulate.{IsSimulateEntry}
 use Rattle.iloc_view_commands.specs.Trace.{IsTraceEntry}
 use Rattle.iloc_farm.specs.Commands.{command_of}
 use Rattle.iloc_farm.specs.Laws.{AskAlike, SimulatingListsRuns, searches}
-use Rattle.iloc_listing.specs.Listing.{block_head, cycles_of, opening_as, outcome_entry, total_of_all}
+use Rattle.iloc_listing.specs.Listing.{block_head, cycles_of, opening_as, outcome_entry, total_of_all, words_or_fault}
 use Rattle.iloc_driver.specs.Run.{IsListingFor}
 use Rattle.iloc_driver.specs.Priorities.{Own, own_of}
 use Rattle.iloc_listing.specs.Schedules.{IsTheGreedy, IsTheGreedyBy, ranks}
@@ -150,4 +150,11 @@ of_one_task task.Check r q alike settled own blocks text text' lists lists' = ab
 of_one_task task.Lint r q alike settled own blocks text text' lists lists' = absurd lists
 
 pub simulating_lists_runs : SimulatingListsRuns
-simulating_lists_runs = grind (arith, listing_also, shown_plainly)
+simulating_lists_runs request own blocks text plain lists =
+    let memory = initial_memory request in
+    listing_also (IsSimulateEntry request) (IsRunEntry request) (λ k b entry found is. record {
+      text = words_or_fault (shown (outcome b.ops memory));
+      shows = shown_plainly request.fault_place b.ops memory (outcome b.ops memory) (shown (outcome b.ops memory)) refl
+          (ap (λ asked. asked && is_none (shown (outcome b.ops memory))) plain);
+      listed = is.plain;
+    }) no_ending blocks text lists

@@ -9,6 +9,7 @@ use Rattle.iloc_text.proofs.Answer.{one_answer}
 use Rattle.iloc_rows.specs.EitherSlot.{placed}
 use Rattle.iloc_args.specs.declared.request.Request.{Request}
 use Rattle.iloc_args.specs.declared.request.Task.{Task}
+use Rattle.iloc_args.specs.declared.request.Task.TheVariants as task
 use Rattle.iloc_block_commands.specs.declared.compare.ComparedCycles.{ComparedCycles}
 use Rattle.iloc_row_commands.specs.Check.{Checks}
 use Rattle.iloc_block_commands.specs.Compare.{IsCompareEntry, IsCompareListing, compare_ending, compare_header, ending_for, opening_for}
@@ -16,8 +17,9 @@ use Rattle.iloc_row_commands.specs.Explain.{Explains, ExplainsRows}
 use Rattle.iloc_row_commands.specs.Trace.{Traces, TracesRows}
 use Rattle.iloc_farm.specs.Commands.{command_of}
 use Rattle.iloc_farm.specs.Laws.{AskAlike, ChecksIgnoreWorkers, GreedySchedulesCanBeListed, ListedOptimaAreOptimal, ListingsIgnoreWorkers, OptimaIgnoreWorkers}
-use Rattle.iloc_driver.specs.Entries.{IsListingAfter}
-use Rattle.iloc_listing.specs.Listing.{opening_as}
+use Rattle.iloc_driver.specs.Entries.{IsListingAfter, IsListingOf}
+use Rattle.iloc_block_commands.specs.Optimize.{IsOptimizeEntry}
+use Rattle.iloc_listing.specs.Listing.{opening_as, total_of_all}
 use Rattle.iloc_driver.specs.Priorities.{Own, own_of}
 use Rattle.iloc_driver.specs.Run.Apart.{Held}
 use Rattle.iloc_driver.specs.Run.{IsListingFor, ListsAs, takes_rows}
@@ -49,7 +51,18 @@ compared_alike r q alike own blocks text is =
     (λ k. compares_alike r q alike (own_of own k) k) (opening_for r) (ending_for r) blocks text is)
 
 pub optima_ignore_workers : OptimaIgnoreWorkers
-optima_ignore_workers = grind (arith, compared_alike, transport)
+optima_ignore_workers r q alike task.Run seeks own blocks text lists = absurd cc
+optima_ignore_workers r q alike task.Simulate seeks own blocks text lists = absurd cc
+optima_ignore_workers r q alike task.Trace seeks own blocks text lists = absurd cc
+optima_ignore_workers r q alike task.Schedule seeks own blocks text lists = absurd cc
+optima_ignore_workers r q alike task.Counts seeks own blocks text lists = absurd cc
+optima_ignore_workers r q alike task.Compare seeks own blocks text lists = compared_alike r q alike own blocks text lists
+optima_ignore_workers r q alike task.Optimize seeks own blocks text lists =
+    transport (λ i. IsListingOf (IsOptimizeEntry (alike.latencies i)) total_of_all blocks text) lists
+optima_ignore_workers r q alike task.Explain seeks own blocks text lists = absurd cc
+optima_ignore_workers r q alike task.Check seeks own blocks text lists = absurd cc
+optima_ignore_workers r q alike task.Graph seeks own blocks text lists = absurd cc
+optima_ignore_workers r q alike task.Lint seeks own blocks text lists = absurd cc
 
 pub listed_optima : ListedOptimaAreOptimal
 listed_optima = grind arith

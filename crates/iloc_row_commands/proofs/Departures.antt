@@ -12,6 +12,7 @@ use Rattle.iloc_timed.specs.declared.row.Row.{Row}
 use Rattle.iloc_timed.specs.Cycles.{cycles}
 use Rattle.iloc_timed.specs.Latency.{latency}
 use Rattle.iloc_timed.specs.Rows.{row_at, slots, holds, issue_cycle}
+use Rattle.iloc_rules.specs.Delays.{all_count}
 use Rattle.iloc_rules.specs.Greedy.{IsGreedyBy, chosen, ready}
 use Rattle.iloc_rules.specs.Lawful.{IsLawful}
 use Rattle.iloc_rules.specs.Steps.Members.{In}
@@ -107,7 +108,7 @@ module _ (prios : List ℕ) (lat : Latencies) (block ops : List Op) (rows ours :
   choice_is_ours : (c : ℕ) → c < length rows → AlikeBelow rows ours c → choice_at prios lat ops rows c ≡ row_at ours c
   choice_is_ours c within alike = elim (cases_lt c (length ours)) [
     | inl below ↦
-        ap (chosen ops prios) (ready_same lat ops rows ours c (λ i. cycles_alike rows ours c i (omega arith) (omega arith) alike))
+        ap (chosen ops prios) (ready_same all_count lat ops rows ours c (λ i. cycles_alike rows ours c i (omega arith) (omega arith) alike))
         ∙ sym (greedy.each c below)
     | inr past ↦
         ap (chosen ops prios) (empty_from (ready lat ops rows c) (λ i there. none_ready c i past alike there))

@@ -11,5 +11,5 @@ measure-requires c =
 pub returns : goal.returns
 returns c =
     let by = c.in_ok-measures.ensures.ranks ∙ c.in_ok-ranks.ensures in
-    on_ok_weaker c.push_explanation.result (λ told. (told.0, rw (c.latencies.ensures, by) at told.1, told.2))
+    on_ok_weaker c.push_explanation.result (λ told. (told.0, rw (c.latencies-latencies.ensures, by) at told.1, told.2))
     c.push_explanation.ensures
