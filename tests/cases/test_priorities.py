@@ -73,7 +73,8 @@ def ranked_by(words, blocks, latencies, numbers):
 
 def compared_by(words, blocks, latencies, numbers):
     """What `compare` lists with these: a column more than without them, which drawn blocks are tried for elsewhere."""
-    table = ending(["compare", "--csv", *words_for(latencies), *(it for it in words[1:] if it != "--csv")], text_of(blocks))[1]
+    more = (word for word in words[1:] if word != "--csv")
+    table = ending(["compare", "--csv", *words_for(latencies), *more], text_of(blocks))[1]
     head, *lines = (line.split(",")[2:] for line in table.decode().splitlines())
     rows = [[*map(int, line), Schedule(ops, latencies, by).cycles()]
             for line, ops, by in zip(lines, blocks, numbers, strict=True)]
@@ -100,7 +101,7 @@ def with_own(listed_plainly, by):
     """A comparison in which the column of this order is given again, last, as somebody's own."""
     lines = listed_plainly.decode().splitlines(True)
     numbers = [re.search(rf" {by} (\d+)", line)[1] for line in lines]
-    return "".join(re.sub(r" order \d+", rf"\g<0> own {it}", line) for line, it in zip(lines, numbers)).encode()
+    return "".join(re.sub(r" order \d+", rf"\g<0> own {number}", line) for line, number in zip(lines, numbers)).encode()
 
 
 def orders_as_numbers():
@@ -125,7 +126,8 @@ def by_workers():
     blocks = [made_block(chance) for _ in range(10 * OF_A_FILE)]
     ranks = file_of(drawn_priorities(chance, blocks))
     for words in TAKING:
-        ends = {ending([*words, "--priorities", ranks, "--workers", str(workers)], text_of(blocks)) for workers in range(1, 9)}
+        ends = {ending([*words, "--priorities", ranks, "--workers", str(workers)], text_of(blocks))
+                for workers in range(1, 9)}
         if len(ends) != 1 or ends.pop()[0]:
             yield f"{' '.join(words)}: the number of workers leaves a trace"
 
@@ -135,7 +137,8 @@ def not_taken():
     ranks = stored("good", GOOD["plain"])
     for command in OTHERS:
         status, out, err = ending([command, "--priorities", ranks], THREE_BLOCKS)
-        if (status, out) != (NO_COMMAND, b"") or not err.startswith(b"error: unexpected argument '--priorities' found\n"):
+        said = b"error: unexpected argument '--priorities' found\n"
+        if (status, out) != (NO_COMMAND, b"") or not err.startswith(said):
             yield f"{command}: {told((status, out, err))}"
 
 
@@ -168,8 +171,9 @@ def priorities_cases():
         yield listed(f"priorities/{name}", THREE_BLOCKS, THREE_LISTED, words)
     yield listed("priorities/table", THREE_BLOCKS, b"block,name,cycles\n1,a,2\n2,b,0\n3,c,1\n",
                  ["counts", "--csv", "--priorities", stored("good", GOOD["plain"])])
-    noughts = "".join(f" {it} 0" for it in (*ORDERS, "own"))
-    yield listed("priorities/no_block", b"", f"total least 0{noughts}\nfewest{noughts} of 0\noptimal{noughts} of 0\n".encode(),
+    noughts = "".join(f" {order} 0" for order in (*ORDERS, "own"))
+    yield listed("priorities/no_block", b"",
+                 f"total least 0{noughts}\nfewest{noughts} of 0\noptimal{noughts} of 0\n".encode(),
                  ["compare", "--priorities", stored("empty", b"")])
     yield from faults()
 

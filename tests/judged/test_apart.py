@@ -45,12 +45,15 @@ SAID = {
                 "  line 5, row 0: expected [, found 0\ntotal 1 ours 2 least 2\n"),
     "operation": ("block 1 a\n[ nop ]\noutput 4\nblock 2 b\noutput 4\n",
                   "block 1 a unread cycles 0 ours 1 least 1\n  line 3, row 1: expected [, found output\n"
-                  "block 2 b unread cycles 0 ours 1 least 1\n  line 5, row 0: expected [, found output\ntotal 0 ours 2 least 2\n"),
-    "nothing": ("", "block 1 a differs cycles 0 ours 1 least 1\n  no rows\n  output 1: none for 9\n  left out 1: output 4\n"
+                  "block 2 b unread cycles 0 ours 1 least 1\n  line 5, row 0: expected [, found output\n"
+                  "total 0 ours 2 least 2\n"),
+    "nothing": ("",
+                "block 1 a differs cycles 0 ours 1 least 1\n  no rows\n  output 1: none for 9\n  left out 1: output 4\n"
                 "block 2 b differs cycles 0 ours 1 least 1\n  no rows\n  output 1: none for 9\n  left out 1: output 4\n"
                 "total 0 ours 2 least 2\n"),
     "nothing_for_one": ("block 2 b\n[ nop ; nop ]\n",
-                        "block 1 a differs cycles 0 ours 1 least 1\n  no rows\n  output 1: none for 9\n  left out 1: output 4\n"
+                        "block 1 a differs cycles 0 ours 1 least 1\n  no rows\n  output 1: none for 9\n"
+                        "  left out 1: output 4\n"
                         "block 2 b differs cycles 0 ours 1 least 1\n  output 1: none for 9\n  left out 1: output 4\n"
                         "total 0 ours 2 least 2\n"),
 }

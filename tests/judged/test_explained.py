@@ -104,19 +104,20 @@ def in_either_slot():
 
 
 def left(schedule, lines):
-    """What comes after the lines of a block's operations and its path, by the oracle, which takes the rows from these lines."""
+    """What comes after the lines of a block's operations and its path, by the oracle, which takes rows from these lines."""
     issued = [ISSUED.fullmatch(line).groups() for line in lines[:len(schedule.ops)]]
     departure = schedule.departure({int(j): (int(cycle), int(unit)) for j, cycle, unit, _ in issued})
     if departure is None:
         return []
     row, chosen = departure
-    return [f"row {row}: the choice would take {' ; '.join('nop' if j is None else f'{j} {issued[j][3]}' for j in chosen)}"]
+    taken = " ; ".join("nop" if j is None else f"{j} {issued[j][3]}" for j in chosen)
+    return [f"row {row}: the choice would take {taken}"]
 
 
 def wrongly_left(blocks, schedules, handed_in, words):
     rows = b"".join(proposed(k, f"B{k}", rows) for k, rows in enumerate(handed_in, 1))
     got = ending(["explain", "--task", stored("left.iloc", text_of(blocks)), *words], rows)[1].decode()
-    entries = [it.splitlines() for it in re.split(r"^(?:block|total) .*\n", got, flags=re.M)[1:-1]]
+    entries = [entry.splitlines() for entry in re.split(r"^(?:block|total) .*\n", got, flags=re.M)[1:-1]]
     if len(entries) != len(blocks):
         yield f"{len(entries)} entries of {len(blocks)}: {got!r}"
     for number, (schedule, lines) in enumerate(zip(schedules, entries), 1):

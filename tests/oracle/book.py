@@ -117,8 +117,9 @@ class Reasons:
         self.added = lacking([op for _, op in self.issued], self.ops)
 
     def are(self, lines):
-        """Whether these lines say so: what is left out and added first, then facts by row, eight of them before `and N more`; those
-        that name an operation of the block come after the others, and results that are less likely to be wrong last."""
+        """Whether these lines say so: what is left out and added first, then facts by row, eight of them before `and N
+        more`; those that name an operation of the block come after the others, and results that are less likely to be
+        wrong last."""
         counts = [found for line in lines if (found := COUNTS.fullmatch(line))]
         facts = lines[len(counts):]
         wanted = ["left out"] * bool(self.left_out) + ["added"] * bool(self.added)

@@ -98,15 +98,15 @@ class Schedule:
         ranked = sorted(ready, key=lambda j: (-self.ranks[j], j))
         first = next(iter(ranked), None)
         second = next((j for j in ranked[1:] if beside(self.ops[first], self.ops[j])), None)
-        return next(it for it in ((first, second), (second, first)) if keeps_units(self.row(it)))
+        return next(pair for pair in ((first, second), (second, first)) if keeps_units(self.row(pair)))
 
     def row(self, chosen):
         return [None if j is None else self.ops[j] for j in chosen]
 
     def departure(self, places):
-        """Of rows with the operations in these places: the first that takes something else than is chosen from what is ready
-        in these rows, and what is chosen, by unit."""
-        for cycle in range(1 + max((it for it, _ in places.values()), default=-1)):
+        """Of rows with the operations in these places: the first that takes something else than is chosen from what is
+        ready in these rows, and what is chosen, by unit."""
+        for cycle in range(1 + max((at for at, _ in places.values()), default=-1)):
             chosen = self.chosen(j for j, (issued, _) in places.items() if issued >= cycle
                                  and all(places[i][0] + d <= cycle for i, d in self.before[j]))
             if {*chosen} - {None} != {j for j, (issued, _) in places.items() if issued == cycle}:
