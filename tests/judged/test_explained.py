@@ -104,7 +104,7 @@ def in_either_slot():
 
 
 def left(schedule, lines):
-    """What comes after the lines of a block's operations and its path, by the oracle, which takes rows from these lines."""
+    """What comes after a block's operations and its path, by the oracle, which takes the rows from these lines."""
     issued = [ISSUED.fullmatch(line).groups() for line in lines[:len(schedule.ops)]]
     departure = schedule.departure({int(j): (int(cycle), int(unit)) for j, cycle, unit, _ in issued})
     if departure is None:
