@@ -1,4 +1,6 @@
 """Delays, the one greedy schedule of a block with its reasons, and the lower bound: worked out anew, over all pairs."""
+from itertools import takewhile
+
 from oracle.machine import cycles, keeps_units
 from oracle.operations import Op
 
@@ -24,23 +26,32 @@ def renamed(ops):
     return made
 
 
-def memory_delays(first, second, latencies):
-    """By memory and by the order of outputs."""
+def memory_delays(first, second, latencies, count=True):
+    """By memory, if the two count, and by the order of outputs."""
     kinds = (first.kind, second.kind)
-    if kinds in {("store", "load"), ("store", "output")}:
+    if kinds == ("output", "output"):
+        return {1}
+    if count and kinds in {("store", "load"), ("store", "output")}:
         return {first.latency(latencies)}
-    return {1} if kinds in {("load", "store"), ("store", "store"), ("output", "store"), ("output", "output")} else set()
+    return {1} if count and kinds in {("load", "store"), ("store", "store"), ("output", "store")} else set()
 
 
-def delays(first, second, latencies):
+def delays(first, second, latencies, count=True):
     uses = set(first.defined) & set(second.used)
-    return memory_delays(first, second, latencies) | ({first.latency(latencies)} if uses else set())
+    return memory_delays(first, second, latencies, count) | ({first.latency(latencies)} if uses else set())
 
 
-def pairs_of(ops, latencies):
-    """Two operations' numbers and the cycles from one to the other, for each delay."""
+def all_count(ops):
+    """By the book any two operations count by memory."""
+    return lambda i, j: True
+
+
+def pairs_of(ops, latencies, rule=all_count):
+    """Two operations' numbers and the cycles from one to the other, for each delay; by a rule of what counts by
+    memory."""
+    count = rule(ops)
     both = ((i, j) for j in range(len(ops)) for i in range(j))
-    return [(i, j, d) for i, j in both for d in delays(ops[i], ops[j], latencies)]
+    return [(i, j, d) for i, j in both for d in delays(ops[i], ops[j], latencies, count(i, j))]
 
 
 def befores_of(ops, pairs):
@@ -53,13 +64,14 @@ def beside(a, b):
 
 
 class Schedule:
-    """The one greedy schedule of a block by a heuristic, or by numbers of somebody's own, and why it is so."""
+    """The one greedy schedule of a block by a heuristic, or by numbers of somebody's own, and by a rule of what counts
+    by memory; and why it is so."""
 
-    def __init__(self, ops, latencies, by="chain"):
+    def __init__(self, ops, latencies, by="chain", rule=all_count):
         self.latencies = latencies
         self.originals = [op for op in ops if op.opcode != "nop"]
         self.ops = renamed(self.originals)
-        self.pairs = pairs_of(self.ops, latencies)
+        self.pairs = pairs_of(self.ops, latencies, rule)
         self.before = befores_of(self.ops, self.pairs)
         self.priorities = [op.latency(latencies) for op in self.ops]
         for i, j, d in sorted(self.pairs, reverse=True):
@@ -188,9 +200,9 @@ class Schedule:
         yield f"path {self.path()}"
 
 
-def needed(width, tails):
-    """What operations with these tails need: of the first j + 1 one is issued j // width cycles after the first row."""
-    return max([0, *(j // width + tail for j, tail in enumerate(sorted(tails, reverse=True)))])
+def needed(first, width, tails):
+    """What operations with these tails need from a first cycle on: of j + 1 one is issued j // width cycles later."""
+    return max([0, *(first + j // width + tail for j, tail in enumerate(sorted(tails, reverse=True)))])
 
 
 def starts_of(ops, pairs):
@@ -205,17 +217,19 @@ def tails_of(ops, pairs, latencies):
     for i in reversed(range(len(ops))):
         tails[i] = max([tails[i], *(d + tails[j] for k, j, d in pairs if k == i)])
         if ops[i].kind == "store":
-            loads = [tails[j] for j in range(i + 1, len(ops)) if ops[j].kind == "load"]
-            tails[i] = max(tails[i], ops[i].latency(latencies) + needed(1, loads))
+            between = takewhile(lambda j: ops[j].kind != "store", range(i + 1, len(ops)))
+            loads = [tails[j] for j in between if ops[j].kind == "load"]
+            tails[i] = max(tails[i], needed(ops[i].latency(latencies), 1, loads))
     return tails
 
 
 def least_of(ops, pairs, latencies):
-    """The greatest over shares and starts of a start and what the operations from that start on need."""
+    """The greatest of what the operations of a share need, and of what those need that start later than its first."""
     starts, tails = starts_of(ops, pairs), tails_of(ops, pairs, latencies)
     bounds = [0]
     for kinds, width in SHARES:
         shared = [i for i, op in enumerate(ops) if not kinds or op.kind in kinds]
-        for start in {starts[i] for i in shared}:
-            bounds.append(start + needed(width, [tails[i] for i in shared if starts[i] >= start]))
+        lowest = min((starts[i] for i in shared), default=0)
+        for first in (lowest, lowest + 1):
+            bounds.append(needed(first, width, [tails[i] for i in shared if starts[i] >= first]))
     return max(bounds)

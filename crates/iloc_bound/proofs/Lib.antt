@@ -1,8 +1,7 @@
 pub mod Counting
-pub mod Packed
-pub mod Swept
-pub mod SharedMembers
+pub mod SortedTails
 pub mod RowsHold
+pub mod SharedMembers
 pub mod TailBound
 pub mod TailParts
 pub mod TailsFound

@@ -1,43 +1,41 @@
 -- How early operations are issued at least, by their tails; for `laws::least_bounds_the_cycles`.
-use Rattle.std.proofs.Common.{◌≡◌, ◌∙◌, ℕ, ◌+◌, ◌-◌, ◌*◌, ◌<◌, ◌≤◌, ◌/◌, max, zero, suc, Bool, true, cond, ◌&&◌, List, [], ◌∷◌, length, map, filter, refl, sym, ap, add-one, inl, inr, arith, take, get_or, subst}
-use Rattle.std.specs.Prelude.{count_by, nat_le, nat_lt, slice_index, fold, sum_by, All}
+use Rattle.std.proofs.Common.{◌≡◌, ◌∙◌, ℕ, ◌+◌, ◌-◌, ◌*◌, ◌<◌, ◌≤◌, ◌/◌, max, zero, suc, Bool, true, cond, ◌&&◌, List, [], ◌∷◌, ◌++◌, length, map, filter, refl, ap, add-one, inl, inr, arith}
+use Rattle.std.specs.Prelude.{count_by, nat_le, nat_lt, slice_index, fold}
 use Rattle.std.specs.List.{range_with_len}
 use Rattle.std.proofs.Math.Nat.{mul-suc, mul-div-le, mul-le-mul_left}
 use Rattle.std.proofs.lemmas.Bool.{and_parts, cases_lt, and_from}
 use Rattle.std.proofs.lemmas.Bool.Decides.{nat_tests}
-use Rattle.std.proofs.lemmas.List.Sums.{length-filter, sum-map, sum_by-cons, sum_by_more}
-use Rattle.std.proofs.lemmas.List.{take_all}
-use Rattle.std.proofs.lemmas.List.Elements.{All-map}
-use Rattle.iloc_ops.specs.declared.op.Op.TheVariants.{Nop}
+use Rattle.std.proofs.lemmas.List.Sums.{length-filter}
 use Rattle.iloc_ops.specs.declared.op.Op.{Op}
 use Rattle.iloc_meaning.specs.Trace.{op_at}
+use Rattle.iloc_meaning.proofs.Cases.{by_bool}
 use Rattle.iloc_timed.specs.declared.kind.Kind.{Kind}
 use Rattle.iloc_timed.specs.declared.latencies.Latencies.{Latencies}
 use Rattle.iloc_timed.specs.declared.row.Row.{Row}
 use Rattle.iloc_timed.specs.Kinds.{kind, is_load, is_store}
 use Rattle.iloc_timed.specs.Latency.{latency}
 use Rattle.iloc_timed.specs.Rows.{issue_cycle, IsTable}
-use Rattle.iloc_timed.proofs.WholeRuns.{short_latency, some_latency}
+use Rattle.iloc_timed.proofs.WholeRuns.{short_latency}
 use Rattle.iloc_rules.specs.Delays.{when, delays, IsDelayPair}
 use Rattle.iloc_rules.specs.Priority.{reaches}
 use Rattle.iloc_rules.specs.Least.{count_from, cycles_from, needed, load_tails, behind, tails, tail}
 use Rattle.iloc_rules.specs.Steps.Members.{In}
-use Rattle.iloc_rules.proofs.Basics.Members.{contains_from, in_left, in_right, from_map, in_filter, from_filter, from_range}
+use Rattle.iloc_rules.proofs.Basics.Members.{contains_from, in_left, in_right, from_map, in_filter, from_range}
 use Rattle.iloc_rules.proofs.Basics.Maxima.{fold_max_reached}
-use Rattle.iloc_rules.proofs.Basics.Slots.{numbers_before, early_issued, issued_early, count_by-cons}
-use Rattle.iloc_rules.proofs.DelayPairs.DelayBounds.{in_when, delay_at_most}
+use Rattle.iloc_rules.proofs.Basics.Slots.{numbers_before, early_issued, issued_early, count_by-cons, count_some}
+use Rattle.iloc_rules.proofs.DelayPairs.DelayBounds.{in_when, short_delay}
 use Rattle.iloc_rules.proofs.PriorityValues.Longest.{Reached, from_reaches, outer_pair}
-use Rattle.iloc_bound.proofs.Counting.{count-append, count-never, count-map, count-filter, count-mono, among, in_among, among-short, at_least}
-use Rattle.iloc_bound.proofs.Packed.{needed_mono}
+use Rattle.iloc_bound.proofs.Counting.{count-append, count-never, count-mono, among, in_among, among-short, at_least, is_at_least}
 use Rattle.iloc_bound.proofs.RowsHold.{Holds, is_kind}
 
 -- whether operation i is a load
 abbrev pub loads_at : List Op → ℕ → Bool
 loads_at ops i = is_load (kind (op_at ops i))
 
--- (m - 1) / width is at most r where m is at most width * (r + 1): else width * (r + 1) would be at most m - 1
-rest_within : (width m r : ℕ) → 0 < width → m ≤ width * (r + 1) → (m - 1) / width ≤ r
-rest_within width m r some h = grind (arith, add-one, cases_lt, mul-div-le, mul-le-mul_left, mul-suc)
+-- so many rows hold m operations: else width * (r + 1) would be at most m - 1
+rows_hold : (width m room : ℕ) → 0 < width → 0 < m → m ≤ width * room → (m - 1) / width < room
+rows_hold width m zero some any few = absurd (omega arith)
+rows_hold width m (suc r) some any few = grind (arith, add-one, cases_lt, mul-div-le, mul-le-mul_left, mul-suc)
 
 -- whether x is a cycle from a to before c
 abbrev pub between : ℕ → ℕ → ℕ → Bool
@@ -53,49 +51,28 @@ in_between a c x low high = grind (arith, and_from, nat_tests)
 abbrev pub Crowd : ℕ → (ℕ → Bool) → ℕ → (ℕ → ℕ) → Type 0
 Crowd width p n t = (a c : ℕ) → count_by (λ i. p i && between a c (t i)) (range_with_len 0 n) ≤ width * (c - a)
 
--- those that are issued in cycle a or later need as much from there
-pub key : (width : ℕ) (p q : ℕ → Bool) (n : ℕ) (t f : ℕ → ℕ) (a limit : ℕ) → 0 < width → Crowd width p n t
-    → ((i : ℕ) → i < n → q i ≡ true → (p i ≡ true) × (a ≤ t i) × (t i + f i ≤ limit)) → a ≤ limit
-    → a + needed width (map f (filter q (range_with_len 0 n))) ≤ limit
-key width p q n t f a limit some crowd each start =
-    let range : List ℕ = range_with_len 0 n in
-    let all : List ℕ = map f (filter q range) in
-    elim (fold_max_reached 0 (map (cycles_from width all) all)) [
+-- Those that are issued in cycle a or later need no more than the cycles, all counted from cycle z.
+pub key : (width : ℕ) (p q : ℕ → Bool) (n : ℕ) (t f : ℕ → ℕ) (z a limit : ℕ) (xs : List ℕ) → 0 < width → Crowd width p n t
+    → ((i : ℕ) → i < n → q i ≡ true → (p i ≡ true) × (z + a ≤ t i) × (t i + f i ≤ limit))
+    → ((b : ℕ) → count_from xs b ≤ count_by (λ i. q i && nat_le b (f i)) (range_with_len 0 n)) → z ≤ limit
+    → z + needed a width xs ≤ limit
+key width p q n t f z a limit xs some crowd each counted start =
+    elim (fold_max_reached 0 (map (cycles_from a width xs) xs)) [
       | inl none ↦ omega arith
       | inr there ↦
-          (let found = from_map (cycles_from width all) all (needed width all) there in
+          (let found = from_map (cycles_from a width xs) xs (needed a width xs) there in
           let b : ℕ = found.0 in
-          let source = from_map f (filter q range) b found.1 in
-          let k : ℕ = source.0 in
-          let kept = from_filter q range k source.1 in
-          let below = (from_range 0 n k kept.0).1 in
-          let facts = each k (omega arith) kept.1 in
-          let low : a ≤ t k = facts.1 in
-          let high : t k + f k ≤ limit = facts.2 in
-          let same : f k ≡ b = source.2 in
-          let within : a + b ≤ limit = omega arith in
-          let mapped : count_from all b ≡ count_by (λ i. nat_le b (f i)) (filter q range) =
-          count-map (λ r. nat_le b r) f (filter q range) in
-          let filtered : count_by (λ i. nat_le b (f i)) (filter q range) ≡ count_by (λ i. q i && nat_le b (f i)) range =
-          count-filter (λ i. nat_le b (f i)) q range in
-          let inside : count_by (λ i. q i && nat_le b (f i)) range
-          ≤ count_by (λ i. p i && between a (limit - b + 1) (t i)) range =
-          count-mono (λ i. q i && nat_le b (f i)) (λ i. p i && between a (limit - b + 1) (t i)) range (λ i inn passes.
+          let c : ℕ = limit + 1 - b in
+          let any : 1 ≤ count_from xs b = count_some (λ x. nat_le b x) xs b found.1 (is_at_least b b (omega arith)) in
+          let inside = count-mono (λ i. q i && nat_le b (f i)) (λ i. p i && between (z + a) c (t i)) (range_with_len 0 n)
+          (λ i inn passes.
           let parts = and_parts (q i) (nat_le b (f i)) passes in
-          let under = (from_range 0 n i inn).1 in
-          let its = each i (omega arith) parts.0 in
-          let reach : b ≤ f i = at_least b (f i) parts.1 in
-          let first : a ≤ t i = its.1 in
-          let last : t i + f i ≤ limit = its.2 in
-          and_from (p i) (between a (limit - b + 1) (t i)) its.0
-          (in_between a (limit - b + 1) (t i) first (omega arith))) in
-          let few : count_by (λ i. p i && between a (limit - b + 1) (t i)) range ≤ width * ((limit - b + 1) - a) =
-          crowd a (limit - b + 1) in
-          let space : (limit - b + 1) - a ≡ (limit - b - a) + 1 = omega arith in
-          let product : width * ((limit - b + 1) - a) ≡ width * ((limit - b - a) + 1) = ap (λ m. width * m) space in
-          let most : count_from all b ≤ width * ((limit - b - a) + 1) = omega arith in
-          let quotient : (count_from all b - 1) / width ≤ limit - b - a =
-          rest_within width (count_from all b) (limit - b - a) some most in
+          let its = each i (omega (arith, (from_range 0 n i inn).1)) parts.0 in
+          let reach = at_least b (f i) parts.1 in
+          and_from (p i) (between (z + a) c (t i)) its.0
+          (in_between (z + a) c (t i) its.1 (omega (arith, its.2)))) in
+          let rows = rows_hold width (count_from xs b) (c - (z + a)) some any
+          (omega (arith, counted b, inside, crowd (z + a) c)) in
           let is = found.2 in
           omega arith)
     ]
@@ -165,35 +142,23 @@ fits_later lat op later limit t f = record {
       omega arith;
 }
 
-load_one : (b : ℕ) (l : Bool) (x : ℕ) → count_from (when l x) b ≤ cond {A = ℕ} (l && nat_le b x) 1 0
-load_one b l x = grind (arith, count_by-cons)
-
--- a load's tail is picked by its number
-loads_picked : (ops : List Op) (ts : List ℕ) (b : ℕ) → count_from (load_tails ops ts) b
-    ≤ count_from (map (slice_index ts) (filter (loads_at ops) (range_with_len 0 (length ops)))) b
-loads_picked ops ts b =
-    let mapped = count-map (λ x. nat_le b x) (slice_index ts) (filter (loads_at ops) (range_with_len 0 (length ops))) in
-    grind (arith, count-filter, counted)
+-- each tail of a load is that of its number
+loads_counted : (ops : List Op) (ts : List ℕ) (b : ℕ) → count_from (load_tails ops ts) b
+    ≤ count_by (λ i. loads_at ops i && nat_le b (slice_index ts i)) (range_with_len 0 (length ops))
+loads_counted [] ts b = omega arith
+loads_counted (op ∷ later) [] b = omega arith
+loads_counted (op ∷ later) (x ∷ xs) b = by_bool (is_store (kind op)) (λ stores. rw stores (omega arith)) (λ other.
+    let p : ℕ → Bool = λ i. loads_at (op ∷ later) i && nat_le b (slice_index (x ∷ xs) i) in
+    let rest = loads_counted later xs b in
+    let first = count_by-cons p 0 (range_with_len (0 + 1) (length later)) in
+    let shift = count_later p 0 (length later) in
+    let same : load_tails (op ∷ later) (x ∷ xs) ≡ load_tails later xs ++ when (is_load (kind op)) x = rw other refl in
+    let sum = ap (λ ys. count_from ys b) same ∙ count-append (λ y. nat_le b y) (load_tails later xs) (when (is_load (kind op)) x) in
+    let one = load_one (is_load (kind op)) in
+    omega arith)
   where
-    counted : (ops : List Op) (ts : List ℕ) → count_from (load_tails ops ts) b
-        ≤ count_by (λ i. loads_at ops i && nat_le b (slice_index ts i)) (range_with_len 0 (length ops))
-    counted [] ts = omega arith
-    counted (op ∷ later) [] = omega arith
-    counted (op ∷ later) (x ∷ xs) =
-        let p : ℕ → Bool = λ i. loads_at (op ∷ later) i && nat_le b (slice_index (x ∷ xs) i) in
-        let rest : count_from (load_tails later xs) b
-        ≤ count_by (λ i. loads_at later i && nat_le b (slice_index xs i)) (range_with_len 0 (length later)) =
-        counted later xs in
-        let first : count_by p (range_with_len 0 (suc (length later)))
-        ≡ cond {A = ℕ} (p 0) 1 0 + count_by p (range_with_len (0 + 1) (length later)) =
-        count_by-cons p 0 (range_with_len (0 + 1) (length later)) in
-        let shift : count_by (λ i. loads_at later i && nat_le b (slice_index xs i)) (range_with_len 0 (length later))
-        ≡ count_by p (range_with_len (0 + 1) (length later)) = count_later p 0 (length later) in
-        let sum : count_from (load_tails (op ∷ later) (x ∷ xs)) b
-        ≡ count_from (when (is_load (kind op)) x) b + count_from (load_tails later xs) b =
-        count-append (λ y. nat_le b y) (when (is_load (kind op)) x) (load_tails later xs) in
-        let one : count_from (when (is_load (kind op)) x) b ≤ cond {A = ℕ} (p 0) 1 0 = load_one b (is_load (kind op)) x in
-        omega arith
+    load_one : (l : Bool) → count_from (when l x) b ≤ cond {A = ℕ} (l && nat_le b x) 1 0
+    load_one l = grind (arith, count_by-cons)
 
 store_load : (lat : Latencies) (i j : Op) → is_store (kind i) ≡ true → is_load (kind j) ≡ true
     → In (delays lat i j) (latency lat i)
@@ -222,15 +187,11 @@ tail_first lat op later limit t f left =
 
     by_loads : is_store (kind op) ≡ true → t 0 + behind lat op later (tails lat later) ≤ limit
     by_loads stores =
-        let same : behind lat op later (tails lat later) ≡ latency lat op + needed 1 (load_tails later (tails lat later)) =
+        let same : behind lat op later (tails lat later) ≡ needed (latency lat op) 1 (load_tails later (tails lat later)) =
         rw stores refl in
-        let picked : List ℕ =
-        map (slice_index (tails lat later)) (filter (loads_at later) (range_with_len 0 (length later))) in
-        let few : needed 1 (load_tails later (tails lat later)) ≤ needed 1 picked =
-        needed_mono 1 (load_tails later (tails lat later)) picked (omega arith) (loads_picked later (tails lat later)) in
-        let bound : (t 0 + latency lat op) + needed 1 picked ≤ limit =
-        key 1 (loads_at later) (loads_at later) (length later) (λ k. t (suc k)) (slice_index (tails lat later))
-        (t 0 + latency lat op) limit (omega arith) (fits_later lat op later limit t f).crowd (λ i under loads. (
+        let bound = key 1 (loads_at later) (loads_at later) (length later) (λ k. t (suc k)) (slice_index (tails lat later))
+        (t 0) (latency lat op) limit (load_tails later (tails lat later)) (omega arith)
+        (fits_later lat op later limit t f).crowd (λ i under loads. (
           loads,
           f.waits 0 (suc i) (latency lat op) (record {
             order = omega arith;
@@ -239,7 +200,7 @@ tail_first lat op later limit t f left =
                 (store_load lat op (op_at later i) stores loads);
           }),
           left i under,
-        )) (f.ends 0 (omega arith)) in
+        )) (loads_counted later (tails lat later)) (omega (arith, f.ends 0 (omega arith))) in
         omega arith
 
 -- an operation is issued so early that its tail is left
@@ -251,69 +212,23 @@ tail_within lat (op ∷ later) limit t f (suc i) below =
 tail_within lat (op ∷ later) limit t f zero below = tail_first lat op later limit t f
     (λ k under. tail_within lat later limit (λ k. t (suc k)) (fits_later lat op later limit t f) k under)
 
--- The schedule that issues each operation when the one before is done
+-- The schedule that issues an operation every 16 cycles
 
--- when operation i is issued
-abbrev pub serial : Latencies → List Op → ℕ → ℕ
-serial lat ops i = sum_by (latency lat) (take i ops)
-
--- all latencies together
-abbrev pub serial_end : Latencies → List Op → ℕ
-serial_end lat ops = sum_by (latency lat) ops
-
-serial_next : (lat : Latencies) (ops : List Op) (i : ℕ) → i < length ops
-    → serial lat ops (i + 1) ≡ serial lat ops i + latency lat (op_at ops i)
-serial_next lat ops i below = sum_by_more (latency lat) ops i Nop below
-
--- later ones are issued when this one is done, at the earliest
-serial_after : (lat : Latencies) (ops : List Op) (i n : ℕ) → i + 1 + n ≤ length ops
-    → serial lat ops i + latency lat (op_at ops i) ≤ serial lat ops (i + 1 + n)
-serial_after lat ops i zero within = grind (arith, serial_next lat ops i)
-serial_after lat ops i (suc n) within = grind (arith, serial_next lat ops (i + 1 + n), serial_after lat ops i n)
-
-serial_few : (lat : Latencies) (ops : List Op) (p : ℕ → Bool) (a c k n : ℕ) → k + n ≤ length ops
-    → count_by (λ i. p i && between a c (serial lat ops i)) (range_with_len k n) ≤ c - max a (serial lat ops k)
-serial_few lat ops p a c k zero within = omega arith
-serial_few lat ops p a c k (suc n) within =
-    let q : ℕ → Bool = λ i. p i && between a c (serial lat ops i) in
-    let rest : count_by q (range_with_len (k + 1) n) ≤ c - max a (serial lat ops (k + 1)) =
-    serial_few lat ops p a c (k + 1) n (omega arith) in
-    let next = serial_next lat ops k (omega arith) in
-    let some : 1 ≤ latency lat (op_at ops k) = some_latency lat (kind (op_at ops k)) in
-    let here = count_by-cons q k (range_with_len (k + 1) n) in
+slow_few : (p : ℕ → Bool) (a c k n : ℕ) → count_by (λ i. p i && between a c (16 * i)) (range_with_len k n) ≤ c - max a (16 * k)
+slow_few p a c k zero = omega arith
+slow_few p a c k (suc n) =
+    let rest = slow_few p a c (k + 1) n in
+    let here = count_by-cons (λ i. p i && between a c (16 * i)) k (range_with_len (k + 1) n) in
     grind (arith, and_parts, is_between)
 
-serial_fits : (lat : Latencies) (ops : List Op) → Fits lat ops (serial_end lat ops) (serial lat ops)
-serial_fits lat ops = record {
-  ends = λ i below.
-      let after = serial_after lat ops i (length ops - (i + 1)) (omega arith) in
-      grind (arith, serial_all);
-  waits = λ i j d pair.
-      let order : i < j = pair.order in
-      let within : j < length ops = pair.within in
-      let most : d ≤ latency lat (op_at ops i) = delay_at_most lat (op_at ops i) (op_at ops j) d pair.delay in
-      let after = serial_after lat ops i (j - (i + 1)) (omega arith) in
-      grind arith;
-  crowd = λ a c. let few = serial_few lat ops (loads_at ops) a c 0 (length ops) (omega arith) in omega arith;
+slow_fits : (lat : Latencies) (ops : List Op) → Fits lat ops (16 * length ops) (λ i. 16 * i)
+slow_fits lat ops = record {
+  ends = λ i below. omega (arith, short_latency lat (kind (op_at ops i)));
+  waits = λ i j d pair. omega (arith, pair.order, short_delay lat (op_at ops i) (op_at ops j) d pair.delay);
+  crowd = λ a c. omega (arith, slow_few (loads_at ops) a c 0 (length ops));
 }
-  where
-    serial_all : {n : ℕ} → n ≡ length ops → serial lat ops n ≡ serial_end lat ops
-    serial_all {n} is = ap (sum_by (latency lat)) (take_all n ops (omega arith))
 
--- a tail is at most all latencies together
-pub tail_most : (lat : Latencies) (ops : List Op) (i : ℕ) → i < length ops → tail lat ops i ≤ serial_end lat ops
+-- so a tail is at most 16 cycles for each operation
+pub tail_most : (lat : Latencies) (ops : List Op) (i : ℕ) → i < length ops → tail lat ops i ≤ 16 * length ops
 tail_most lat ops i below =
-    grind (arith, serial_fits lat ops, tail_within lat ops (serial_end lat ops) (serial lat ops) (serial_fits lat ops) i below)
-
--- which are at most 16 cycles for each operation
-pub short_own : (lat : Latencies) (ops : List Op) (own : List ℕ) → own ≡ map (latency lat) ops → All (λ n. n ≤ 16) own
-short_own lat ops own are = subst (All (λ n. n ≤ 16)) (sym are)
-    (All-map (λ n. n ≤ 16) (latency lat) ops (λ k d below. short_latency lat (kind (get_or ops k d))))
-
-pub serial_of : (lat : Latencies) (ops : List Op) (own : List ℕ) → own ≡ map (latency lat) ops
-    → sum_by (λ n. n) own ≡ serial_end lat ops
-serial_of lat ops own are = ap (sum_by (λ n. n)) are ∙ sum-map (latency lat) ops
-
-pub serial_short : (lat : Latencies) (ops : List Op) → serial_end lat ops ≤ 16 * length ops
-serial_short lat [] = omega arith
-serial_short lat (op ∷ ops) = grind (arith, short_latency lat (kind op), sum_by-cons (latency lat) op ops, serial_short lat ops)
+    omega (arith, tail_within lat ops (16 * length ops) (λ k. 16 * k) (slow_fits lat ops) i below)

@@ -1,5 +1,5 @@
 -- Latencies that are raised along the near pairs and by the rule of stores, the last first, become the tails; for `fill_tails`.
-use Rattle.std.proofs.Common.{◌≡◌, ℕ, ◌+◌, ◌<◌, ◌≤◌, max, List, length, map, set, get_or, inl, inr, sym, ap, subst, ◌∙◌, arith}
+use Rattle.std.proofs.Common.{◌≡◌, ℕ, ◌+◌, ◌*◌, ◌<◌, ◌≤◌, max, List, length, map, set, get_or, inl, inr, sym, ap, subst, ◌∙◌, arith}
 use Rattle.std.specs.Prelude.{All, Any}
 use Rattle.std.proofs.lemmas.List.{ext_get_or, get_or_default, get_or_read, get_or-map, length-map, length-set}
 use Rattle.iloc_ops.specs.declared.op.Op.{Op}
@@ -14,7 +14,7 @@ use Rattle.iloc_sched.proofs.Basics.Cases.{by_eq}
 use Rattle.iloc_sched.proofs.KeptEdges.FarPairs.{all_are_kept}
 use Rattle.iloc_sched.proofs.PriorityValues.Chains.{away, grown, here}
 use Rattle.iloc_bound.proofs.TailParts.{is_tail, length-tails}
-use Rattle.iloc_bound.proofs.TailBound.{tail_most, serial_end}
+use Rattle.iloc_bound.proofs.TailBound.{tail_most}
 
 module _ (lat : Latencies) (ops : List Op) where
   -- before any is there
@@ -37,7 +37,7 @@ module _ (lat : Latencies) (ops : List Op) where
       (λ i below. tailed.done i (omega arith) (omega (arith, tailed.size)))
 
 module _ (lat : Latencies) (ops : List Op) (found : List ℕ) where
-  pub tailed_small : (j k i : ℕ) → IsTailed lat ops found j k → i < length ops → get_or found i 0 ≤ serial_end lat ops
+  pub tailed_small : (j k i : ℕ) → IsTailed lat ops found j k → i < length ops → get_or found i 0 ≤ 16 * length ops
   tailed_small j k i tailed below =
       let most = tail_most lat ops i below in
       let whole = (is_tail lat ops).whole i below in
@@ -53,7 +53,7 @@ module _ (lat : Latencies) (ops : List Op) (found : List ℕ) where
         let there = tailed.done j (omega arith) near.within in
         omega arith
 
-    pub through_small : edge.delay + get_or found j 0 ≤ serial_end lat ops
+    pub through_small : edge.delay + get_or found j 0 ≤ 16 * length ops
     through_small =
         let order : edge.from < j = near.order in
         let below : edge.from < length ops = omega (arith, near.within) in

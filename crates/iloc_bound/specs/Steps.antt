@@ -1,4 +1,2 @@
 -- How the bound is found.
-pub mod Packing
-pub mod Shares
 pub mod Tails

@@ -3,7 +3,7 @@
 
 pub mod laws;
 mod lower_bound;
-mod packing;
+mod needed;
 mod share;
 mod tails;
 

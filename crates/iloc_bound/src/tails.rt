@@ -1,15 +1,11 @@
 //! How many cycles are left at least from the issue of each operation.
-ghost use Rattle.std.specs.Prelude.{ℕ, ◌≡◌, ◌+◌, ◌<◌, ◌≤◌, ◌^◌, ◌∷◌, ◌++◌, List, length, map, sum_by, All, IfOk, OnOk};
-ghost use Rattle.iloc_timed.specs.Kinds.{is_load};
-ghost use Rattle.iloc_timed.specs.Latency.{latency};
-ghost use Rattle.iloc_rules.specs.Delays.{when};
-ghost use Rattle.iloc_rules.specs.Least.{needed, tails};
-ghost use Rattle.iloc_bound.specs.Steps.Packing.{IsPacking};
-ghost use Rattle.iloc_bound.specs.Steps.Tails.{tail_by, IsTailed};
+ghost use Rattle.std.specs.Prelude.{◌≡◌, ◌+◌, ◌<◌, ◌≤◌, ◌^◌, length, IfOk, OnOk};
+ghost use Rattle.iloc_rules.specs.Least.{tails};
+ghost use Rattle.iloc_bound.specs.Steps.Tails.{tail_by, loads_by, IsTailed};
 
-use crate::packing::Packing;
+use crate::needed::needed;
 use iloc_ops::{MAX_OPS, NoMemory};
-use iloc_rules::LONGEST_DELAY;
+use iloc_rules::Heuristic;
 use iloc_sched::Graph;
 use iloc_timed::Kind;
 use std::alloc::Global;
@@ -29,48 +25,25 @@ fn raise_sources(found: &mut Vec<u32>, graph: &Graph, j: usize)
     }
 }
 
-/// The tail of an operation of this kind, of which latency and delays leave `chain`: a store's by what the loads after it
-/// need too. A load is put among the loads.
-fn tail_of(kind: Kind, chain: u32, store: u32, loads: &mut Packing) -> u32
-    requires packed { (xs : List ℕ) × IsPacking xs loads.old × (needed 1 (chain ∷ xs) + 1 < length loads.old.links.items) }
-    requires small { store + length loads.old.links.items < 2 ^ 32 }
-    ensures tail { (xs : List ℕ) → IsPacking xs loads.old → result ≡ tail_by kind chain store xs }
-    ensures packed { (xs : List ℕ) → IsPacking xs loads.old → IsPacking (when (is_load kind) chain ++ xs) loads.new }
-    ensures size { length loads.new.links.items ≡ length loads.old.links.items }
+/// The tail of an operation of this kind, of which latency and delays leave `chain`: a store's by what the loads up to the
+/// next store need too. A load is put among the loads.
+fn tail_of(kind: Kind, chain: u32, store: u32, loads: &mut Vec<u32>) -> Result<u32, NoMemory>
+    requires { tail_by kind chain store loads.old.items < 2 ^ 32 }
+    ensures tail { IfOk result (λ tail. tail ≡ tail_by kind chain store loads.old.items) }
+    ensures loads { OnOk result (loads.new.items ≡ loads_by kind chain loads.old.items) }
 {
     match kind {
         Kind::Load => {
-            loads.add(chain);
-            chain
+            loads.push(chain)?;
+            Ok(chain)
         }
-        Kind::Store => chain.max(store + loads.top()),
-        Kind::Mult | Kind::Output | Kind::Other => chain,
+        Kind::Store => {
+            let behind = needed(u64::from(store), 1, loads);
+            loads.clear();
+            Ok(chain.max(behind as u32))
+        }
+        Kind::Mult | Kind::Output | Kind::Other => Ok(chain),
     }
-}
-
-/// Fills a list with the latencies of a graph's operations.
-fn fill_latencies(found: &mut Vec<u32>, graph: &Graph) -> Result<(), NoMemory>
-    ensures latencies { OnOk result (found.new.items ≡ map (latency graph.now.latencies) graph.now.ops) }
-{
-    found.clear();
-    let latencies = graph.latencies();
-    for kind in graph.kinds() {
-        found.push(latencies.of(*kind))?;
-    }
-    Ok(())
-}
-
-/// All latencies together.
-fn total(latencies: &[u32]) -> u32
-    requires few { length latencies.now ≤ MAX_OPS }
-    requires short { All (λ n. n ≤ LONGEST_DELAY) latencies.now }
-    ensures { result ≡ sum_by (λ n. n) latencies.now }
-{
-    let mut sum: u32 = 0;
-    for latency in latencies {
-        sum += *latency;
-    }
-    sum
 }
 
 /// Fills a list with the tails of a graph's operations: how many cycles are left at least from the issue of each. A tail is
@@ -78,16 +51,13 @@ fn total(latencies: &[u32]) -> u32
 pub fn fill_tails(alloc: Global, found: &mut Vec<u32>, graph: &Graph) -> Result<(), NoMemory>
     ensures { OnOk result (found.new.items ≡ tails graph.now.latencies graph.now.ops) }
 {
-    fill_latencies(found, graph)?;
+    graph.rank(Heuristic::Latency, found)?;
     let kinds = graph.kinds();
-    // One after another they leave no tail that is longer. With places for the longest latencies `compare` executes 2 % more
-    // instructions on blocks of a hundred operations.
-    let places = total(found) + kinds.len() as u32 + 2;
-    let mut loads = Packing::new(alloc, places)?;
     let store = graph.latencies().store;
+    let mut loads = Vec::new(alloc);
     for j in (0..kinds.len()).rev() {
         let chain = found[j];
-        let tail = tail_of(kinds[j], chain, store, &mut loads);
+        let tail = tail_of(kinds[j], chain, store, &mut loads)?;
         found[j] = tail;
         raise_sources(found, graph, j);
     }

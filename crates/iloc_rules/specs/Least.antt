@@ -1,6 +1,6 @@
 -- How few cycles a lawful schedule of a block can take: by counting, of the operations that share slots, those that can't
 -- be issued before a cycle and leave many cycles behind them.
-use Rattle.std.specs.Prelude.{ℕ, ◌+◌, ◌-◌, ◌/◌, max, nat_le, Bool, true, if◌then◌else◌, List, [], ◌∷◌, ◌++◌, map, fold, filter, count_by, length, slice_index}
+use Rattle.std.specs.Prelude.{ℕ, ◌+◌, ◌-◌, ◌/◌, max, min, nat_le, Bool, true, if◌then◌else◌, List, [], ◌∷◌, ◌++◌, map, fold, filter, count_by, length, slice_index}
 use Rattle.std.specs.List.{range_with_len}
 use Rattle.iloc_ops.specs.declared.op.Op.{Op}
 use Rattle.iloc_meaning.specs.Trace.{op_at}
@@ -17,25 +17,25 @@ use Rattle.iloc_rules.specs.Renaming.{renamed}
 abbrev pub count_from : List ℕ → ℕ → ℕ
 count_from tails q = count_by (λ tail. nat_le q tail) tails
 
--- Of n operations, of which a row can hold `width`, one is issued in cycle (n - 1) / width or later. Where they are
--- those whose tail is at least q, at least q cycles are left then.
-abbrev pub cycles_from : ℕ → List ℕ → ℕ → ℕ
-cycles_from width tails q = (count_from tails q - 1) / width + q
+-- Of n operations that are issued from a first cycle on, of which a row can hold `width`, one is issued in cycle
+-- first + (n - 1) / width or later. Where they are those whose tail is at least q, at least q cycles are left then.
+abbrev pub cycles_from : ℕ → ℕ → List ℕ → ℕ → ℕ
+cycles_from first width tails q = first + (count_from tails q - 1) / width + q
 
 -- what operations with these tails need: the greatest of those numbers over all tails, 0 where there are none
-abbrev pub needed : ℕ → List ℕ → ℕ
-needed width tails = fold max 0 (map (cycles_from width tails) tails)
+abbrev pub needed : ℕ → ℕ → List ℕ → ℕ
+needed first width tails = fold max 0 (map (cycles_from first width tails) tails)
 
--- of operations with these tails those of the loads
+-- of operations with these tails those of the loads up to the first store
 abbrev pub load_tails : List Op → List ℕ → List ℕ
 load_tails [] tails = []
 load_tails (op ∷ ops) [] = []
-load_tails (op ∷ ops) (tail ∷ tails) = when (is_load (kind op)) tail ++ load_tails ops tails
+load_tails (op ∷ ops) (tail ∷ tails) =
+    if is_store (kind op) then [] else load_tails ops tails ++ when (is_load (kind op)) tail
 
--- a store's latency, and what the later loads need, of which a row can hold one: they all wait for the store
+-- what the loads between a store and the next need: they all wait for its latency, and a row can hold one
 abbrev pub behind : Latencies → Op → List Op → List ℕ → ℕ
-behind lat op later tails =
-    if is_store (kind op) then latency lat op + needed 1 (load_tails later tails) else 0
+behind lat op later tails = if is_store (kind op) then needed (latency lat op) 1 (load_tails later tails) else 0
 
 -- the tails of the later operations, and before them that of the operation
 abbrev pub with_tail : Latencies → Op → List Op → List ℕ → List ℕ
@@ -43,7 +43,7 @@ with_tail lat op later tails =
     max (behind lat op later tails) (fold max (latency lat op) (reaches lat op later tails)) ∷ tails
 
 -- By operation its tail, how many cycles are left at least from its issue: the greatest of its latency, of all
--- d + tail(j) over its delay pairs (i, j, d), and for a store of its latency and what the later loads need together.
+-- d + tail(j) over its delay pairs (i, j, d), and for a store of what the loads up to the next one need.
 abbrev pub tails : Latencies → List Op → List ℕ
 tails lat [] = []
 tails lat (op ∷ later) = with_tail lat op later (tails lat later)
@@ -56,18 +56,24 @@ tail lat ops i = slice_index (tails lat ops) i
 abbrev pub of_kind : (Kind → Bool) → List Op → List ℕ
 of_kind test ops = filter (λ i. test (kind (op_at ops i))) (range_with_len 0 (length ops))
 
--- those that can't be issued before cycle a
-abbrev pub from_start : (Kind → Bool) → Latencies → List Op → ℕ → List ℕ
-from_start test lat ops a = filter (λ i. nat_le a (start lat ops i)) (of_kind test ops)
+-- what those of them need that can't be issued before this cycle
+abbrev pub needed_after : ℕ → ℕ → (Kind → Bool) → Latencies → List Op → ℕ
+needed_after first width test lat ops =
+    needed first width (map (tail lat ops) (filter (λ i. nat_le first (start lat ops i)) (of_kind test ops)))
 
--- they need as much from there
-abbrev pub needed_after : ℕ → (Kind → Bool) → Latencies → List Op → ℕ → ℕ
-needed_after width test lat ops a = a + needed width (map (tail lat ops) (from_start test lat ops a))
+-- the lowest of some numbers, 0 where there are none
+abbrev pub lowest : List ℕ → ℕ
+lowest [] = 0
+lowest (n ∷ ns) = fold min n ns
 
--- the greatest of that over the starts of the operations of these kinds
+-- the lowest start of these operations
+abbrev pub first_start : (Kind → Bool) → Latencies → List Op → ℕ
+first_start test lat ops = lowest (map (start lat ops) (of_kind test ops))
+
+-- what these operations need, or those that start later than the first
 abbrev pub needed_by : ℕ → (Kind → Bool) → Latencies → List Op → ℕ
-needed_by width test lat ops =
-    fold max 0 (map (λ i. needed_after width test lat ops (start lat ops i)) (of_kind test ops))
+needed_by width test lat ops = max (needed_after (first_start test lat ops) width test lat ops)
+    (needed_after (first_start test lat ops + 1) width test lat ops)
 
 -- for the memory operations, the products and the outputs, of which a row can hold one, and for all operations, of which
 -- it can hold two

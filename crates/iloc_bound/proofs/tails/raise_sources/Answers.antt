@@ -1,9 +1,6 @@
-use Rattle.std.proofs.Common.{ℕ, ◌≡◌, ◌+◌, ◌*◌, ◌<◌, ◌≤◌, List, None, length, get_or, refl, subst, arith}
+use Rattle.std.proofs.Common.{List, None, get_or, refl, arith}
 use Rattle.std.proofs.lemmas.List.{get_or_read}
-use Rattle.iloc_ops.specs.declared.op.Op.{Op}
-use Rattle.iloc_timed.specs.declared.latencies.Latencies.{Latencies}
 use Rattle.iloc_sched.specs.declared.edges.Edge.{Edge}
-use Rattle.iloc_bound.proofs.TailBound.{serial_short}
 use Rattle.iloc_bound.proofs.TailsFound.{all_raised, kept_more, raised, through_small}
 use Rattle.iloc_bound.proofs.tails.raise_sources.Goals as goal
 
@@ -20,7 +17,6 @@ overflow_add-through c =
     let read = get_or_read c.loop-edge.found.items c.args.j c.index.result.now (omega (arith, tailed.size, c.requires.there))
     c.index.ensures 0 in
     let small = through_small g.latencies g.ops c.loop-edge.found.items c.args.j tailed (get_or edges k none) near in
-    let short = serial_short g.latencies g.ops in
     omega (arith, c.requires.few)
 
 pub loop-edge-preserved : goal.loop-edge-preserved
