@@ -1,2 +1,9 @@
 pub mod KnownBefore
 pub mod FarPairs
+pub mod ByConstants
+pub mod Bases
+pub mod Accessed
+pub mod LastOnes
+pub mod Waited
+pub mod Sources
+pub mod Taken

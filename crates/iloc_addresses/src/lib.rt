@@ -1,10 +1,13 @@
-//! What is known of the addresses that a block's operations reach, and which of them differ whatever memory it starts with.
+//! What is known of the addresses that a block's operations reach, which of them differ whatever memory it starts with, and
+//! which operations depend on which by memory where such don't count.
 #![tactic(auto)]
 
 mod addresses;
+mod dependences;
 pub mod laws;
 mod registers;
 mod words;
 
 pub use addresses::known_addresses;
+pub use dependences::MemoryDependences;
 pub use words::are_apart;

@@ -2,6 +2,7 @@
 ghost use Rattle.std.specs.Prelude.{◌≡◌, ◌*ℤ◌};
 ghost use Rattle.iloc_meaning.specs.Arithmetic.{wrapped, shifted_left as shifted_to_the_left, shifted_right as shifted_to_the_right};
 ghost use Rattle.iloc_rules.specs.Apart as meant;
+ghost use Rattle.iloc_addresses.specs.Steps.Dependences as seen;
 
 use iloc_meaning::arithmetic;
 use iloc_rules::Word;
@@ -90,5 +91,26 @@ pub fn are_apart(first: Word, second: Word) -> bool
         (Word::Known(c), Word::Known(d)) => c != d,
         (Word::Based(base, c), Word::Based(other, d)) => base == other && c != d,
         (Word::Known(_), Word::Based(..)) | (Word::Based(..), Word::Known(_)) => false,
+    }
+}
+
+/// The constant of a word.
+pub(crate) fn constant_of(word: Word) -> i32
+    ensures constant { result ≡ seen.constant_of word }
+    ensures short { seen.IsShort result }
+{
+    match word {
+        Word::Known(c) | Word::Based(_, c) => c,
+    }
+}
+
+/// Whether two words have one base, or both none.
+pub(crate) fn have_one_base(first: Word, second: Word) -> bool
+    ensures { result ≡ seen.have_one_base first second }
+{
+    match (first, second) {
+        (Word::Known(_), Word::Known(_)) => true,
+        (Word::Based(base, _), Word::Based(other, _)) => base == other,
+        (Word::Based(..), Word::Known(_)) | (Word::Known(_), Word::Based(..)) => false,
     }
 }

@@ -1,9 +1,10 @@
-//! What is known of addresses.
+//! What is known of addresses, and which operations depend on which by memory.
 use crate::asserted::assert_list;
 use crate::written::block_of;
-use iloc_addresses::{are_apart, known_addresses};
+use iloc_addresses::{MemoryDependences, are_apart, known_addresses};
 use iloc_rules::Word;
 use iloc_sched::rename;
+use iloc_timed::Kind;
 use std::test::Fail;
 
 /// Fields of a record whose address is in memory, a constant that is computed, one that wraps, a sum of which nothing is known,
@@ -56,4 +57,37 @@ fn tells_addresses_apart(rt: HostRuntime) {
             "{first:?} {second:?}"
         );
     }
+}
+
+/// By operation of the fields those on which it depends by memory and outputs. The load at -2 ^ 31 is apart from the store at
+/// 24, but not from the one with a base; the last store is apart from that load and from the output.
+const SOURCES: &[&[u32]] = &[
+    &[],
+    &[],
+    &[],
+    &[1],
+    &[],
+    &[],
+    &[3, 4],
+    &[6],
+    &[],
+    &[6],
+    &[],
+    &[],
+    &[3],
+    &[6, 9],
+];
+
+#[test]
+fn finds_sources(rt: HostRuntime) -> Result<(), Fail> {
+    let ops = rename(rt.alloc(), &block_of(rt.alloc(), FIELDS)?)?;
+    let addresses = known_addresses(rt.alloc(), &ops)?;
+    let mut dependences = MemoryDependences::new(rt.alloc());
+    let mut sources = Vec::new(rt.alloc());
+    for (j, (op, wanted)) in ops.iter().zip(SOURCES).enumerate() {
+        let address = addresses.get(j).copied().flatten();
+        dependences.take(Kind::of(op), address, j as u32, &mut sources)?;
+        assert_list(&rt, sources.as_slice(), *wanted);
+    }
+    Ok(())
 }
