@@ -1,16 +1,6 @@
 -- What binds an operation, by what is explained of the operations.
-use Rattle.std.proofs.Common.{◌≡◌, ◌<◌, ◌≤◌, ℕ, ◌-◌, List, length, get_or, Some, None, arith, sym, ap, ◌∙◌, subst}
-use Rattle.std.specs.Prelude.{slice_get}
-use Rattle.std.proofs.lemmas.Option.{slice_get-get_or}
-use Rattle.iloc_ops.specs.declared.op.Op.{Op}
-use Rattle.iloc_timed.specs.declared.latencies.Latencies.{Latencies}
-use Rattle.iloc_timed.specs.declared.row.Row.{Row}
-use Rattle.iloc_timed.specs.Rows.{issue_cycle, IsTable}
-use Rattle.iloc_explain.specs.declared.explanation.Explained.{Explained}
-use Rattle.iloc_explain.specs.declared.path.Stretch.TheVariants.{Delay}
+use Rattle.iloc_explain.proofs.Common.{◌≡◌, ℕ, ◌-◌, ◌<◌, ◌≤◌, List, length, get_or, slice_get, Some, None, sym, ap, ◌∙◌, subst, arith, slice_get-get_or, Op, IsTable, issue_cycle, Latencies, Row, Binds, IsReadyAt, waited_until, Explained, Delay}
 use Rattle.iloc_explain.specs.Explained.{IsExplained, AreExplained}
-use Rattle.iloc_explain.specs.Path.{Binds}
-use Rattle.iloc_explain.specs.Waiting.{IsReadyAt, waited_until}
 use Rattle.iloc_explain.proofs.Stretches.{none_waited, waited_earlier}
 
 module _ (prios : List ℕ) (lat : Latencies) (ops : List Op) (rows : List Row) (es : List Explained)

@@ -1,31 +1,11 @@
 -- In a greedy schedule no row has room for an operation that is ready and issued later.
-use Rattle.std.proofs.Common.{◌≡◌, ◌≢◌, ◌<◌, ◌≤◌, ℕ, ◌+◌, ◌-◌, ◌==◌, nat_le, true, List, [], ◌∷◌, ◌++◌, length, filter, Option, Some, None, arith, refl, sym, ap, ◌∙◌, subst, inl, inr}
-use Rattle.std.specs.Prelude.{Contains, reverse}
-use Rattle.std.proofs.lemmas.Bool.{eqb-true, leb-false}
-use Rattle.std.proofs.lemmas.List.{reverse-append}
-use Rattle.std.proofs.lemmas.Option.{none-some}
-use Rattle.iloc_meaning.proofs.Cases.{by_bool}
-use Rattle.iloc_ops.specs.declared.op.Op.{Op}
-use Rattle.iloc_meaning.specs.Trace.{op_at}
-use Rattle.iloc_timed.specs.declared.latencies.Latencies.{Latencies}
-use Rattle.iloc_timed.specs.declared.row.Row.{Row}
-use Rattle.iloc_timed.specs.Kinds.{kind}
-use Rattle.iloc_timed.specs.Latency.{latency}
-use Rattle.iloc_timed.specs.Rows.{row_at, holds, issue_cycle}
-use Rattle.iloc_timed.proofs.Arrivals.{issued_within}
-use Rattle.iloc_timed.proofs.Issues.{issued_there, holds_zero, holds_one}
-use Rattle.iloc_rules.specs.Greedy.{IsGreedyBy, can_go_beside, chosen_with, first_of_all, may_stand_beside, on_units, ready}
-use Rattle.iloc_rules.specs.Steps.Members.{In}
-use Rattle.iloc_rules.proofs.Basics.Members.{from_append, in_filter, in_from}
+use Rattle.iloc_explain.proofs.Common.{◌≡◌, ℕ, ◌+◌, ◌-◌, ◌<◌, ◌≤◌, true, ◌≢◌, List, [], ◌∷◌, ◌++◌, reverse, length, nat_le, ◌==◌, Some, None, Contains, filter, Option, sym, refl, ap, ◌∙◌, subst, inl, inr, arith, eqb-true, leb-false, reverse-append, none-some, Op, by_bool, op_at, issued_within, holds_one, holds_zero, issued_there, kind, latency, holds, issue_cycle, row_at, Latencies, Row, from_append, in_filter, in_from, IsGreedyBy, can_go_beside, chosen_with, first_of_all, may_stand_beside, on_units, ready, In, Binds, HadRoom, IsPath, LeadBack, origin, span, IsReadyAt, Delay, Free}
 use Rattle.iloc_rules.proofs.Choice.FirstOfAll.{first_some}
 use Rattle.iloc_rules.proofs.Choice.Ready.{ready_from}
 use Rattle.iloc_explain.specs.declared.holding.Holder.TheVariants.{Delays, Nothing}
 use Rattle.iloc_explain.specs.declared.path.Stretch.{Stretch}
-use Rattle.iloc_explain.specs.declared.path.Stretch.TheVariants.{Delay, Free}
 use Rattle.iloc_explain.specs.Holding.{clash, held_by, holder, keeper, keeper_of}
 use Rattle.iloc_explain.specs.Laws.{GreedySchedulesLeaveNoRoom}
-use Rattle.iloc_explain.specs.Path.{Binds, HadRoom, IsPath, LeadBack, origin, span}
-use Rattle.iloc_explain.specs.Waiting.{IsReadyAt}
 use Rattle.iloc_explain.proofs.Stretches.{binds_from}
 
 -- a full row keeps each operation out

@@ -1,14 +1,5 @@
 -- Whether an operation puts a delay on another: `has_delay`, `waits_for`.
-use Rattle.std.proofs.Common.{◌≡◌, ℕ, ◌==◌, ◌&&◌, ◌<◌, ◌↔◌, Bool, List, ◌∙◌, refl, sym, ap, ap₂, subst}
-use Rattle.std.specs.Prelude.{Contains, IsTrue}
-use Rattle.std.specs.List.{list_any}
-use Rattle.std.proofs.lemmas.Bool.{eq-eqb, eqb-true, lt-ltb}
-use Rattle.iloc_ops.specs.declared.op.Op.{Op}
-use Rattle.iloc_meaning.specs.Trace.{op_at}
-use Rattle.iloc_timed.specs.declared.latencies.Latencies.{Latencies}
-use Rattle.iloc_rules.specs.Delays.{delays}
-use Rattle.iloc_rules.specs.Steps.Members.{In}
-use Rattle.iloc_rules.proofs.Basics.Members.{contains_from, in_from, any_at, from_any}
+use Rattle.iloc_explain.proofs.Common.{◌≡◌, ℕ, ◌<◌, Bool, ◌&&◌, ◌↔◌, List, IsTrue, ◌==◌, Contains, sym, refl, ap, ◌∙◌, subst, ap₂, eq-eqb, eqb-true, lt-ltb, list_any, Op, op_at, Latencies, any_at, contains_from, from_any, in_from, delays, In}
 use Rattle.iloc_explain.specs.Steps.Waits.{waits_for}
 
 -- what a test of each delay finds of operations that stand at two places

@@ -1,12 +1,5 @@
 -- The cycles of issue, noted row by row.
-use Rattle.std.proofs.Common.{rules, ◌≡◌, ◌<◌, ℕ, ◌+◌, ◌==◌, true, List, ◌++◌, length, Option, Some, None, option_to_list, arith, refl, ◌⊎◌, get_or-set_same, get_or-set_other}
-use Rattle.std.specs.Prelude.{slice_index, IfSome}
-use Rattle.std.specs.List.{list_any}
-use Rattle.std.proofs.lemmas.Bool.{cases_eq, cases_lt, eqb-true, or_cases}
-use Rattle.iloc_ops.specs.declared.op.Op.{Op}
-use Rattle.iloc_timed.specs.declared.row.Row.{Row}
-use Rattle.iloc_timed.specs.Rows.{row_at, holds, issue_cycle, IsTable}
-use Rattle.iloc_timed.proofs.Issues.{issued_there, stands_there, holds_zero, holds_one}
+use Rattle.iloc_explain.proofs.Common.{◌≡◌, ℕ, ◌+◌, ◌<◌, true, ◌⊎◌, List, ◌++◌, length, IfSome, ◌==◌, slice_index, Some, None, Option, option_to_list, refl, arith, get_or-set_other, get_or-set_same, rules, cases_eq, cases_lt, eqb-true, or_cases, list_any, Op, holds_one, holds_zero, issued_there, stands_there, IsTable, holds, issue_cycle, row_at, Row}
 use Rattle.iloc_explain.specs.Steps.Issued.{AreIssued, with_slot}
 
 -- what stands in a row stands in one of its slots

@@ -1,15 +1,5 @@
 -- The latest of what earlier operations leave to wait for, operation by operation.
-use Rattle.std.proofs.Common.{◌≡◌, ◌<◌, ◌≤◌, ℕ, ◌+◌, max, Bool, true, false, List, arith, ap, inl, inr}
-use Rattle.std.proofs.lemmas.Bool.{cases_lt, false≢true}
-use Rattle.iloc_meaning.proofs.Cases.{by_bool}
-use Rattle.iloc_ops.specs.declared.op.Op.{Op}
-use Rattle.iloc_ops.specs.declared.op.Reg.{Reg}
-use Rattle.iloc_ops.specs.Registers.{defined}
-use Rattle.iloc_meaning.specs.Trace.{op_at, is_register}
-use Rattle.iloc_timed.specs.declared.latencies.Latencies.{Latencies}
-use Rattle.iloc_timed.specs.declared.row.Row.{Row}
-use Rattle.iloc_timed.specs.Kinds.{kind, is_load, is_store, is_output}
-use Rattle.iloc_timed.specs.Rows.{issue_cycle}
+use Rattle.iloc_explain.proofs.Common.{◌≡◌, ℕ, ◌+◌, ◌<◌, ◌≤◌, max, Bool, true, false, List, ap, inl, inr, arith, cases_lt, false≢true, defined, Op, Reg, by_bool, is_register, op_at, is_load, is_output, is_store, kind, issue_cycle, Latencies, Row}
 use Rattle.iloc_explain.specs.declared.latest.Latest.{Latest}
 use Rattle.iloc_explain.specs.Steps.Latest.{IsLatest, AreLatest, Notes, raised, result_of, arrival, next_cycle}
 

@@ -1,3 +1,4 @@
+pub mod Common
 pub mod HasDelay
 pub mod IssueCycles
 pub mod LatestOnes

@@ -1,11 +1,6 @@
 -- The lines of operations, one after another.
-use Rattle.std.proofs.Common.{◌≡◌, ◌<◌, ℕ, ◌+◌, List, ◌∷◌, ◌++◌, length, drop, get_or, refl, sym, ap, ◌∙◌, append_assoc, arith}
-use Rattle.std.proofs.lemmas.List.{drop_more}
-use Rattle.iloc_ops.specs.declared.op.Op.{Op}
-use Rattle.iloc_ops.specs.declared.op.Op.TheVariants.{Nop}
-use Rattle.iloc_rules.specs.Renaming.{without_nops}
+use Rattle.iloc_explain.proofs.Common.{◌≡◌, ℕ, ◌+◌, ◌<◌, List, ◌∷◌, ◌++◌, length, get_or, drop, sym, refl, ap, ◌∙◌, append_assoc, arith, drop_more, Op, Nop, without_nops, Explained}
 use Rattle.iloc_rules.proofs.Renamed.WithoutNops.{is_nop-true}
-use Rattle.iloc_explain.specs.declared.explanation.Explained.{Explained}
 use Rattle.iloc_explain.specs.Listing.{explained_line, explained_lines}
 
 pub nop_passed : (block : List Op) (i : ℕ) (d : Op) → i < length block → get_or block i d ≡ Nop

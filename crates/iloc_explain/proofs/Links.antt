@@ -1,12 +1,6 @@
 -- A longest chain, link by link.
-use Rattle.std.proofs.Common.{◌≡◌, ◌<◌, ◌≤◌, ℕ, ◌+◌, List, [], ◌∷◌, ◌++◌, length, max, arith, refl, sym, ap, ap₂, ◌∙◌, inl, inr}
-use Rattle.std.specs.Prelude.{fold, slice_index}
-use Rattle.std.proofs.lemmas.Bool.{cases_lt, cases_order}
-use Rattle.iloc_ops.specs.declared.op.Op.{Op}
-use Rattle.iloc_timed.specs.declared.latencies.Latencies.{Latencies}
+use Rattle.iloc_explain.proofs.Common.{◌≡◌, ℕ, ◌+◌, ◌<◌, ◌≤◌, max, List, [], ◌∷◌, ◌++◌, length, slice_index, fold, sym, refl, ap, ◌∙◌, ap₂, inl, inr, arith, cases_lt, cases_order, Op, Latencies, is_priority, length-priorities, priorities, priority}
 use Rattle.iloc_timed.proofs.Greatest.{item_le_fold_max, fold_max_le}
-use Rattle.iloc_rules.specs.Priority.{priorities, priority}
-use Rattle.iloc_rules.proofs.PriorityValues.Longest.{is_priority, length-priorities}
 use Rattle.iloc_explain.specs.Chain.{Continues, IsNext, IsChainFrom, IsFirstOfGreatest, IsLongestChain, Spans, SpansTheGreatest}
 use Rattle.iloc_explain.specs.Steps.Links.{IsChainTo, IsLinked}
 

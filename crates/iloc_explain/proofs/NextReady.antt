@@ -1,29 +1,12 @@
 -- What the ready list says of a cycle of a schedule: what is ready, and what is ready next.
-use Rattle.std.proofs.Common.{◌≡◌, ℕ, zero, suc, ◌+◌, ◌-◌, ◌<◌, ◌≤◌, ◌==◌, Bool, true, false, List, [], ◌∷◌, length, Some, None, ◌⊎◌, inl, inr, refl, ap, sym, ◌∙◌, subst, arith}
-use Rattle.std.specs.Prelude.{not, option_map, slice_get, slice_index}
+use Rattle.iloc_explain.proofs.Common.{◌≡◌, ℕ, zero, suc, ◌+◌, ◌-◌, ◌<◌, ◌≤◌, Bool, true, false, not, ◌⊎◌, List, [], ◌∷◌, length, ◌==◌, slice_get, slice_index, Some, None, option_map, sym, refl, ap, ◌∙◌, subst, inl, inr, arith, eqb-false, eqb-true, ne_eqb, none-some, slice_get_within, IsStrictlySortedBy, Op, by_bool, issued_within, issued_there, stands_there, IsTable, holds, issue_cycle, row_at, times_issued, Latencies, Row, empty_from, in_filter, first_of_all, ready, GoesBefore, In, IsComing, IsInOrder, IsReadyList, IsReadyPlace, IsRowAt, Place, coming_cmp, number, place_at, Explained}
 use Rattle.std.specs.declared.cmp.Ordering.TheVariants.{Less}
-use Rattle.std.specs.List.Sorted.{IsStrictlySortedBy}
-use Rattle.std.proofs.lemmas.Bool.{eqb-true, eqb-false, ne_eqb}
 use Rattle.std.proofs.lemmas.Map.Keys.{sorted_head}
-use Rattle.std.proofs.lemmas.Option.{none-some, slice_get_within}
-use Rattle.iloc_meaning.proofs.Cases.{by_bool}
-use Rattle.iloc_ops.specs.declared.op.Op.{Op}
-use Rattle.iloc_timed.specs.declared.latencies.Latencies.{Latencies}
-use Rattle.iloc_timed.specs.declared.row.Row.{Row}
-use Rattle.iloc_timed.specs.Rows.{IsTable, holds, issue_cycle, row_at, times_issued}
-use Rattle.iloc_timed.proofs.Arrivals.{issued_within}
-use Rattle.iloc_timed.proofs.Issues.{issued_there, stands_there}
-use Rattle.iloc_rules.specs.Greedy.{first_of_all, ready}
-use Rattle.iloc_rules.specs.Steps.Choosing.{GoesBefore}
-use Rattle.iloc_rules.specs.Steps.Members.{In}
-use Rattle.iloc_rules.proofs.Basics.Members.{empty_from, in_filter}
 use Rattle.iloc_rules.proofs.Choice.FirstOfAll.{first_is, first_none, first_some, goes_before_self}
 use Rattle.iloc_rules.proofs.Choice.Ready.{ready_from, ready_means, ready_rises}
-use Rattle.iloc_explain.specs.declared.explanation.Explained.{Explained}
 use Rattle.iloc_explain.specs.declared.ready_list.ReadyList.{ReadyList}
 use Rattle.iloc_explain.specs.Explained.{AreExplained, IsExplained}
 use Rattle.iloc_explain.specs.ReadyList.{busy_from, is_idle, left_out, next_busy, next_ready}
-use Rattle.iloc_explain.specs.Steps.Queue.{IsRowAt, IsComing, IsInOrder, IsReadyList, IsReadyPlace, Place, coming_cmp, number, place_at}
 use Rattle.iloc_explain.proofs.ReadyOrder.{ArePlaces, all_in, cmp_less, coming_less}
 
 -- what has members is not empty

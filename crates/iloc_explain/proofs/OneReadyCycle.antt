@@ -1,10 +1,5 @@
 -- There is one cycle at which an operation is ready.
-use Rattle.std.proofs.Common.{◌≡◌, ◌≤◌, ℕ, ◌+◌, List, arith, inl, inr}
-use Rattle.iloc_ops.specs.declared.op.Op.{Op}
-use Rattle.iloc_timed.specs.declared.latencies.Latencies.{Latencies}
-use Rattle.iloc_timed.specs.declared.row.Row.{Row}
-use Rattle.iloc_timed.specs.Rows.{issue_cycle}
-use Rattle.iloc_explain.specs.Waiting.{IsReadyAt}
+use Rattle.iloc_explain.proofs.Common.{◌≡◌, ℕ, ◌+◌, ◌≤◌, List, inl, inr, arith, Op, issue_cycle, Latencies, Row, IsReadyAt}
 
 ready_below : (lat : Latencies) (ops : List Op) (rows : List Row) (j c d : ℕ) → IsReadyAt lat ops rows j c
     → IsReadyAt lat ops rows j d → c ≤ d

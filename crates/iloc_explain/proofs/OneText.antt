@@ -1,26 +1,12 @@
 -- There is one text that explains a schedule.
-use Rattle.std.proofs.Common.{◌≡◌, ℕ, suc, ◌+◌, List, [], ◌∷◌, ◌++◌, length, Some, arith, refl, sym, ap, ap₂, ◌∙◌, subst, ◌<◌, ◌≤◌, ◌-◌, inl, inr}
-use Rattle.std.specs.Prelude.{slice_get}
-use Rattle.iloc_ops.specs.declared.op.Op.{Op}
-use Rattle.iloc_timed.specs.declared.latencies.Latencies.{Latencies}
-use Rattle.iloc_timed.specs.declared.row.Row.{Row}
-use Rattle.iloc_timed.specs.Cycles.{cycles}
-use Rattle.iloc_timed.specs.Rows.{issue_cycle, row_at}
-use Rattle.iloc_rules.specs.Least.{least}
-use Rattle.iloc_rules.specs.Renaming.{without_nops}
-use Rattle.iloc_explain.specs.declared.explanation.Explained.{Explained}
+use Rattle.iloc_explain.proofs.Common.{◌≡◌, ℕ, suc, ◌+◌, ◌-◌, ◌<◌, ◌≤◌, List, [], ◌∷◌, ◌++◌, length, slice_get, Some, sym, refl, ap, ◌∙◌, subst, ap₂, inl, inr, arith, cases_order, none-some, same_Some, Op, cycles, issue_cycle, row_at, Latencies, Row, least, without_nops, Begins, Binds, HadRoom, IsLastToArrive, IsPath, LeadBack, origin, span, waited_until, Explained, Delay, Free, Held}
 use Rattle.iloc_explain.specs.Explained.{IsExplained}
 use Rattle.iloc_explain.specs.Holding.{holder, keeper}
 use Rattle.iloc_explain.specs.Laws.{SchedulesHaveOneExplanation}
 use Rattle.iloc_explain.specs.Listing.{explained_line, explained_lines, cycles_line, chain_line, path_line}
-use Rattle.iloc_explain.specs.Waiting.{waited_until}
 use Rattle.iloc_explain.proofs.Links.{longest_same}
 use Rattle.iloc_explain.proofs.OneReadyCycle.{ready_same}
-use Rattle.std.proofs.lemmas.Bool.{cases_order}
-use Rattle.std.proofs.lemmas.Option.{none-some, same_Some}
 use Rattle.iloc_explain.specs.declared.path.Stretch.{Stretch}
-use Rattle.iloc_explain.specs.declared.path.Stretch.TheVariants.{Delay, Held, Free}
-use Rattle.iloc_explain.specs.Path.{Begins, Binds, HadRoom, IsLastToArrive, IsPath, LeadBack, origin, span}
 use Rattle.iloc_explain.proofs.Stretches.{waited_earlier}
 
 -- A schedule has one path.

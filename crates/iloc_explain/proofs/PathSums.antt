@@ -1,23 +1,7 @@
 -- The stretches of the path of a lawful schedule take its cycles together.
-use Rattle.std.proofs.Common.{◌≡◌, ◌<◌, ◌≤◌, ℕ, ◌+◌, ◌-◌, List, [], ◌∷◌, ◌++◌, length, arith, refl, sym, ap, ◌∙◌, inl, inr}
-use Rattle.std.specs.Prelude.{reverse}
-use Rattle.std.specs.List.{sum_by}
-use Rattle.std.proofs.lemmas.List.{reverse-append}
-use Rattle.std.proofs.lemmas.List.Sums.{sum_by-cons, sum_by_push}
-use Rattle.iloc_ops.specs.declared.op.Op.{Op}
-use Rattle.iloc_meaning.specs.Trace.{op_at}
-use Rattle.iloc_timed.specs.declared.latencies.Latencies.{Latencies}
-use Rattle.iloc_timed.specs.declared.row.Row.{Row}
-use Rattle.iloc_timed.specs.Cycles.{cycles}
-use Rattle.iloc_timed.specs.Latency.{latency}
-use Rattle.iloc_timed.specs.Rows.{issue_cycle}
-use Rattle.iloc_timed.proofs.Arrivals.{issued_within}
-use Rattle.iloc_rules.specs.Lawful.{IsLawful}
+use Rattle.iloc_explain.proofs.Common.{◌≡◌, ℕ, ◌+◌, ◌-◌, ◌<◌, ◌≤◌, List, [], ◌∷◌, ◌++◌, reverse, length, sym, refl, ap, ◌∙◌, inl, inr, arith, reverse-append, sum_by-cons, sum_by_push, sum_by, Op, op_at, issued_within, cycles, latency, issue_cycle, Latencies, Row, IsLawful, Binds, LeadBack, origin, span, IsReadyAt, Delay, Free, Held}
 use Rattle.iloc_explain.specs.declared.path.Stretch.{Stretch}
-use Rattle.iloc_explain.specs.declared.path.Stretch.TheVariants.{Delay, Held, Free}
 use Rattle.iloc_explain.specs.Laws.{PathsSumToTheCycles}
-use Rattle.iloc_explain.specs.Path.{Binds, LeadBack, origin, span}
-use Rattle.iloc_explain.specs.Waiting.{IsReadyAt}
 use Rattle.iloc_explain.proofs.OneReadyCycle.{ready_same}
 use Rattle.iloc_explain.proofs.Stretches.{binds_from, binds_long, kept_by}
 

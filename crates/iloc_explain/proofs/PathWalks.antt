@@ -1,20 +1,6 @@
 -- A path, stretch by stretch, from its end back.
-use Rattle.std.proofs.Common.{◌≡◌, ◌<◌, ◌≤◌, ℕ, ◌+◌, ◌-◌, List, [], ◌∷◌, ◌++◌, length, map, get_or, append_assoc, append-nil, arith, ap, ◌∙◌}
-use Rattle.std.specs.Prelude.{reverse, slice_index}
-use Rattle.std.specs.List.{range_with_len}
-use Rattle.std.proofs.lemmas.List.{get_or_default}
-use Rattle.std.proofs.lemmas.List.FromFn.{get_or-map-range_with_len, length-map-range_with_len, map-range_with_len_more}
-use Rattle.iloc_ops.specs.declared.op.Op.{Op}
-use Rattle.iloc_meaning.specs.Trace.{op_at}
-use Rattle.iloc_timed.specs.declared.latencies.Latencies.{Latencies}
-use Rattle.iloc_timed.specs.declared.row.Row.{Row}
-use Rattle.iloc_timed.specs.Cycles.{cycles}
-use Rattle.iloc_timed.specs.Latency.{latency}
-use Rattle.iloc_timed.specs.Rows.{issue_cycle, IsTable}
-use Rattle.iloc_timed.proofs.Arrivals.{arrival_le_cycles, cycles_le}
+use Rattle.iloc_explain.proofs.Common.{◌≡◌, ℕ, ◌+◌, ◌-◌, ◌<◌, ◌≤◌, List, [], ◌∷◌, ◌++◌, map, reverse, length, get_or, slice_index, ap, ◌∙◌, append_assoc, append-nil, arith, get_or_default, get_or-map-range_with_len, length-map-range_with_len, map-range_with_len_more, range_with_len, Op, op_at, arrival_le_cycles, cycles_le, cycles, latency, IsTable, issue_cycle, Latencies, Row, Begins, Binds, IsLastToArrive, IsPath, origin, span, Delay}
 use Rattle.iloc_explain.specs.declared.path.Stretch.{Stretch}
-use Rattle.iloc_explain.specs.declared.path.Stretch.TheVariants.{Delay}
-use Rattle.iloc_explain.specs.Path.{Begins, Binds, IsLastToArrive, IsPath, origin, span}
 use Rattle.iloc_explain.specs.Steps.Greatest.{IsPlaceOfGreatest}
 use Rattle.iloc_explain.specs.Steps.Walk.{IsWalked}
 use Rattle.iloc_explain.proofs.Stretches.{binds_from}

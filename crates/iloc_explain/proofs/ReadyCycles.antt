@@ -1,26 +1,8 @@
 -- The latest of what earlier operations leave to wait for is when an operation is ready.
-use Rattle.std.proofs.Common.{◌≡◌, ◌<◌, ◌≤◌, ℕ, ◌+◌, max, true, List, map, length, arith, refl, sym, ◌∙◌, ◌⊎◌, inl, inr}
-use Rattle.std.specs.Prelude.{Contains}
-use Rattle.std.proofs.lemmas.Bool.{and_from, and_parts, false≢true, or_cases, or_left, or_right}
-use Rattle.iloc_ops.specs.declared.op.Op.{Op}
-use Rattle.iloc_ops.specs.declared.op.Reg.{Reg}
-use Rattle.iloc_ops.specs.Registers.{used, defined}
-use Rattle.iloc_meaning.specs.Trace.{op_at, is_register}
-use Rattle.iloc_timed.specs.declared.kind.Kind.{Kind}
+use Rattle.iloc_explain.proofs.Common.{◌≡◌, ℕ, ◌+◌, ◌<◌, ◌≤◌, max, true, ◌⊎◌, List, map, length, Contains, sym, refl, ◌∙◌, inl, inr, arith, and_from, and_parts, false≢true, or_cases, or_left, or_right, defined, used, Op, Reg, is_register, op_at, is_output, is_store, kind, latency, issue_cycle, Kind, Latencies, Row, fold_max_each, fold_max_reached, max_is, any_at, contains_from, from_any, from_append, from_map, in_from, in_left, in_map, in_right, from_when, in_when, delays, keeps_order, memory_delays, reads_stored, uses_result, when, In, IsReadyAt}
 use Rattle.iloc_timed.specs.declared.kind.Kind.TheVariants as K
-use Rattle.iloc_timed.specs.declared.latencies.Latencies.{Latencies}
-use Rattle.iloc_timed.specs.declared.row.Row.{Row}
-use Rattle.iloc_timed.specs.Kinds.{kind, is_store, is_output}
-use Rattle.iloc_timed.specs.Latency.{latency}
-use Rattle.iloc_timed.specs.Rows.{issue_cycle}
 use Rattle.iloc_timed.proofs.Greatest.{le_fold_max}
-use Rattle.iloc_rules.specs.Delays.{uses_result, reads_stored, keeps_order, when, memory_delays, delays}
-use Rattle.iloc_rules.specs.Steps.Members.{In}
-use Rattle.iloc_rules.proofs.Basics.Members.{contains_from, in_from, in_left, in_right, from_append, in_map, from_map, any_at, from_any}
-use Rattle.iloc_rules.proofs.Basics.Maxima.{fold_max_each, fold_max_reached, max_is}
-use Rattle.iloc_rules.proofs.DelayPairs.DelayBounds.{in_when, from_when}
 use Rattle.iloc_explain.specs.declared.latest.Latest.{Latest}
-use Rattle.iloc_explain.specs.Waiting.{IsReadyAt}
 use Rattle.iloc_explain.specs.Steps.Latest.{AreLatest, result_of, by_kind, ready_after, arrival, next_cycle}
 
 -- why a delay stands between two operations

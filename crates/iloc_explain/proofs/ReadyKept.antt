@@ -1,27 +1,14 @@
 -- What is kept of the ready list from cycle to cycle.
-use Rattle.std.proofs.Common.{◌≡◌, ℕ, ◌+◌, ◌<◌, ◌≤◌, ◌==◌, Bool, true, false, List, [], ◌∷◌, length, Option, Some, None, ◌⊎◌, inl, inr, refl, ap, sym, ◌∙◌, subst, arith}
-use Rattle.std.specs.Prelude.{slice_get}
-use Rattle.std.specs.BTreeMap.{is_at}
+use Rattle.iloc_explain.proofs.Common.{◌≡◌, ℕ, ◌+◌, ◌<◌, ◌≤◌, Bool, true, false, ◌⊎◌, List, [], ◌∷◌, length, ◌==◌, slice_get, Some, None, Option, sym, refl, ap, ◌∙◌, subst, inl, inr, arith, eqb-false, eqb-true, same_Some, slice_get_within, is_at, IsStrictlySortedBy, is_eq, match_ordering, nat_cmp, by_bool, holds_one, holds_zero, holds, Row, In, IsComing, IsKept, IsReadyList, IsReadyPlace, IsRowAt, Place, coming_cmp, place_at, place_cmp, without, without_place, Explained}
 use Rattle.std.specs.BTreeSet.{insert_key}
-use Rattle.std.specs.List.Sorted.{IsStrictlySortedBy}
 use Rattle.std.specs.Cmp.{nat_cmp_is}
-use Rattle.std.specs.Ordering.{is_eq, match_ordering, nat_cmp}
 use Rattle.std.specs.Set.{remove_key}
 use Rattle.std.specs.declared.cmp.Ordering.{Ordering}
 use Rattle.std.specs.declared.cmp.Ordering.TheVariants.{Equal, Greater, Less}
 use Rattle.std.specs.declared.cmp.Reverse.{Reverse}
-use Rattle.std.proofs.lemmas.Bool.{eqb-true, eqb-false}
 use Rattle.std.proofs.lemmas.Map.Keys.{sorted_head, sorted_tail}
 use Rattle.std.proofs.lemmas.Map.Lookups.{CmpEqualImpliesEq, exact_pairs, exact_unsigned}
-use Rattle.std.proofs.lemmas.Option.{same_Some, slice_get_within}
-use Rattle.iloc_meaning.proofs.Cases.{by_bool}
-use Rattle.iloc_timed.specs.declared.row.Row.{Row}
-use Rattle.iloc_timed.specs.Rows.{holds}
-use Rattle.iloc_timed.proofs.Issues.{holds_zero, holds_one}
-use Rattle.iloc_rules.specs.Steps.Members.{In}
-use Rattle.iloc_explain.specs.declared.explanation.Explained.{Explained}
 use Rattle.iloc_explain.specs.declared.ready_list.ReadyList.{ReadyList}
-use Rattle.iloc_explain.specs.Steps.Queue.{IsRowAt, IsComing, IsKept, IsReadyList, IsReadyPlace, Place, coming_cmp, place_at, place_cmp, without, without_place}
 use Rattle.iloc_explain.proofs.ReadyOrder.{all_in}
 
 -- ---- members of a set with a key more, or without one

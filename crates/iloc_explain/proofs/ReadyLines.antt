@@ -1,21 +1,10 @@
 -- The line of a cycle by what is kept of the ready list.
-use Rattle.std.proofs.Common.{◌≡◌, ℕ, ◌+◌, ◌-◌, ◌<◌, ◌≤◌, ◌==◌, ◌&&◌, Bool, true, false, zero, suc, List, [], ◌∷◌, ◌++◌, append_assoc, append-nil, length, map, take, Option, Some, None, refl, ap, sym, ◌∙◌, inl, inr, arith}
-use Rattle.std.proofs.lemmas.List.{take-append-le}
-use Rattle.iloc_meaning.proofs.Cases.{by_bool}
-use Rattle.std.specs.Prelude.{IfSome, codes, find, not, slice_index}
-use Rattle.std.specs.List.{flat_map, range_with_len}
-use Rattle.iloc_ops.specs.declared.op.Op.{Op}
-use Rattle.iloc_timed.specs.declared.latencies.Latencies.{Latencies}
-use Rattle.iloc_timed.specs.declared.row.Row.{Row}
-use Rattle.iloc_timed.specs.Rows.{IsTable, holds, row_at}
-use Rattle.iloc_rules.specs.Greedy.{first_of_all, ready}
-use Rattle.iloc_rules.specs.Steps.Members.{In}
+use Rattle.iloc_explain.proofs.Common.{◌≡◌, ℕ, zero, suc, ◌+◌, ◌-◌, ◌<◌, ◌≤◌, Bool, true, false, not, ◌&&◌, List, [], ◌∷◌, ◌++◌, map, length, take, IfSome, ◌==◌, slice_index, Some, None, codes, Option, find, sym, refl, ap, ◌∙◌, inl, inr, append_assoc, append-nil, arith, take-append-le, flat_map, range_with_len, Op, by_bool, IsTable, holds, row_at, Latencies, Row, first_of_all, ready, In, IsInOrder, IsKnown, Place, number, shown}
 use Rattle.iloc_explain.specs.declared.ready_list.ReadyList.{ReadyList}
 use Rattle.iloc_explain.specs.declared.ready_list.TheConstants.{MOST_LISTED}
 use Rattle.iloc_explain.specs.CycleLines.{active_text, cycle_line, is_idle_before, last_cycle, line_from, more_text, next_text, paired, pairs_text, ready_text, slot_text, span_text, taken_text}
 use Rattle.iloc_explain.specs.ReadyList.{first_ranked, is_idle, left_out, next_busy, next_ready}
 use Rattle.iloc_explain.specs.Steps.CycleParts.{busy_by, front_by, last_by, next_by, taken_by}
-use Rattle.iloc_explain.specs.Steps.Queue.{IsInOrder, IsKnown, Place, number, shown}
 use Rattle.iloc_explain.proofs.NextReady.{are_places, is_next, no_next, not_zero}
 use Rattle.iloc_explain.proofs.ReadyOrder.{ArePlaces, count_is, found_is, ranked_is}
 

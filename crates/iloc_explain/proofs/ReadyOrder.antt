@@ -1,25 +1,12 @@
 -- What is chosen from candidates, by a list of their places that is in the order of choice.
-use Rattle.std.proofs.Common.{◌≡◌, ℕ, zero, suc, ◌<◌, ◌==◌, Bool, true, false, List, [], ◌∷◌, length, take, filter, map, Some, ◌⊎◌, inl, inr, refl, ap, sym, ◌∙◌, subst, arith}
-use Rattle.std.specs.Prelude.{find, not, slice_get, slice_index}
-use Rattle.std.specs.List.{AllByRecursion}
-use Rattle.std.specs.List.Sorted.{IsStrictlySortedBy}
-use Rattle.std.specs.Ordering.{MatchOrdering, nat_cmp, ordering_then}
+use Rattle.iloc_explain.proofs.Common.{◌≡◌, ℕ, zero, suc, ◌<◌, Bool, true, false, not, ◌⊎◌, List, [], ◌∷◌, map, length, take, ◌==◌, slice_get, slice_index, Some, filter, find, sym, refl, ap, ◌∙◌, subst, inl, inr, arith, eq-eqb, eqb-true, same_Some, AllByRecursion, IsStrictlySortedBy, MatchOrdering, nat_cmp, ordering_then, by_bool, empty_from, from_filter, in_filter, ordered_filter, first_of_all, GoesBefore, In, AreLater, Place, coming_cmp, number, place_cmp}
 use Rattle.std.specs.declared.cmp.Ordering.{Ordering}
 use Rattle.std.specs.declared.cmp.Ordering.TheVariants.{Equal, Greater, Less}
-use Rattle.std.proofs.lemmas.Bool.{eqb-true, eq-eqb}
 use Rattle.std.proofs.lemmas.Cmp.{ranked}
 use Rattle.std.proofs.lemmas.Map.Keys.{sorted_head, sorted_tail}
-use Rattle.std.proofs.lemmas.Option.{same_Some}
-use Rattle.iloc_meaning.proofs.Cases.{by_bool}
-use Rattle.iloc_rules.specs.Greedy.{first_of_all}
-use Rattle.iloc_rules.specs.Steps.Choosing.{GoesBefore}
-use Rattle.iloc_rules.specs.Steps.Members.{In}
-use Rattle.iloc_rules.proofs.Basics.Members.{empty_from, from_filter, in_filter}
-use Rattle.iloc_rules.proofs.Basics.Ordered.{ordered_filter}
 use Rattle.iloc_rules.proofs.Basics.Rising.{Rises}
 use Rattle.iloc_rules.proofs.Choice.FirstOfAll.{first_is, goes_before_self}
 use Rattle.iloc_explain.specs.ReadyList.{first_ranked}
-use Rattle.iloc_explain.specs.Steps.Queue.{AreLater, Place, coming_cmp, number, place_cmp}
 
 less_from : (i j : ℕ) → nat_cmp i j ≡ Less → i < j
 less_from i j is = subst (λ o. MatchOrdering o (i < j) (i ≡ j) (j < i)) is (ranked i j (nat_cmp i j) refl)

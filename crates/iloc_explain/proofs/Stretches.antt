@@ -1,26 +1,8 @@
 -- What a stretch of a path begins with, and how long it is.
-use Rattle.std.proofs.Common.{◌≡◌, ◌<◌, ◌≤◌, ℕ, zero, suc, ◌+◌, ◌-◌, ◌==◌, not, Bool, true, false, nat_lt, List, [], ◌∷◌, length, Option, Some, None, option_to_list, arith, refl, sym, ◌⊎◌, inl, inr}
-use Rattle.std.specs.Prelude.{is_some, slice_get}
-use Rattle.std.specs.List.{list_any}
-use Rattle.std.proofs.lemmas.Bool.{and_parts, eqb-true, ltb-true, lt-ltb, and_from, eq-eqb}
-use Rattle.std.proofs.lemmas.Option.{none-some, same_Some}
-use Rattle.iloc_ops.specs.declared.op.Op.{Op}
-use Rattle.iloc_meaning.specs.Trace.{op_at}
-use Rattle.iloc_timed.specs.declared.latencies.Latencies.{Latencies}
-use Rattle.iloc_timed.specs.declared.row.Row.{Row}
-use Rattle.iloc_timed.specs.Rows.{row_at, slots, holds, issue_cycle, times_issued, IsTable}
-use Rattle.iloc_timed.proofs.Arrivals.{issued_within}
+use Rattle.iloc_explain.proofs.Common.{◌≡◌, ℕ, zero, suc, ◌+◌, ◌-◌, ◌<◌, ◌≤◌, Bool, true, false, not, ◌⊎◌, List, [], ◌∷◌, length, is_some, nat_lt, ◌==◌, slice_get, Some, None, Option, option_to_list, sym, refl, inl, inr, arith, and_from, and_parts, eq-eqb, eqb-true, lt-ltb, ltb-true, none-some, same_Some, list_any, Op, op_at, issued_within, holds_one, holds_zero, issued_there, stands_there, IsTable, holds, issue_cycle, row_at, slots, times_issued, Latencies, Row, any_at, contains_from, from_any, from_filter, in_filter, in_from, in_left, in_right, delay_at_least, delays, In, Binds, origin, span, IsReadyAt, WaitsUntil, ends_at, issue_order, waited_until, Delay, Free, Held}
 use Rattle.iloc_timed.proofs.Counts.{any_contains}
-use Rattle.iloc_timed.proofs.Issues.{issued_there, stands_there, holds_zero, holds_one}
-use Rattle.iloc_rules.specs.Delays.{delays}
-use Rattle.iloc_rules.specs.Steps.Members.{In}
-use Rattle.iloc_rules.proofs.Basics.Members.{contains_from, in_from, in_left, in_right, in_filter, from_any, any_at, from_filter}
-use Rattle.iloc_rules.proofs.DelayPairs.DelayBounds.{delay_at_least}
 use Rattle.iloc_explain.specs.declared.path.Stretch.{Stretch}
-use Rattle.iloc_explain.specs.declared.path.Stretch.TheVariants.{Delay, Held, Free}
 use Rattle.iloc_explain.specs.Holding.{keeper, keeper_of}
-use Rattle.iloc_explain.specs.Path.{Binds, origin, span}
-use Rattle.iloc_explain.specs.Waiting.{IsReadyAt, WaitsUntil, ends_at, issue_order, waited_until}
 use Rattle.iloc_explain.proofs.IssueCycles.{in_slots}
 use Rattle.iloc_explain.proofs.Waits.{in_order}
 

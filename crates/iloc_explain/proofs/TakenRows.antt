@@ -1,17 +1,6 @@
 -- The rows of a lawful schedule are what its lines say is taken; a cycle that begins no line has an empty row.
-use Rattle.std.proofs.Common.{◌≡◌, ℕ, suc, ◌+◌, ◌<◌, ◌≤◌, ◌==◌, ◌&&◌, true, List, [], ◌∷◌, length, map, Option, Some, None, refl, ap, ◌∙◌, arith}
-use Rattle.std.specs.List.{range_with_len}
-use Rattle.std.proofs.lemmas.Bool.{and_parts, eqb-true}
-use Rattle.iloc_meaning.proofs.Cases.{by_bool}
-use Rattle.iloc_ops.specs.declared.op.Op.{Op}
-use Rattle.iloc_timed.specs.declared.latencies.Latencies.{Latencies}
-use Rattle.iloc_timed.specs.declared.row.Row.{Row}
-use Rattle.iloc_timed.specs.Rows.{empty_row, holds, issue_cycle, row_at, slots}
+use Rattle.iloc_explain.proofs.Common.{◌≡◌, ℕ, suc, ◌+◌, ◌<◌, ◌≤◌, true, ◌&&◌, List, [], ◌∷◌, map, length, ◌==◌, Some, None, Option, refl, ap, ◌∙◌, arith, and_parts, eqb-true, range_with_len, Op, by_bool, holds_one, holds_zero, issued_there, empty_row, holds, issue_cycle, row_at, slots, Latencies, Row, ready, IsLawful, In}
 use Rattle.iloc_timed.proofs.Counts.{any_contains}
-use Rattle.iloc_timed.proofs.Issues.{holds_zero, holds_one, issued_there}
-use Rattle.iloc_rules.specs.Greedy.{ready}
-use Rattle.iloc_rules.specs.Lawful.{IsLawful}
-use Rattle.iloc_rules.specs.Steps.Members.{In}
 use Rattle.iloc_rules.proofs.Choice.Ready.{ready_from}
 use Rattle.iloc_explain.specs.CycleLines.{is_idle_before}
 use Rattle.iloc_explain.specs.Laws.{LinesGiveTheRows, row_read}

@@ -1,25 +1,8 @@
 -- What is under way in a cycle was issued in the rows of the cycles before, as many as the longest latency has.
-use Rattle.std.proofs.Common.{◌≡◌, ◌<◌, ◌≤◌, ℕ, ◌+◌, ◌-◌, true, List, [], ◌∷◌, ◌++◌, length, take, filter, append_assoc, append-nil, Option, Some, None, option_to_list, arith, refl, sym, ap, ◌∙◌}
-use Rattle.std.specs.Prelude.{IfSome, nat_lt}
-use Rattle.std.proofs.lemmas.Bool.{ltb-true}
-use Rattle.std.proofs.lemmas.Grind.{flat_map-append}
-use Rattle.std.proofs.lemmas.List.{take_more, get_or-take, length-take, map-append}
-use Rattle.std.proofs.lemmas.List.Elements.{filter-append}
-use Rattle.iloc_ops.specs.declared.op.Op.{Op}
-use Rattle.iloc_meaning.specs.Trace.{op_at}
-use Rattle.iloc_timed.specs.declared.latencies.Latencies.{Latencies}
-use Rattle.iloc_timed.specs.declared.row.Row.{Row}
-use Rattle.iloc_timed.specs.Kinds.{kind}
-use Rattle.iloc_timed.specs.Latency.{latency}
-use Rattle.iloc_timed.specs.Rows.{IsTable, empty_row, holds, issue_cycle, row_at, slots}
+use Rattle.iloc_explain.proofs.Common.{◌≡◌, ℕ, ◌+◌, ◌-◌, ◌<◌, ◌≤◌, true, List, [], ◌∷◌, ◌++◌, length, take, IfSome, nat_lt, Some, None, filter, Option, option_to_list, sym, refl, ap, ◌∙◌, append_assoc, append-nil, arith, ltb-true, flat_map-append, get_or-take, length-take, map-append, take_more, filter-append, Op, op_at, holds_one, holds_zero, issued_there, short_latency, kind, latency, IsTable, empty_row, holds, issue_cycle, row_at, slots, Latencies, Row, empty_from, from_filter, LONGEST_DELAY, issue_order}
 use Rattle.iloc_timed.proofs.Counts.{any_contains}
-use Rattle.iloc_timed.proofs.Issues.{issued_there, holds_zero, holds_one}
-use Rattle.iloc_timed.proofs.WholeRuns.{short_latency}
-use Rattle.iloc_rules.specs.declared.delay_pairs.TheConstants.{LONGEST_DELAY}
-use Rattle.iloc_rules.proofs.Basics.Members.{empty_from, from_filter}
 use Rattle.iloc_explain.specs.CycleLines.{paired}
 use Rattle.iloc_explain.specs.ReadyList.{arrival}
-use Rattle.iloc_explain.specs.Waiting.{issue_order}
 use Rattle.iloc_explain.proofs.Waits.{from_order, from_row, in_order}
 
 module _ (lat : Latencies) (ops : List Op) (rows : List Row) (table : IsTable ops rows) (cycle : ℕ) where

@@ -1,30 +1,8 @@
 -- What an operation waited for stands in the rows of the cycles before, as many as the longest delay has.
-use Rattle.std.proofs.Common.{◌≡◌, ◌<◌, ◌≤◌, ℕ, suc, ◌+◌, ◌-◌, ◌==◌, ◌&&◌, true, nat_lt, List, [], ◌∷◌, ◌++◌, length, take, drop, filter, min, append_assoc, append-nil, Option, Some, None, option_to_list, arith, refl, sym, ap, ◌∙◌, inl, inr}
-use Rattle.std.specs.Prelude.{Contains}
-use Rattle.std.specs.List.{list_any}
-use Rattle.std.proofs.lemmas.Bool.{and_parts, eq-eqb, eqb-false, eqb-true, ne_eqb}
-use Rattle.std.proofs.lemmas.Grind.{flat_map-append}
-use Rattle.std.proofs.lemmas.List.{take_more, take-append-drop, get_or-take, get_or-drop, length-drop, length-take}
-use Rattle.std.proofs.lemmas.List.Elements.{filter-append}
-use Rattle.iloc_meaning.proofs.Cases.{by_bool}
-use Rattle.iloc_ops.specs.declared.op.Op.{Op}
-use Rattle.iloc_meaning.specs.Trace.{op_at}
-use Rattle.iloc_timed.specs.declared.latencies.Latencies.{Latencies}
-use Rattle.iloc_timed.specs.declared.row.Row.{Row}
-use Rattle.iloc_timed.specs.Latency.{latency}
-use Rattle.iloc_timed.specs.Rows.{empty_row, row_at, slots, holds, issue_cycle, IsTable}
-use Rattle.iloc_timed.proofs.Issues.{issued_there, holds_zero, holds_one}
+use Rattle.iloc_explain.proofs.Common.{◌≡◌, ℕ, suc, ◌+◌, ◌-◌, ◌<◌, ◌≤◌, min, true, ◌&&◌, List, [], ◌∷◌, ◌++◌, length, take, drop, nat_lt, ◌==◌, Some, None, Contains, filter, Option, option_to_list, sym, refl, ap, ◌∙◌, inl, inr, append_assoc, append-nil, arith, and_parts, eq-eqb, eqb-false, eqb-true, ne_eqb, flat_map-append, get_or-drop, get_or-take, length-drop, length-take, take-append-drop, take_more, filter-append, list_any, Op, by_bool, op_at, holds_one, holds_zero, issued_there, short_latency, kind, latency, IsTable, empty_row, holds, issue_cycle, row_at, slots, Latencies, Row, contains_from, empty_from, from_any, from_append, from_filter, delay_at_least, delay_at_most, delays, In, LONGEST_DELAY, ends_at, issue_order, waited_until}
 use Rattle.iloc_timed.proofs.Counts.{any_contains}
-use Rattle.iloc_rules.specs.declared.delay_pairs.TheConstants.{LONGEST_DELAY}
-use Rattle.iloc_rules.specs.Delays.{delays}
-use Rattle.iloc_rules.specs.Steps.Members.{In}
-use Rattle.iloc_rules.proofs.Basics.Members.{contains_from, empty_from, from_any, from_append, from_filter}
-use Rattle.iloc_rules.proofs.DelayPairs.DelayBounds.{delay_at_least, delay_at_most}
 use Rattle.iloc_rules.proofs.Choice.ChosenRows.{in_option}
-use Rattle.iloc_explain.specs.Waiting.{ends_at, issue_order, waited_until}
 use Rattle.iloc_explain.specs.Steps.Waits.{waits_for}
-use Rattle.iloc_timed.proofs.WholeRuns.{short_latency}
-use Rattle.iloc_timed.specs.Kinds.{kind}
 
 -- the operations of a row, unit 0 first
 abbrev pub in_order : Row → List ℕ

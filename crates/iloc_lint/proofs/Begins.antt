@@ -1,7 +1,6 @@
 -- What bytes begin with, comes next there.
-use Rattle.std.proofs.Common.{◌<◌, ◌∙◌, ℕ, ◌-◌, suc, List, ◌∷◌, length, take, drop, inr, sym, ap, arith}
+use Rattle.iloc_lint.proofs.Common.{ℕ, suc, ◌-◌, ◌<◌, List, ◌∷◌, length, take, drop, sym, ap, ◌∙◌, inr, arith, take-append-drop}
 use Rattle.std.proofs.Math.Seq.{drop-drop}
-use Rattle.std.proofs.lemmas.List.{take-append-drop}
 use Rattle.iloc_lint.specs.Row.{IsLeft, IsNext}
 use Rattle.iloc_lint.proofs.PartsAlong.{rest_of}
 

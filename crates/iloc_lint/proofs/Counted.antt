@@ -1,11 +1,8 @@
 -- What one more line does to the counts of blocks and operations.
-use Rattle.std.proofs.Common.{◌≡◌, ◌∙◌, ℕ, ◌+◌, ◌<◌, ◌≤◌, Bool, List, [], ◌∷◌, ◌++◌, length, refl, ap, Option, Some, None, is_some, option_to_list, length-append, eq-eqb, ne_eqb, arith}
-use Rattle.std.proofs.lemmas.List.Elements.{filter_map-append}
-use Rattle.iloc_ops.specs.declared.op.Op.{Op}
-use Rattle.iloc_text.specs.Files.{Reading, block_count, ops_of}
+use Rattle.iloc_lint.proofs.Common.{◌≡◌, ℕ, ◌+◌, ◌<◌, ◌≤◌, Bool, List, [], ◌∷◌, ◌++◌, length, is_some, Some, None, Option, option_to_list, refl, ap, ◌∙◌, arith, length-append, eq-eqb, ne_eqb, filter_map-append, Op, Reading, empty, ops_in}
+use Rattle.iloc_text.specs.Files.{block_count, ops_of}
 use Rattle.iloc_text.proofs.Counts.{count-label, count-empty, count-op, count-first, none_or_some}
 use Rattle.iloc_text.proofs.BlockOps.{ops_of-here, filter_map-one, no_more}
-use Rattle.iloc_lint.specs.Faults.{empty, ops_in}
 use Rattle.iloc_lint.specs.declared.faults.counts.Counts.{Counts}
 use Rattle.iloc_lint.specs.Steps.Counted.{Count, grown}
 

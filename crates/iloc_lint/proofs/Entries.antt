@@ -1,7 +1,5 @@
 -- The entries of refusals, one after another.
-use Rattle.std.proofs.Common.{◌≡◌, ◌∙◌, ℕ, ◌+◌, ◌<◌, List, [], ◌∷◌, ◌++◌, length, take, get_or, refl, sym, ap, subst, append_assoc, append-nil, arith}
-use Rattle.std.proofs.lemmas.List.{map-append, take_more}
-use Rattle.iloc_lint.specs.Faults.{Refusal}
+use Rattle.iloc_lint.proofs.Common.{◌≡◌, ℕ, ◌+◌, ◌<◌, List, [], ◌∷◌, ◌++◌, length, get_or, take, sym, refl, ap, ◌∙◌, subst, append_assoc, append-nil, arith, map-append, take_more, Refusal}
 use Rattle.iloc_lint.specs.Refused.{refusal_of, refusals_of}
 use Rattle.iloc_lint.specs.declared.refused.Refused.{Refused}
 use Rattle.iloc_lint.specs.Listing.{IsEntry, AreEntries}

@@ -1,23 +1,10 @@
 -- A line without a label, as a language of parts.
-use Rattle.std.proofs.Common.{◌≡◌, ◌∙◌, ℕ, Bool, ◌≤◌, ◌<◌, ◌+◌, max, cond, false, true, find, bytes_eq, ◌⊎◌, inl, inr, Option, Some, None, List, [], ◌∷◌, ◌++◌, length, map, take, drop, get_or, refl, sym, ap, subst, arith, append_assoc}
-use Rattle.std.specs.List.{AllByRecursion}
+use Rattle.iloc_lint.proofs.Common.{◌≡◌, ℕ, ◌+◌, ◌<◌, ◌≤◌, max, Bool, true, false, cond, ◌⊎◌, List, [], ◌∷◌, ◌++◌, map, length, get_or, take, drop, Some, None, Option, find, bytes_eq, sym, refl, ap, ◌∙◌, subst, inl, inr, append_assoc, arith, take_more, none-some, AllByRecursion, Lead, Operand, Value, number_in, number_of, op_of, opcode, opcode_text, opcodes, operands, space, Constant, Definition, Use, MAX_NUMBER, Opcode, Op, Nop, opcode-op_of, opcode_found, operands-op_of, Blanks, LeadText, OperandsText, OptionalComment, Reads, Text, ValueText, is_blank, ◌⋅◌, Bodies, Called, Longest, PartText, Rest, blanks_in, common_in, lead_part, parts, parts_in, value_part}
 use Rattle.std.specs.Prelude.{unwrap_or}
-use Rattle.std.proofs.lemmas.List.{take_more}
-use Rattle.std.proofs.lemmas.Option.{none-some}
-use Rattle.iloc_ops.specs.Limits.{MAX_NUMBER}
-use Rattle.iloc_ops.specs.declared.op.Op.{Op}
-use Rattle.iloc_ops.specs.declared.op.Op.TheVariants.{Nop}
-use Rattle.iloc_ops.specs.declared.forms.Opcode.{Opcode}
 use Rattle.iloc_ops.specs.declared.forms.Opcode.TheVariants as O
-use Rattle.iloc_ops.specs.Forms.{Lead, Value, Operand, opcode, operands, opcode_text, opcodes, number_in, number_of, op_of}
-use Rattle.iloc_ops.specs.Forms.Lead.{space}
-use Rattle.iloc_ops.specs.Forms.Value.{Use, Definition, Constant}
-use Rattle.iloc_text.specs.Grammar.{◌⋅◌, Text, is_blank, Blanks, LeadText, ValueText, OperandsText, OptionalComment, Reads}
 use Rattle.iloc_text.specs.Steps.Opcodes.{operands_of}
 use Rattle.iloc_text.proofs.Operands.{with_number, filled}
-use Rattle.iloc_text.proofs.Names.{opcode_found, opcode-op_of, operands-op_of}
 use Rattle.iloc_text.proofs.Parts.{starts}
-use Rattle.iloc_lint.specs.Steps.Longest.{Longest, PartText, Rest, Called, Bodies, lead_part, value_part, parts_in, parts, blanks_in, common_in}
 use Rattle.iloc_lint.proofs.Longest.{NoBlank, same, either, blanks_along, no_blanks, some_text, text_nothing, text_along, text_stop, comment_no_blank}
 use Rattle.iloc_lint.proofs.PartsAlong.{grouped_left, grouped_right, with_rest, some_rest}
 

@@ -1,3 +1,4 @@
+pub mod Common
 pub mod Begins
 pub mod Counted
 pub mod OneLine

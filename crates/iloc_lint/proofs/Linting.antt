@@ -1,16 +1,9 @@
 -- All faults of a text, from line to line.
-use Rattle.std.proofs.Common.{◌≡◌, ℕ, ◌≤◌, List, [], ◌∷◌, ◌++◌, length, map, refl, subst, subst₂, Option, Some, option_to_list, append_assoc, append-nil, length-append, arith}
-use Rattle.std.specs.List.{AllByRecursion, join_with_byte}
-use Rattle.iloc_ops.specs.Limits.{MAX_INPUT}
-use Rattle.iloc_text.specs.declared.fault.ReadFault.{ReadFault}
-use Rattle.iloc_text.specs.Files.{HasNoLineEnd, Reading, block_count}
+use Rattle.iloc_lint.proofs.Common.{◌≡◌, ℕ, ◌≤◌, List, [], ◌∷◌, ◌++◌, map, length, Some, Option, option_to_list, refl, subst, subst₂, append_assoc, append-nil, arith, length-append, AllByRecursion, join_with_byte, MAX_INPUT, lines_are, HasNoLineEnd, Reading, block_count, lines_left, lines_of, ReadFault, AreRefused, CountsAs, HasFaults, Refusal, ops_in}
 use Rattle.std.specs.Borrow.{Bor}
-use Rattle.iloc_text.specs.Lines.{lines_of, lines_left}
-use Rattle.iloc_text.proofs.Splitting.{lines_are}
 use Rattle.iloc_lint.specs.declared.faults.counts.Counts.{Counts}
 use Rattle.iloc_lint.specs.Steps.Counted.{Judged}
 use Rattle.iloc_lint.specs.Steps.Noted.{refusals}
-use Rattle.iloc_lint.specs.Faults.{Refusal, CountsAs, AreRefused, HasFaults, ops_in}
 
 -- each line is one, and no longer than a text
 abbrev pub IsFit : List ℕ → Type 0

@@ -1,6 +1,5 @@
 -- The listing of a text, put together.
-use Rattle.std.proofs.Common.{◌≡◌, ◌∙◌, ℕ, Bool, ◌==◌, List, [], ◌∷◌, ◌++◌, flat_map, sym, ap, append_assoc, append-nil, arith}
-use Rattle.iloc_lint.specs.Faults.{IsLinted, Refusal}
+use Rattle.iloc_lint.proofs.Common.{◌≡◌, ℕ, Bool, List, [], ◌∷◌, ◌++◌, ◌==◌, flat_map, sym, ap, ◌∙◌, append_assoc, append-nil, arith, IsLinted, Refusal}
 use Rattle.iloc_lint.specs.Refused.{AreKept, refusals_of}
 use Rattle.iloc_lint.specs.declared.refused.Refusals.{Refusals}
 use Rattle.iloc_lint.specs.Listing.{AreEntries, AreHints, ListsLint, hint_line, more_line, total_line}

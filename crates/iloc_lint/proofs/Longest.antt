@@ -1,13 +1,6 @@
 -- The longest prefix of bytes that a text of a language begins with, from byte to byte.
-use Rattle.std.proofs.Common.{◌≡◌, ◌∙◌, ℕ, zero, suc, ◌+◌, ◌*◌, ◌-◌, ◌≤◌, ◌<◌, max, Bool, true, false, cond, not, ◌&&◌, ◌==◌, nat_lt, ◌⊎◌, inl, inr, List, [], ◌∷◌, ◌++◌, length, take, drop, refl, true≢false, sym, ap, subst, arith}
-use Rattle.std.specs.Char.{is_ascii_digit, digit_value}
+use Rattle.iloc_lint.proofs.Common.{◌≡◌, ℕ, zero, suc, ◌+◌, ◌-◌, ◌*◌, ◌<◌, ◌≤◌, max, Bool, true, false, cond, not, ◌&&◌, ◌⊎◌, List, [], ◌∷◌, ◌++◌, length, take, drop, nat_lt, ◌==◌, sym, refl, ap, ◌∙◌, subst, inl, inr, true≢false, arith, eqb-false, eqb-true, ltb-false, ltb-true, nat_tests, digit_value, is_ascii_digit, MAX_NUMBER, digit_from_value, digit_value_is, digit_value_small, Blanks, OptionalComment, SomeBlanks, Text, is_blank, ◌⋅◌, Longest, NumberAt, SmallNumber, blanks_in, comment_in, common_in, digits_in, starts}
 use Rattle.std.specs.Str.Parse.{AllDigits, digits_value_after}
-use Rattle.std.proofs.lemmas.Bool.Decides.{nat_tests}
-use Rattle.std.proofs.lemmas.Bool.{ltb-true, ltb-false, eqb-true, eqb-false}
-use Rattle.iloc_ops.specs.Limits.{MAX_NUMBER}
-use Rattle.iloc_text.specs.Grammar.{◌⋅◌, Text, is_blank, Blanks, SomeBlanks, OptionalComment}
-use Rattle.iloc_text.proofs.Tokens.{digit_value_is, digit_value_small, digit_from_value}
-use Rattle.iloc_lint.specs.Steps.Longest.{Longest, SmallNumber, NumberAt, blanks_in, digits_in, common_in, comment_in, starts}
 
 -- From byte to byte
 

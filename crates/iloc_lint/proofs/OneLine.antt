@@ -1,12 +1,5 @@
 -- What a line says that is read as a text of its own.
-use Rattle.std.proofs.Common.{◌≡◌, ◌≢◌, ◌∙◌, ℕ, ◌+◌, ◌<◌, ◌≤◌, false, List, [], ◌∷◌, ◌++◌, length, refl, sym, ap, subst, Option, Some, None, is_some, option_to_list, Ok, Err, slice_get, arith}
-use Rattle.iloc_ops.specs.Limits.{MAX_INPUT, MAX_BLOCKS, MAX_OPS}
-use Rattle.iloc_ops.specs.declared.op.Op.{Op}
-use Rattle.iloc_ops.specs.declared.file.Block.{Block}
-use Rattle.iloc_text.specs.declared.fault.ReadFault.{ReadFault}
-use Rattle.iloc_text.specs.declared.fault.ReadFault.TheVariants.{BadLine, NumberTooLarge, TooManyBlocks, TooManyOperations, NoMemory}
-use Rattle.iloc_text.specs.Files.{AreLines, HasNoLineEnd, Reading, ReadAs, Denotes, IsFaulty, HasFirstFault, IsRefused, file_of, block_count}
-use Rattle.iloc_text.specs.Steps.Growth.{with_line}
+use Rattle.iloc_lint.proofs.Common.{◌≡◌, ℕ, ◌+◌, ◌<◌, ◌≤◌, false, ◌≢◌, List, [], ◌∷◌, ◌++◌, length, is_some, slice_get, Some, None, Ok, Err, Option, option_to_list, sym, refl, ap, ◌∙◌, subst, arith, MAX_BLOCKS, MAX_INPUT, MAX_OPS, Block, Op, AreLines, Denotes, HasFirstFault, HasNoLineEnd, IsFaulty, IsRefused, ReadAs, Reading, block_count, file_of, with_line, ReadFault, BadLine, NoMemory, NumberTooLarge, TooManyBlocks, TooManyOperations}
 use Rattle.iloc_text.proofs.Answer.{lines_are_of}
 use Rattle.iloc_text.proofs.BlockLists.{file-snoc}
 use Rattle.iloc_text.proofs.Reading.{nothing_read}

@@ -1,15 +1,10 @@
 -- How far bytes go along each part of an operation, whatever follows it.
-use Rattle.std.proofs.Common.{◌≡◌, ◌∙◌, ℕ, suc, ◌+◌, ◌-◌, ◌≤◌, ◌<◌, Bool, true, false, cond, not, ◌&&◌, ◌==◌, nat_lt, List, [], ◌∷◌, ◌++◌, length, take, drop, codes, get_or, refl, true≢false, sym, ap, subst, arith, append_assoc}
-use Rattle.std.specs.Char.{is_ascii_digit}
+use Rattle.iloc_lint.proofs.Common.{◌≡◌, ℕ, suc, ◌+◌, ◌-◌, ◌<◌, ◌≤◌, Bool, true, false, cond, not, ◌&&◌, List, [], ◌∷◌, ◌++◌, length, get_or, take, drop, nat_lt, ◌==◌, codes, sym, refl, ap, ◌∙◌, subst, true≢false, append_assoc, arith, and_parts, eqb-true, not-true, nat_tests, drop_more, take_all, is_ascii_digit, Blanks, Text, is_blank, ◌⋅◌, Longest, NumberAt, PartAt, RegisterAt, Rest, SignAt, SmallNumber, alternate, blanks_in, comment_in, common_in, starts_with_value}
 use Rattle.std.proofs.Math.Seq.{drop-drop}
 use Rattle.std.proofs.Math.ListN.{drop_of_length-le}
-use Rattle.std.proofs.lemmas.List.{take_all, length-drop, drop_more}
-use Rattle.std.proofs.lemmas.Bool.Decides.{nat_tests}
-use Rattle.std.proofs.lemmas.Bool.{and_parts, eqb-true, not-true}
-use Rattle.iloc_text.specs.Grammar.{◌⋅◌, Text, is_blank, Blanks}
+use Rattle.std.proofs.lemmas.List.{length-drop}
 use Rattle.iloc_lint.specs.declared.place.Part.{Part}
 use Rattle.iloc_lint.specs.declared.place.Part.TheVariants as part
-use Rattle.iloc_lint.specs.Steps.Longest.{Longest, SmallNumber, Rest, NumberAt, SignAt, RegisterAt, PartAt, alternate, starts_with_value, blanks_in, common_in, comment_in}
 use Rattle.iloc_lint.proofs.Longest.{NoBlank, NoDigit, at_length, same, blanks_none, no_blanks, blanks_along, some_less, some_more, some_along, some_stop, text_first, some_text, text_along, text_stop, number_less, some_number, number_along, number_stop, no_comment, comment_no_blank, comment_no_digit, comment_along}
 
 -- Three languages in a row

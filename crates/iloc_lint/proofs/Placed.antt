@@ -1,19 +1,11 @@
 -- The place of a line, with its label.
-use Rattle.std.proofs.Common.{◌≡◌, ◌∙◌, ℕ, ◌+◌, ◌-◌, ◌≤◌, ◌<◌, Bool, true, false, cond, ◌==◌, ◌⊎◌, inl, inr, Option, Some, None, List, [], ◌∷◌, ◌++◌, length, take, drop, refl, sym, ap, subst, arith, length-append, length-drop, append_assoc, nat_lt}
-use Rattle.std.specs.Char.{is_ascii_alphabetic}
+use Rattle.iloc_lint.proofs.Common.{◌≡◌, ℕ, ◌+◌, ◌-◌, ◌<◌, ◌≤◌, Bool, true, false, cond, ◌⊎◌, List, [], ◌∷◌, ◌++◌, length, take, drop, nat_lt, ◌==◌, Some, None, Option, sym, refl, ap, ◌∙◌, subst, inl, inr, append_assoc, arith, length-append, length-drop, nat_tests, take-append-drop, take_all, is_ascii_alphabetic, opcodes, Before, Before-all, Before-join, Before-split, all-Before, blanks_again, blanks_over, blanks_read, Blanks, OptionalLabel, ◌⋅◌, after_blanks, after_colon, after_word, label_or_none, word_of, Bodies, Longest, blanks_in, label_in, named_in, starts, word_in}
 use Rattle.std.proofs.Math.Seq.{drop-drop, take-add, take-append_seam}
-use Rattle.std.proofs.lemmas.List.{take-append-drop, take_all}
-use Rattle.std.proofs.lemmas.Bool.Decides.{nat_tests}
-use Rattle.iloc_ops.specs.Forms.{opcodes}
-use Rattle.iloc_text.specs.Grammar.{◌⋅◌, Blanks, OptionalLabel}
-use Rattle.iloc_text.specs.Steps.Scan.{after_blanks, after_word, word_of, after_colon, label_or_none, optional_label_at}
-use Rattle.iloc_text.proofs.Parts.{Before, Before-join, Before-split, all-Before, Before-all}
-use Rattle.iloc_text.proofs.Tokens.{blanks_read, blanks_over, blanks_again}
+use Rattle.iloc_text.specs.Steps.Scan.{optional_label_at}
 use Rattle.iloc_text.proofs.Bodies.{no_blank_start}
 use Rattle.iloc_text.proofs.Labels.{label_read, label_again}
 use Rattle.iloc_text.proofs.Lines.{body_has_no_label}
 use Rattle.iloc_lint.specs.Place.{BeginsALine, ReadsSoFar, IsPlace}
-use Rattle.iloc_lint.specs.Steps.Longest.{Longest, Bodies, blanks_in, word_in, starts, named_in, label_in}
 use Rattle.iloc_lint.proofs.Longest.{no_blanks, some_text}
 use Rattle.iloc_lint.proofs.PartsAlong.{grouped_right, rest_of}
 use Rattle.iloc_lint.proofs.Languages.{Plain, blanks_read_on, plain_along}

@@ -1,10 +1,7 @@
 -- The faults beside what the reader answers.
-use Rattle.std.proofs.Common.{◌≡◌, ◌∙◌, ℕ, ◌+◌, List, [], ◌∷◌, ◌++◌, length, map, refl, sym, ap, subst, subst₂, append_assoc, append-nil, length-append, inl, inr, arith}
-use Rattle.iloc_text.specs.declared.fault.ReadFault.{ReadFault}
-use Rattle.iloc_text.specs.Files.{Reading, ReadAs, NoneFaulty, IsFaulty, file_of}
+use Rattle.iloc_lint.proofs.Common.{◌≡◌, ℕ, ◌+◌, List, [], ◌∷◌, ◌++◌, map, length, sym, refl, ap, ◌∙◌, subst, subst₂, inl, inr, append_assoc, append-nil, arith, length-append, IsFaulty, NoneFaulty, ReadAs, Reading, file_of, ReadFault, AreRefused, CountsAs, Refusal}
 use Rattle.iloc_text.proofs.Every.{NoneFaulty-snoc, first_refused}
 use Rattle.iloc_text.proofs.BlockLists.{length-file}
-use Rattle.iloc_lint.specs.Faults.{Refusal, CountsAs, AreRefused}
 use Rattle.iloc_lint.specs.Laws.{NoFaultsMeanAFile, TheFirstIsTheReaders}
 
 -- No fault

@@ -1,11 +1,7 @@
 -- Where lines among rows stop, and what may be wanted there.
-use Rattle.std.proofs.Common.{◌≡◌, ◌∙◌, ℕ, ◌-◌, List, ◌++◌, length, take, drop, codes, inl, inr, refl, sym, ap, append_assoc}
-use Rattle.std.specs.Prelude.{IfErr, IsTrue, Result, Ok, Err}
+use Rattle.iloc_lint.proofs.Common.{◌≡◌, ℕ, ◌-◌, List, ◌++◌, length, take, drop, IfErr, IsTrue, Ok, Err, codes, Result, sym, refl, ap, ◌∙◌, inl, inr, append_assoc, take-append-drop, blanks_read, blanks_in}
 use Rattle.std.proofs.Math.Seq.{drop-drop}
-use Rattle.std.proofs.lemmas.List.{take-append-drop}
-use Rattle.iloc_text.proofs.Tokens.{blanks_read}
 use Rattle.iloc_lint.specs.Row.{IsAfterBlanks, IsLeft, Starts, is_in_claim, is_in_head, is_in_row}
-use Rattle.iloc_lint.specs.Steps.Longest.{blanks_in}
 use Rattle.iloc_lint.specs.Steps.Stopped.{Stops, StopsIn}
 use Rattle.iloc_lint.specs.declared.row.Wanted.{Wanted}
 use Rattle.iloc_lint.specs.declared.row.Wanted.TheVariants.{Blank, Name, OwnName}

@@ -1,13 +1,5 @@
 -- Addresses that are good where others are.
-use Rattle.std.proofs.Common.{◌≡◌, ◌<◌, ◌≤◌, ℕ, ◌+◌, ◌==◌, ◌%◌, Option, true, false, List, [], ◌∷◌, ℤ, pos, negsuc, ◌+ℤ◌, w32, FitsSigned, sym, refl, ap, eq-eqb, ◌∙◌, inl, inr, arith, rules}
-use Rattle.std.specs.Prelude.{not, nat_le, Bool, slice_index_or}
-use Rattle.std.proofs.lemmas.Bool.{eqb-true, or_cases, or_right, and_parts, leb-true, le-leb}
-use Rattle.std.proofs.lemmas.Int.{int_wrap_fits, int_wrap-add_left, ints}
-use Rattle.iloc_meaning.specs.Address.{is_good}
-use Rattle.iloc_meaning.specs.Arithmetic.{wrapped}
-use Rattle.iloc_meaning.proofs.Cases.{by_bool}
-use Rattle.iloc_terms.specs.declared.table.node.Node.{Node}
-use Rattle.iloc_terms.specs.Steps.Terms.{Meaning, ArePartsOf, base_word}
+use Rattle.iloc_terms.proofs.Common.{◌≡◌, ℕ, ◌+◌, ◌%◌, ◌<◌, ◌≤◌, Bool, true, false, not, List, [], ◌∷◌, ℤ, pos, negsuc, ◌+ℤ◌, nat_le, ◌==◌, slice_index_or, FitsSigned, Option, sym, refl, ap, ◌∙◌, inl, inr, arith, w32, rules, eq-eqb, and_parts, eqb-true, le-leb, leb-true, or_cases, or_right, int_wrap-add_left, int_wrap_fits, ints, by_bool, is_good, wrapped, ArePartsOf, Meaning, base_word, Node}
 use Rattle.iloc_terms.specs.Steps.Symbols.{some_bad}
 use Rattle.iloc_terms.specs.Steps.Agreement.{is_in, AreMarks, IsSurelyGood, IsGoodWith, IsBadWith}
 

@@ -1,3 +1,4 @@
+pub mod Common
 pub mod Terms
 pub mod Runs
 pub mod Outcomes

@@ -1,20 +1,10 @@
 -- Two schedules whose runs are seen to end with the same terms do the same on every memory.
-use Rattle.std.proofs.Common.{◌≡◌, true, false, List, Bool, length, sym, ap, ◌∙◌, ◌<◌, ℕ, ◌*◌, map, IsTrue, pos, arith, refl}
-use Rattle.std.specs.Prelude.{ℤ}
-use Rattle.iloc_meaning.specs.Outcome.{has_fault, emitted}
-use Rattle.iloc_timed.specs.Timed.{issued_before, Issued, executed_in, timed_outcome_of}
-use Rattle.iloc_timed.specs.declared.latencies.Latencies.{Latencies}
-use Rattle.iloc_timed.specs.Schedule.{Table}
+use Rattle.iloc_terms.proofs.Common.{◌≡◌, ℕ, ◌*◌, ◌<◌, Bool, true, false, List, map, length, ℤ, pos, IsTrue, sym, refl, ap, ◌∙◌, arith, fill_by_all, get_or-map-range_with_len, length-map-range_with_len, is_good, WORDS, with_words, emitted, has_fault, Table, Issued, executed_in, issued_before, timed_outcome_of, Latencies, IsMeaning, Meaning, Node}
 use Rattle.iloc_terms.specs.declared.symbols.Symbols.{Symbols}
-use Rattle.iloc_terms.specs.declared.table.node.Node.{Node}
 use Rattle.iloc_terms.specs.Agreement.{AreAlike, AlikeOnAll}
 use Rattle.iloc_terms.specs.Steps.Agreement.{SeenSame, AreSame}
-use Rattle.iloc_terms.specs.Steps.Terms.{Meaning, IsMeaning}
 use Rattle.iloc_terms.specs.Steps.Tracking.{Ends, Stands}
 use Rattle.iloc_terms.proofs.Terms.Meanings.{is_meaning}
-use Rattle.std.proofs.lemmas.List.FromFn.{get_or-map-range_with_len, length-map-range_with_len, fill_by_all}
-use Rattle.iloc_meaning.specs.Address.{is_good}
-use Rattle.iloc_meaning.specs.Memory.{WORDS, with_words}
 use Rattle.iloc_meaning.proofs.MemoryWords.{good_word}
 use Rattle.iloc_terms.specs.Steps.Symbols.{some_bad}
 

@@ -1,26 +1,6 @@
 -- The words that a trace emits are those of the outcome.
-use Rattle.std.proofs.Common.{◌≡◌, ℕ, zero, suc, ◌+◌, true, false, List, [], ◌∷◌, ◌++◌, length, map, Option, Some, None, option_to_list, ℤ, arith, refl, sym, ap, ap₂, ◌∙◌, append-nil, append_assoc, add-one, add-zero, add-suc}
-use Rattle.std.specs.List.{flat_map}
-use Rattle.std.proofs.lemmas.List.{get_or_past}
-use Rattle.std.proofs.lemmas.List.Concat.{flat_map-append}
-use Rattle.iloc_ops.specs.declared.op.Reg.{Reg}
-use Rattle.iloc_ops.specs.declared.op.Op.{Op}
-use Rattle.iloc_ops.specs.declared.op.Op.TheVariants.{Output}
-use Rattle.iloc_meaning.specs.declared.effect.Effect.TheVariants.{Emits}
-use Rattle.iloc_meaning.specs.Address.{good_address}
-use Rattle.iloc_meaning.specs.Arithmetic.{constant}
-use Rattle.iloc_meaning.specs.Effect.{effect, at_address}
-use Rattle.iloc_meaning.specs.Trace.{op_at}
-use Rattle.iloc_meaning.specs.Outcome.{emitted, emitted_by as emits, has_fault}
-use Rattle.iloc_meaning.proofs.Cases.{by_bool}
-use Rattle.iloc_timed.specs.declared.latencies.Latencies.{Latencies}
-use Rattle.iloc_timed.specs.declared.row.Row.{Row}
-use Rattle.iloc_timed.specs.Rows.{empty_row, row_at, slots}
-use Rattle.iloc_timed.specs.Timed.{Issued, arrived, executed_in, issue, issue_all, issued_before, register_in, word_in}
-use Rattle.iloc_timed.proofs.WholeRuns.{fault_later}
+use Rattle.iloc_trace.proofs.Common.{◌≡◌, ℕ, zero, suc, ◌+◌, true, false, List, [], ◌∷◌, ◌++◌, map, length, ℤ, Some, None, Option, option_to_list, sym, refl, ap, ◌∙◌, ap₂, append_assoc, append-nil, add-zero, add-suc, add-one, arith, get_or_past, flat_map-append, flat_map, Op, Output, Reg, by_bool, good_address, constant, at_address, effect, emitted, emitted_by as emits, has_fault, op_at, Emits, fault_later, empty_row, row_at, slots, Issued, arrived, executed_in, issue, issue_all, issued_before, register_in, word_in, Latencies, Row, Place, Word}
 use Rattle.iloc_rules.proofs.Outcome.UsedEffects.{only_outputs_emit}
-use Rattle.iloc_trace.specs.declared.event.Place.{Place}
-use Rattle.iloc_trace.specs.declared.event.Place.TheVariants.{Word}
 use Rattle.iloc_trace.specs.declared.event.Read.{Read}
 use Rattle.iloc_trace.specs.Places.{places_read}
 use Rattle.iloc_trace.specs.Events.{due_at, events_at, in_slot, issue_of, issues, landed, read_of, write_of, writes}

@@ -1,29 +1,10 @@
 -- What is issued in a slot.
-use Rattle.std.proofs.Common.{◌≡◌, ℕ, ◌+◌, List, [], ◌∷◌, ◌++◌, map, Option, Some, None, IfSome, option_to_list, IsTrue, ℤ, pos, negsuc, arith, refl, sym, ap, ap₂, ◌∙◌, append-nil}
-use Rattle.std.specs.Prelude.{fold}
-use Rattle.std.proofs.lemmas.Bool.{lt-leb, le-ltb}
-use Rattle.std.proofs.lemmas.List.{map-append}
-use Rattle.iloc_ops.specs.declared.op.Reg.{Reg}
-use Rattle.iloc_ops.specs.declared.op.Op.{Op}
-use Rattle.iloc_meaning.specs.Address.{is_good, good_address}
-use Rattle.iloc_meaning.specs.Effect.{effect}
-use Rattle.iloc_meaning.specs.Memory.{word_at}
-use Rattle.iloc_meaning.specs.Registers.{value_of}
-use Rattle.iloc_meaning.specs.Trace.{op_at}
-use Rattle.iloc_meaning.specs.Outcome.{is_fault}
-use Rattle.iloc_meaning.proofs.Cases.{by_bool}
-use Rattle.iloc_meaning.proofs.Effects.{effect_same}
-use Rattle.iloc_timed.specs.declared.latencies.Latencies.{Latencies}
-use Rattle.iloc_timed.specs.Timed.{Issued, arrived, issue, register_in, word_in}
+use Rattle.iloc_trace.proofs.Common.{◌≡◌, ℕ, ◌+◌, List, [], ◌∷◌, ◌++◌, map, ℤ, pos, negsuc, IfSome, IsTrue, Some, None, fold, Option, option_to_list, sym, refl, ap, ◌∙◌, ap₂, append-nil, arith, le-ltb, lt-leb, map-append, Op, Reg, by_bool, effect_same, good_address, is_good, effect, word_at, is_fault, value_of, op_at, some_latency, Issued, arrived, issue, register_in, word_in, Latencies, issue_line, trace_lines, Place, Register, Word}
 use Rattle.iloc_timed.proofs.Landing.{landed_is_arrived}
-use Rattle.iloc_timed.proofs.WholeRuns.{some_latency}
-use Rattle.iloc_trace.specs.declared.event.Place.{Place}
-use Rattle.iloc_trace.specs.declared.event.Place.TheVariants.{Register, Word}
 use Rattle.iloc_trace.specs.declared.event.Read.{Read}
 use Rattle.iloc_trace.specs.declared.machine.Machine.{Machine}
 use Rattle.iloc_trace.specs.Places.{address_read, places_read, value_in}
 use Rattle.iloc_trace.specs.Events.{read_of, issue_of, in_slot as issued_in}
-use Rattle.iloc_trace.specs.Listing.{issue_line, trace_lines}
 use Rattle.iloc_trace.specs.Steps.Arrivals.{IsGood, arrival_of, arrivals, first_for}
 use Rattle.iloc_trace.specs.Steps.Rows.{Follows, executed_at, in_slot, place_value, read_at, reads_of, sent_in, slot_line}
 use Rattle.iloc_trace.proofs.OnTheirWay.{next_due_of_log}

@@ -1,40 +1,15 @@
 -- What is due at a cycle arrives.
-use Rattle.std.proofs.Common.{◌≡◌, ◌<◌, ℕ, ◌+◌, ◌-◌, ◌==◌, if◌then◌else◌, List, [], ◌∷◌, ◌++◌, map, Option, Some, None, option_to_list, IsTrue, ℤ, pos, arith, refl, sym, ap, ap₂, ◌∙◌, append-nil, subst, Bool, false, IfSome}
-use Rattle.std.specs.Prelude.{fold, option_map, filter}
-use Rattle.std.specs.List.{All}
-use Rattle.std.proofs.lemmas.Bool.{eqb-true, ltb-true}
-use Rattle.std.proofs.lemmas.List.Sums.{fold-append}
-use Rattle.std.proofs.lemmas.List.Concat.{flat_map-append}
-use Rattle.std.proofs.lemmas.List.Elements.{All-head, All-tail, All-filter}
-use Rattle.iloc_ops.specs.declared.op.Reg.{Reg}
-use Rattle.iloc_ops.specs.Registers.{defined}
-use Rattle.iloc_meaning.specs.declared.effect.Effect.{Effect}
-use Rattle.iloc_meaning.specs.declared.effect.Effect.TheVariants.{Faults, Gives}
-use Rattle.iloc_meaning.specs.Address.{is_good}
-use Rattle.iloc_meaning.specs.Memory.{word_at}
-use Rattle.iloc_meaning.specs.Registers.{value_of}
-use Rattle.iloc_meaning.proofs.Cases.{by_bool}
-use Rattle.iloc_timed.specs.declared.latencies.Latencies.{Latencies}
-use Rattle.iloc_timed.specs.Latency.{latency}
+use Rattle.iloc_trace.proofs.Common.{◌≡◌, ℕ, ◌+◌, ◌-◌, ◌<◌, Bool, false, List, [], ◌∷◌, ◌++◌, map, ℤ, pos, IfSome, if◌then◌else◌, IsTrue, ◌==◌, Some, None, fold, filter, Option, option_map, option_to_list, sym, refl, ap, ◌∙◌, subst, ap₂, append-nil, arith, eqb-true, ltb-true, flat_map-append, All-filter, All-head, All-tail, fold-append, All, defined, Reg, by_bool, is_good, word_at, is_fault, value_of, Executed, defines, is_register, is_write_to, result_of, result_or_zero, writes_to, written_by, written_or, Effect, Faults, Gives, latency, AllLand, Lands, landed_in_register, landed_in_word, sent_by as pending_by, due_at as pending_at, Issued, last_due, last_that, register_in, word_in, Latencies, trace_lines, write_line, Place, Register, Word}
 use Rattle.iloc_timed.specs.declared.wheel.Pending.{Pending}
-use Rattle.iloc_timed.specs.Timed.{Issued, last_due, last_that, register_in, word_in}
-use Rattle.iloc_timed.specs.Steps.Pending.{sent_by as pending_by, landed_in_register, landed_in_word}
-use Rattle.iloc_timed.specs.Steps.Wheel.{due_at as pending_at}
-use Rattle.iloc_timed.specs.Steps.Machine.{Lands, AllLand}
 use Rattle.iloc_timed.proofs.Landing.{register_more, word_more, later_below, later_newest}
 use Rattle.iloc_timed.proofs.Following.{all_land_later}
-use Rattle.iloc_trace.specs.declared.event.Place.{Place}
-use Rattle.iloc_trace.specs.declared.event.Place.TheVariants.{Register, Word}
 use Rattle.iloc_trace.specs.declared.under_way.Arrival.{Arrival}
 use Rattle.iloc_trace.specs.declared.machine.Machine.{Machine}
 use Rattle.iloc_trace.specs.Places.{is_place, is_same, sent, target, target_of, value_in, goes_to}
 use Rattle.iloc_trace.specs.Events.{Event, due_at, landed, write_of, writes}
-use Rattle.iloc_trace.specs.Listing.{trace_lines, write_line}
 use Rattle.iloc_trace.specs.Steps.Arrivals.{CanArrive, IsGood, arrival_line, arrival_lines, arrivals_of, arrived_in, due_later, due_now}
 use Rattle.iloc_trace.specs.Steps.Rows.{Follows, place_value}
 use Rattle.iloc_trace.proofs.OnTheirWay.{due_now_of_log, due_later_of_log}
-use Rattle.iloc_meaning.specs.Trace.{Executed, result_of, written_by, is_register, defines, is_write_to, writes_to, result_or_zero, written_or}
-use Rattle.iloc_meaning.specs.Outcome.{is_fault}
 use Rattle.iloc_meaning.specs.Results.{GoesTo}
 
 -- What is in a place of a log after one result more.

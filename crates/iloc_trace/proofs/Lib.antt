@@ -1,3 +1,4 @@
+pub mod Common
 pub mod OnTheirWay
 pub mod Landing
 pub mod Issuing

@@ -1,14 +1,5 @@
 -- What of a log is on its way at a cycle.
-use Rattle.std.proofs.Common.{◌≡◌, ℕ, ◌+◌, ◌==◌, ◌&&◌, nat_lt, Bool, if◌then◌else◌, List, [], ◌∷◌, Option, Some, None, option_to_list, ℤ, arith, refl, ne_eqb, append-nil}
-use Rattle.std.specs.Prelude.{fold, filter, option_map}
-use Rattle.std.proofs.lemmas.Bool.Decides.{nat_tests}
-use Rattle.std.proofs.lemmas.List.Sums.{fold-append}
-use Rattle.std.proofs.lemmas.List.Concat.{flat_map-append}
-use Rattle.std.proofs.lemmas.List.Elements.{filter-append}
-use Rattle.iloc_meaning.proofs.Cases.{by_bool}
-use Rattle.iloc_timed.specs.declared.latencies.Latencies.{Latencies}
-use Rattle.iloc_timed.specs.Timed.{Issued}
-use Rattle.iloc_trace.specs.declared.event.Place.{Place}
+use Rattle.iloc_trace.proofs.Common.{◌≡◌, ℕ, ◌+◌, Bool, ◌&&◌, List, [], ◌∷◌, ℤ, if◌then◌else◌, nat_lt, ◌==◌, Some, None, fold, filter, Option, option_map, option_to_list, refl, append-nil, arith, ne_eqb, nat_tests, flat_map-append, filter-append, fold-append, by_bool, Issued, Latencies, Place}
 use Rattle.iloc_trace.specs.declared.under_way.Arrival.{Arrival}
 use Rattle.iloc_trace.specs.Places.{is_place, goes_to, target}
 use Rattle.iloc_trace.specs.Events.{due_at, next_due, sooner}

@@ -1,36 +1,7 @@
 -- A lawful schedule reads nothing for which a result is under way.
-use Rattle.std.proofs.Common.{◌≡◌, ◌<◌, ◌≤◌, ℕ, zero, suc, ◌+◌, ◌&&◌, nat_lt, true, false, List, [], ◌∷◌, ◌++◌, length, map, Option, Some, None, IfSome, option_to_list, ℤ, arith, refl, inl, inr, subst}
-use Rattle.std.specs.Prelude.{Contains}
-use Rattle.std.specs.List.{All, flat_map}
-use Rattle.std.proofs.lemmas.Bool.{and_right, cases_lt, le-ltb}
-use Rattle.std.proofs.lemmas.List.Elements.{All-append, All-cons, All-contains_itself, All-map, All-nil, All-weaker}
-use Rattle.iloc_ops.specs.declared.op.Reg.{Reg}
-use Rattle.iloc_ops.specs.declared.op.Op.{Op}
-use Rattle.iloc_ops.specs.Registers.{used, defined}
-use Rattle.iloc_meaning.specs.declared.effect.Effect.{Effect}
-use Rattle.iloc_meaning.specs.declared.effect.Effect.TheVariants.{Faults, Gives, Writes}
-use Rattle.iloc_meaning.specs.Trace.{op_at, is_register, is_write_to}
-use Rattle.iloc_meaning.specs.Outcome.{has_fault}
-use Rattle.iloc_meaning.proofs.Cases.{by_bool}
-use Rattle.iloc_timed.specs.declared.kind.Kind.{Kind}
+use Rattle.iloc_trace.proofs.Common.{◌≡◌, ℕ, zero, suc, ◌+◌, ◌<◌, ◌≤◌, true, false, ◌&&◌, List, [], ◌∷◌, ◌++◌, map, length, ℤ, IfSome, nat_lt, Some, None, Contains, Option, option_to_list, refl, subst, inl, inr, arith, and_right, cases_lt, le-ltb, All-append, All-cons, All-contains_itself, All-map, All-nil, All-weaker, All, flat_map, defined, used, Op, Reg, by_bool, has_fault, is_register, is_write_to, op_at, Effect, Faults, Gives, Writes, holds_one, holds_zero, is_store, kind, latency, IsTable, issue_cycle, row_at, slots, Issued, arrived, executed_in, issue, issued_before, register_in, Kind, Latencies, Row, contains_from, in_from, is_register_same, cycle_is, from_holds, within, Waits, kept_in_order, read_then_store, stored_in_time, used_in_time, renamed_is_renamed, IsRenamed, In, Place, Register, Word}
 use Rattle.iloc_timed.specs.declared.kind.Kind.TheVariants as K
-use Rattle.iloc_timed.specs.declared.latencies.Latencies.{Latencies}
-use Rattle.iloc_timed.specs.declared.row.Row.{Row}
-use Rattle.iloc_timed.specs.Kinds.{kind, is_store}
-use Rattle.iloc_timed.specs.Latency.{latency}
-use Rattle.iloc_timed.specs.Rows.{row_at, slots, issue_cycle, IsTable}
-use Rattle.iloc_timed.specs.Timed.{Issued, arrived, executed_in, issue, issued_before, register_in}
-use Rattle.iloc_timed.proofs.Issues.{holds_one, holds_zero}
-use Rattle.iloc_rules.specs.Renaming.{IsRenamed}
-use Rattle.iloc_rules.specs.Steps.Members.{In}
-use Rattle.iloc_rules.proofs.Basics.Members.{contains_from, in_from}
-use Rattle.iloc_rules.proofs.Basics.Registers.{is_register_same}
-use Rattle.iloc_rules.proofs.Basics.Slots.{cycle_is, from_holds, within}
-use Rattle.iloc_rules.proofs.DelayPairs.WaitedFor.{Waits, kept_in_order, read_then_store, stored_in_time, used_in_time}
 use Rattle.iloc_rules.proofs.Outcome.UsedEffects.{only_stores_write, reads_memory}
-use Rattle.iloc_rules.proofs.Renamed.RenamedBlocks.{renamed_is_renamed}
-use Rattle.iloc_trace.specs.declared.event.Place.{Place}
-use Rattle.iloc_trace.specs.declared.event.Place.TheVariants.{Register, Word}
 use Rattle.iloc_trace.specs.Places.{address_read, goes_to, is_place, once, places_read, target_of}
 use Rattle.iloc_trace.specs.Events.{due_at, events_at, in_slot, issue_of, issues, landed, next_due, read_of, writes}
 use Rattle.iloc_trace.specs.Laws.{IsOnTime, LawfulSchedulesReadOnTime, ReadsOnTime}

@@ -1,23 +1,8 @@
 -- A row, and what follows from it.
-use Rattle.std.proofs.Common.{◌≡◌, ℕ, ◌+◌, ◌||◌, Bool, true, false, List, [], ◌∷◌, ◌++◌, map, Option, Some, option_to_list, Result, Ok, Err, OnOk, IfOk, ℤ, arith, refl, sym, ap, ap₂, ◌∙◌, append-nil, append_assoc}
-use Rattle.std.specs.Prelude.{not}
-use Rattle.std.specs.List.{All}
-use Rattle.std.proofs.lemmas.Bool.{or_cases, or_right, or_parts}
-use Rattle.std.proofs.lemmas.List.Concat.{flat_map-append}
-use Rattle.iloc_ops.specs.declared.op.Op.{Op}
-use Rattle.iloc_meaning.specs.Trace.{op_at}
-use Rattle.iloc_meaning.specs.Outcome.{has_fault}
-use Rattle.iloc_meaning.proofs.Effects.{results_go}
-use Rattle.iloc_timed.specs.declared.latencies.Latencies.{Latencies}
-use Rattle.iloc_timed.specs.declared.row.Row.{Row}
-use Rattle.iloc_timed.specs.Rows.{slots}
-use Rattle.iloc_timed.specs.Timed.{Issued, executed_in, issue, issue_all}
-use Rattle.iloc_timed.specs.Steps.Machine.{AllLand}
+use Rattle.iloc_trace.proofs.Common.{◌≡◌, ℕ, ◌+◌, Bool, true, false, not, ◌||◌, List, [], ◌∷◌, ◌++◌, map, ℤ, IfOk, OnOk, Some, Ok, Err, Option, Result, option_to_list, sym, refl, ap, ◌∙◌, ap₂, append_assoc, append-nil, arith, or_cases, or_parts, or_right, flat_map-append, All, Op, results_go, has_fault, op_at, no_fault, short_latency, some_latency, slots, AllLand, Issued, executed_in, issue, issue_all, Latencies, Row, event_line, trace_lines}
 use Rattle.iloc_timed.proofs.Landing.{landed-later}
-use Rattle.iloc_timed.proofs.WholeRuns.{some_latency, short_latency, no_fault}
 use Rattle.iloc_trace.specs.declared.machine.Machine.{Machine}
 use Rattle.iloc_trace.specs.Events.{due_at, events_after, issue_of, issues, landed, writes, in_slot as issued_in}
-use Rattle.iloc_trace.specs.Listing.{event_line, trace_lines}
 use Rattle.iloc_trace.specs.Steps.Arrivals.{CanArrive, arrival_lines, arrivals, due_now}
 use Rattle.iloc_trace.specs.Steps.Rows.{After, Follows, in_slot, place_value, row_faults, row_lines, sent_from, sent_in, slot_faults}
 use Rattle.iloc_trace.proofs.Landing.{landing_lines}

@@ -1,17 +1,7 @@
 -- The events of a schedule from its start to its end.
-use Rattle.std.proofs.Common.{◌≡◌, ◌≤◌, ℕ, zero, suc, ◌+◌, ◌-◌, Bool, true, List, [], ◌++◌, ℤ, arith, refl, sym, ap, ◌∙◌, append-nil, append_assoc, add-one, add-zero}
-use Rattle.std.specs.List.{flat_map, range_with_len}
-use Rattle.std.proofs.lemmas.List.Concat.{flat_map-append}
-use Rattle.iloc_ops.specs.declared.op.Op.{Op}
-use Rattle.iloc_meaning.specs.Outcome.{has_fault}
-use Rattle.iloc_timed.specs.declared.latencies.Latencies.{Latencies}
-use Rattle.iloc_timed.specs.declared.row.Row.{Row}
-use Rattle.iloc_timed.specs.Rows.{row_at, slots}
-use Rattle.iloc_timed.specs.Timed.{executed_in, issue_all, issued_before}
-use Rattle.iloc_timed.proofs.WholeRuns.{fault_later, row_more}
+use Rattle.iloc_trace.proofs.Common.{◌≡◌, ℕ, zero, suc, ◌+◌, ◌-◌, ◌≤◌, Bool, true, List, [], ◌++◌, ℤ, sym, refl, ap, ◌∙◌, append_assoc, append-nil, add-zero, add-one, arith, flat_map-append, flat_map, range_with_len, Op, has_fault, fault_later, row_more, row_at, slots, executed_in, issue_all, issued_before, Latencies, Row, trace_lines}
 use Rattle.iloc_trace.specs.Events.{Event, events_after, events_at}
 use Rattle.iloc_trace.specs.declared.machine.Machine.{Machine}
-use Rattle.iloc_trace.specs.Listing.{trace_lines}
 use Rattle.iloc_trace.specs.Steps.Rows.{After}
 
 -- what happens before cycle n

@@ -1,17 +1,7 @@
 -- Rows in terms, and the run of a schedule from its start to its end.
-use Rattle.std.proofs.Common.{◌≡◌, ◌<◌, ◌≤◌, ℕ, ◌+◌, List, length, get_or, Option, Some, option_to_list, IfSome, ℤ, arith, sym, subst, inl, inr}
-use Rattle.std.proofs.lemmas.List.{get_or_default}
-use Rattle.iloc_ops.specs.declared.op.Op.{Op}
-use Rattle.iloc_timed.specs.declared.latencies.Latencies.{Latencies}
-use Rattle.iloc_timed.specs.declared.row.Row.{Row}
-use Rattle.iloc_timed.specs.Latency.{latency, IsLatency}
-use Rattle.iloc_timed.specs.Rows.{row_at, slots}
-use Rattle.iloc_timed.specs.Timed.{Issued, issue_all, issued_before}
-use Rattle.iloc_timed.specs.Steps.Machine.{AllLand, then_issued}
+use Rattle.iloc_terms.proofs.Common.{◌≡◌, ℕ, ◌+◌, ◌<◌, ◌≤◌, List, length, get_or, ℤ, IfSome, Some, Option, option_to_list, sym, subst, inl, inr, arith, get_or_default, Op, no_fault, row_more, slot_issued, IsLatency, latency, row_at, slots, AllLand, then_issued, Issued, issue_all, issued_before, Latencies, Row, Meaning}
 use Rattle.iloc_timed.proofs.Landing.{landed_all}
-use Rattle.iloc_timed.proofs.WholeRuns.{slot_issued, row_more, no_fault}
 use Rattle.iloc_terms.specs.declared.symbols.Symbols.{Symbols}
-use Rattle.iloc_terms.specs.Steps.Terms.{Meaning}
 use Rattle.iloc_terms.specs.Steps.Tracking.{Tracks, Keeps, Stands, Ends}
 
 -- the operation of a slot

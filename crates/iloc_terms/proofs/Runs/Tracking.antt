@@ -1,24 +1,7 @@
 -- A schedule in mid-run, with terms, one step on.
-use Rattle.std.proofs.Common.{◌≡◌, ◌<◌, ◌≤◌, ℕ, ◌+◌, ◌%◌, ◌||◌, Bool, true, false, List, [], ◌∷◌, ◌++◌, length, map, set, Option, Some, None, ℤ, pos, negsuc, arith, refl, sym, ap, ◌∙◌, inl, inr}
-use Rattle.std.specs.Prelude.{fold, option_map, not}
-use Rattle.std.proofs.lemmas.List.{get_or-map, map-set, length-map, map-append}
-use Rattle.std.proofs.lemmas.List.Folds.{list_any-append}
-use Rattle.std.proofs.lemmas.Bool.{or_right}
-use Rattle.iloc_ops.specs.declared.op.Reg.{Reg}
-use Rattle.iloc_ops.specs.declared.op.Op.{Op}
-use Rattle.iloc_ops.specs.Registers.{defined}
-use Rattle.iloc_meaning.specs.declared.effect.Effect.{Effect}
+use Rattle.iloc_terms.proofs.Common.{◌≡◌, ℕ, ◌+◌, ◌%◌, ◌<◌, ◌≤◌, Bool, true, false, not, ◌||◌, List, [], ◌∷◌, ◌++◌, map, length, set, ℤ, pos, negsuc, Some, None, fold, Option, option_map, sym, refl, ap, ◌∙◌, inl, inr, arith, or_right, get_or-map, length-map, map-append, map-set, list_any-append, defined, Op, Reg, by_bool, effect_same, results_go, good_address, is_good, at_address, effect, emitted, emitted_by, is_fault, Effect, landed, then_issued, landed_in_register, landed_in_word, sent_by, AreUnderWay, due_at, Issued, executed_in, register_in, word_in, Meaning}
 use Rattle.iloc_meaning.specs.declared.effect.Effect.TheVariants as E
-use Rattle.iloc_meaning.specs.Address.{is_good, good_address}
-use Rattle.iloc_meaning.specs.Effect.{effect, at_address}
-use Rattle.iloc_meaning.specs.Outcome.{is_fault, emitted, emitted_by}
-use Rattle.iloc_meaning.proofs.Cases.{by_bool}
-use Rattle.iloc_meaning.proofs.Effects.{effect_same, results_go}
-use Rattle.iloc_timed.specs.Timed.{Issued, register_in, word_in, executed_in}
-use Rattle.iloc_timed.specs.Steps.Pending.{sent_by, landed_in_register, landed_in_word}
 use Rattle.iloc_timed.specs.Wheel.{list_at}
-use Rattle.iloc_timed.specs.Steps.Wheel.{due_at, AreUnderWay}
-use Rattle.iloc_timed.specs.Steps.Machine.{landed, then_issued}
 use Rattle.iloc_timed.proofs.Turning.{cleared, pushed, not_pushed}
 use Rattle.iloc_timed.proofs.Landing.{register_more, word_more, landed-later}
 use Rattle.iloc_timed.proofs.Following.{all_land_later}
@@ -27,7 +10,6 @@ use Rattle.iloc_terms.specs.declared.symbols.sent.Sent.{Sent}
 use Rattle.iloc_terms.specs.declared.symbols.sent.Sent.TheVariants as S
 use Rattle.iloc_terms.specs.declared.symbols.action.Action.{Action}
 use Rattle.iloc_terms.specs.declared.symbols.Symbols.{Symbols}
-use Rattle.iloc_terms.specs.Steps.Terms.{Meaning}
 use Rattle.iloc_terms.specs.Steps.Symbols.{number_in, address_of, meant, effect_of, some_bad, HasLanded}
 use Rattle.iloc_terms.specs.Steps.Tracking.{Keeps, address_in, emitted_in, sent_in, with_sent, Records}
 

@@ -1,9 +1,5 @@
 -- Sums modulo 2^32.
-use Rattle.std.proofs.Common.{◌≡◌, ℤ, ◌+ℤ◌, ◌-ℤ◌, FitsSigned, w32, sym, ap, ◌∙◌, arith}
-use Rattle.std.specs.Int.{cast_signed, cast_unsigned}
-use Rattle.std.proofs.lemmas.Int.{int_wrap_fits, int_wrap-add_left, int_wrap-add_right, to_z-of_z, SFits-int_wrap, ints}
-use Rattle.iloc_meaning.specs.Arithmetic.{wrapped}
-use Rattle.iloc_terms.specs.Steps.Terms.{key_of}
+use Rattle.iloc_terms.proofs.Common.{◌≡◌, ℤ, ◌+ℤ◌, ◌-ℤ◌, FitsSigned, sym, ap, ◌∙◌, arith, w32, SFits-int_wrap, int_wrap-add_left, int_wrap-add_right, int_wrap_fits, ints, to_z-of_z, cast_signed, cast_unsigned, wrapped, key_of}
 
 -- what is above a base by c has the key c
 pub key_of_sum : (base c a : ℤ) → FitsSigned w32 c → a ≡ wrapped (base +ℤ c) → key_of base a ≡ cast_unsigned w32 c

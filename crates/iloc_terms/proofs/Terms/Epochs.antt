@@ -1,15 +1,7 @@
 -- Words read from an epoch, and where addresses are.
-use Rattle.std.proofs.Common.{◌≡◌, ℕ, ◌==◌, true, false, Option, Some, None, List, ℤ, unwrap_or, FitsSigned, w32, refl, sym, ◌∙◌, eq-eqb, ne_eqb, arith}
-use Rattle.std.specs.Int.{cast_unsigned}
-use Rattle.std.specs.Prelude.{not, nat_eq}
+use Rattle.iloc_terms.proofs.Common.{◌≡◌, ℕ, true, false, not, List, ℤ, nat_eq, ◌==◌, FitsSigned, Some, None, Option, unwrap_or, sym, refl, ◌∙◌, arith, w32, eq-eqb, ne_eqb, eqb-true, Decides-int_eq, cast_unsigned, int_eq, by_bool, ArePartsOf, IsLocationOf, IsMeaning, IsNode, Meaning, base_word, key_of, Node}
 use Rattle.std.specs.Option.{option_eq}
-use Rattle.std.specs.Ordering.{int_eq}
-use Rattle.std.proofs.lemmas.Bool.{eqb-true}
-use Rattle.std.proofs.lemmas.Bool.Decides.{Decides-int_eq}
-use Rattle.iloc_meaning.proofs.Cases.{by_bool}
-use Rattle.iloc_terms.specs.declared.table.node.Node.{Node}
 use Rattle.iloc_terms.specs.declared.table.node.Node.TheVariants.{Epoch}
-use Rattle.iloc_terms.specs.Steps.Terms.{Meaning, IsMeaning, IsNode, base_word, key_of, ArePartsOf, IsLocationOf}
 use Rattle.iloc_terms.proofs.Terms.Arithmetic.{key_of_sum, key_of_other}
 use Rattle.iloc_terms.proofs.Terms.Nodes.{node_means}
 

@@ -1,21 +1,11 @@
 -- Terms that name earlier ones alone have a meaning on every memory.
-use Rattle.std.proofs.Common.{◌≡◌, ◌<◌, ◌≤◌, ℕ, zero, suc, ◌+◌, ◌*◌, ◌^◌, ◌%◌, ◌/◌, ◌==◌, ◌&&◌, nat_lt, true, false, if◌then◌else◌, List, length, Option, Some, None, IfSome, unwrap_or, ℤ, pos, negsuc, ◌+ℤ◌, ◌*ℤ◌, All, FitsSigned, w32, arith, rules, refl, ◌∙◌, inl, inr, eq-eqb, ne_eqb}
-use Rattle.std.specs.Int.{int_shl, int_shr, cast_unsigned}
+use Rattle.iloc_terms.proofs.Common.{◌≡◌, ℕ, zero, suc, ◌+◌, ◌*◌, ◌/◌, ◌%◌, ◌^◌, ◌<◌, ◌≤◌, true, false, ◌&&◌, List, length, ℤ, pos, negsuc, ◌+ℤ◌, ◌*ℤ◌, IfSome, if◌then◌else◌, nat_lt, ◌==◌, FitsSigned, Some, None, All, Option, unwrap_or, refl, ◌∙◌, inl, inr, arith, w32, rules, eq-eqb, ne_eqb, and_parts, cases_eq, cases_lt, lt-ltb, nat_tests, SFits-int_wrap, get_or_past, cast_unsigned, int_shl, int_shr, by_bool, shift_of, wrapped, word_at, IsMeaning, Meaning, Means, base_word, computed, key_of, node_at, word_or_zero, Node}
 use Rattle.std.proofs.Math.Facts.{sfits_to_z}
 use Rattle.std.specs.Int.Signed.{mag_shr}
-use Rattle.std.proofs.lemmas.List.{get_or_past}
-use Rattle.std.proofs.lemmas.Bool.{and_parts, cases_lt, cases_eq, lt-ltb}
-use Rattle.std.proofs.lemmas.Bool.Decides.{nat_tests}
-use Rattle.std.proofs.lemmas.Int.{SFits-int_wrap}
-use Rattle.iloc_meaning.specs.Arithmetic.{wrapped, shift_of}
-use Rattle.iloc_meaning.specs.Memory.{word_at}
-use Rattle.iloc_meaning.proofs.Cases.{by_bool}
 use Rattle.iloc_terms.specs.declared.table.node.Binary.{Binary}
 use Rattle.iloc_terms.specs.declared.table.node.Binary.TheVariants.{Product, ShiftLeft, ShiftRight}
-use Rattle.iloc_terms.specs.declared.table.node.Node.{Node}
 use Rattle.iloc_terms.specs.declared.table.node.Node.TheVariants.{Known, Offset, Sum, Combined, Word, Start, Epoch, Leaf, Fork}
 use Rattle.iloc_terms.specs.Agreement.{IsMemory}
-use Rattle.iloc_terms.specs.Steps.Terms.{Meaning, IsMeaning, Means, node_at, base_word, key_of, computed, word_or_zero}
 use Rattle.iloc_terms.specs.Steps.Order.{names_below, base_below, IsOrdered}
 
 -- what one term means, as it goes by those before it

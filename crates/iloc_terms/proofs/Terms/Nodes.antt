@@ -1,9 +1,6 @@
 -- What the terms of a table mean.
-use Rattle.std.proofs.Common.{◌≡◌, ℕ, ◌==◌, true, List, ℤ, subst, arith}
-use Rattle.std.proofs.lemmas.Bool.{eqb-true}
-use Rattle.iloc_terms.specs.declared.table.node.Node.{Node}
+use Rattle.iloc_terms.proofs.Common.{◌≡◌, ℕ, true, List, ℤ, ◌==◌, subst, arith, eqb-true, HasNoOther, IsMeaning, IsNode, Meaning, Means, Node}
 use Rattle.iloc_terms.specs.declared.table.node.Node.TheVariants.{Empty, Leaf}
-use Rattle.iloc_terms.specs.Steps.Terms.{Meaning, IsMeaning, IsNode, Means, HasNoOther}
 
 -- a term of the table means what it says
 pub node_means : (memory : List ℤ) (nodes : List Node) (d : Meaning) (k : ℕ) (node : Node) → IsMeaning memory nodes d

@@ -1,8 +1,6 @@
 -- Products of integers, and of words.
-use Rattle.std.proofs.Common.{◌≡◌, ℤ, pos, negsuc, ◌+ℤ◌, ◌-ℤ◌, ◌*ℤ◌, w32, arith, sym, ap, ◌∙◌}
+use Rattle.iloc_terms.proofs.Common.{◌≡◌, ℤ, pos, negsuc, ◌+ℤ◌, ◌-ℤ◌, ◌*ℤ◌, sym, ap, ◌∙◌, arith, w32, int_wrap-add_left, int_wrap-add_right, int_wrap-mul_left, ints, wrapped}
 use Rattle.std.proofs.Math.IntN.{neg_ℤ, suc_ℤ, pred_ℤ, ℤ_ind, +ℤ_one, -ℤ_one, suc_ℤ-+ℤ, pred_ℤ-+ℤ, suc_ℤ-*ℤ, pred_ℤ-*ℤ, zero-*ℤ, *ℤ_comm, *ℤ-negsuc}
-use Rattle.std.proofs.lemmas.Int.{ints, int_wrap-add_left, int_wrap-add_right, int_wrap-mul_left}
-use Rattle.iloc_meaning.specs.Arithmetic.{wrapped}
 
 -- an integer is reached from 0 by steps up and down
 by_steps : (P : ℤ → Type 0) → P (pos 0) → ((x : ℤ) → P x → P (suc_ℤ x)) → ((x : ℤ) → P x → P (pred_ℤ x))

@@ -1,13 +1,9 @@
 -- Shifts.
-use Rattle.std.proofs.Common.{◌≡◌, ℕ, ◌+◌, ◌-◌, ◌*◌, ◌^◌, ◌/◌, ◌%◌, ◌≤◌, ℤ, pos, negsuc, ◌*ℤ◌, FitsSigned, w32, arith, rules, refl, sym, ap, ◌∙◌, inl, inr}
-use Rattle.std.specs.Prelude.{min}
-use Rattle.std.specs.Int.{int_shl, int_shr, int_wrap, cast_signed, cast_unsigned}
+use Rattle.iloc_terms.proofs.Common.{◌≡◌, ℕ, ◌+◌, ◌-◌, ◌*◌, ◌/◌, ◌%◌, ◌^◌, ◌≤◌, min, ℤ, pos, negsuc, ◌*ℤ◌, FitsSigned, sym, refl, ap, ◌∙◌, inl, inr, arith, w32, rules, cases_lt, int_wrap-mul_left, int_wrap-mul_right, ints, of_z-to_z, to_z-of_z, cast_signed, cast_unsigned, int_shl, int_shr, shift_of, shifted_left, wrapped}
+use Rattle.std.specs.Int.{int_wrap}
 use Rattle.std.proofs.Math.IntN.{*ℤ_comm}
 use Rattle.std.proofs.Math.Nat.{div-div-eq-div-mul, div-eq_of_lt, zero-div, div-one, mod-eq_of_lt}
-use Rattle.std.proofs.lemmas.Bool.{cases_lt}
 use Rattle.std.proofs.lemmas.Nat.{pow-add}
-use Rattle.std.proofs.lemmas.Int.{ints, int_wrap-mul_left, int_wrap-mul_right, to_z-of_z, of_z-to_z}
-use Rattle.iloc_meaning.specs.Arithmetic.{wrapped, shift_of, shifted_left}
 use Rattle.iloc_terms.proofs.Terms.Products.{times_one}
 
 -- one to the right after the other

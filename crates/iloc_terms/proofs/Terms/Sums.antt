@@ -1,8 +1,6 @@
 -- Sums of terms.
-use Rattle.std.proofs.Common.{◌≡◌, ℤ, pos, ◌+ℤ◌, ◌*ℤ◌, FitsSigned, w32, arith, sym, ap, ◌∙◌}
+use Rattle.iloc_terms.proofs.Common.{◌≡◌, ℤ, pos, ◌+ℤ◌, ◌*ℤ◌, FitsSigned, sym, ap, ◌∙◌, arith, w32, int_wrap-add_left, int_wrap-add_right, int_wrap-mul_left, int_wrap-mul_right, int_wrap_fits, ints, wrapped}
 use Rattle.std.proofs.Math.IntN.{*ℤ_comm, zero-*ℤ}
-use Rattle.std.proofs.lemmas.Int.{ints, int_wrap_fits, int_wrap-add_left, int_wrap-add_right, int_wrap-mul_left, int_wrap-mul_right}
-use Rattle.iloc_meaning.specs.Arithmetic.{wrapped}
 use Rattle.iloc_terms.proofs.Terms.Products.{add-mul, mul-add, mul-assoc, times_one}
 
 -- an atom is a term by itself

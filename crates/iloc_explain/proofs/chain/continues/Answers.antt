@@ -1,5 +1,4 @@
-use Rattle.std.proofs.Common.{◌<◌, length, arith, ap}
-use Rattle.iloc_rules.proofs.PriorityValues.Longest.{length-priorities}
+use Rattle.iloc_explain.proofs.Common.{◌<◌, length, ap, arith, length-priorities}
 use Rattle.iloc_explain.proofs.chain.continues.Goals as goal
 
 pub bounds-priorities-i : goal.bounds-priorities-i

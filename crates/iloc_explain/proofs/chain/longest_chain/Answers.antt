@@ -1,6 +1,4 @@
-use Rattle.std.proofs.Common.{◌≡◌, length, ap, ◌∙◌}
-use Rattle.std.proofs.lemmas.Bool.{iff_false}
-use Rattle.iloc_rules.proofs.PriorityValues.Longest.{length-priorities}
+use Rattle.iloc_explain.proofs.Common.{◌≡◌, length, ap, ◌∙◌, iff_false, length-priorities}
 use Rattle.iloc_explain.specs.Chain.{IsLongestChain}
 use Rattle.iloc_explain.proofs.Links.{chain_start, chain_more, chain_kept, chain_ends, first_of_greatest, longest_spans}
 use Rattle.iloc_explain.proofs.chain.longest_chain.Goals as goal

@@ -1,7 +1,5 @@
-use Rattle.std.proofs.Common.{◌<◌, ◌==◌, ◌∙◌, length, ap, sym}
-use Rattle.iloc_timed.proofs.Arrivals.{zero_known, one_known}
+use Rattle.iloc_explain.proofs.Common.{◌<◌, length, ◌==◌, sym, ap, ◌∙◌, one_known, zero_known, IsKnown}
 use Rattle.iloc_explain.specs.CycleLines.{line_from}
-use Rattle.iloc_explain.specs.Steps.Queue.{IsKnown}
 use Rattle.iloc_explain.proofs.NextReady.{issued_rows}
 use Rattle.iloc_explain.proofs.ReadyLines.{idle_is, idle_next, lines_next}
 use Rattle.iloc_explain.proofs.cycle_lines.push_cycles_of.Goals as goal

@@ -1,8 +1,6 @@
-use Rattle.std.proofs.Common.{◌≡◌, ◌++◌, ℕ, List}
-use Rattle.std.specs.List.{flat_map, range_with_len}
+use Rattle.iloc_explain.proofs.Common.{◌≡◌, ℕ, List, ◌++◌, flat_map, range_with_len, IsKept}
 use Rattle.iloc_explain.specs.CycleLines.{is_idle_before, line_from}
 use Rattle.iloc_explain.specs.Explained.{AreExplained}
-use Rattle.iloc_explain.specs.Steps.Queue.{IsKept}
 use Rattle.iloc_explain.proofs.cycle_lines.push_cycles_of.Given as goal
 
 abbrev pub invariant-loop-cycle : goal.invariant-loop-cycle

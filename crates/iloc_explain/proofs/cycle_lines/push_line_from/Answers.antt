@@ -1,5 +1,4 @@
-use Rattle.std.proofs.Common.{◌++◌, ◌∙◌, ap, sym}
-use Rattle.std.proofs.lemmas.Result.{on_ok_weaker}
+use Rattle.iloc_explain.proofs.Common.{◌++◌, sym, ap, ◌∙◌, on_ok_weaker}
 use Rattle.iloc_explain.proofs.ReadyLines.{not_told, some_line}
 use Rattle.iloc_explain.proofs.cycle_lines.push_line_from.Goals as goal
 

@@ -1,6 +1,4 @@
-use Rattle.std.proofs.Common.{◌≡◌, ◌++◌, take}
-use Rattle.std.specs.Prelude.{codes}
-use Rattle.std.specs.List.{flat_map}
+use Rattle.iloc_explain.proofs.Common.{◌≡◌, ◌++◌, take, codes, flat_map}
 use Rattle.iloc_explain.specs.CycleLines.{pair_text}
 use Rattle.iloc_explain.proofs.cycle_lines.push_more_pairs.Given as goal
 

@@ -1,7 +1,4 @@
-use Rattle.std.proofs.Common.{◌∙◌, ◌++◌, length, ap, append_assoc}
-use Rattle.std.proofs.lemmas.Result.{on_ok_weaker}
-use Rattle.iloc_timed.specs.Cycles.{cycles}
-use Rattle.iloc_rules.specs.Least.{least, least_of}
+use Rattle.iloc_explain.proofs.Common.{◌++◌, length, ap, ◌∙◌, append_assoc, on_ok_weaker, cycles, least, least_of}
 use Rattle.iloc_explain.specs.CycleLines.{cycle_lines}
 use Rattle.iloc_explain.specs.Explained.{AreExplained}
 use Rattle.iloc_explain.specs.Listing.{cycles_line}

@@ -1,6 +1,4 @@
-use Rattle.std.proofs.Common.{◌<◌, length, sym, subst}
-use Rattle.std.specs.Prelude.{IfSome, not}
-use Rattle.iloc_timed.specs.Rows.{holds}
+use Rattle.iloc_explain.proofs.Common.{◌<◌, not, length, IfSome, sym, subst, holds}
 use Rattle.iloc_explain.proofs.ReadyLines.{found_known}
 use Rattle.iloc_explain.proofs.cycle_lines.push_taken_from.Goals as goal
 

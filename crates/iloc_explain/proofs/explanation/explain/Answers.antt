@@ -1,24 +1,9 @@
-use Rattle.std.proofs.Common.{◌<◌, ◌≤◌, length, ap, arith, ◌∙◌, ◌≡◌, ℕ, zero, suc, ◌+◌, List, [], ◌∷◌, ◌++◌, length-append, get_or, Some, refl}
-use Rattle.std.specs.Prelude.{slice_index, slice_get}
-use Rattle.iloc_rules.specs.declared.delay_pairs.TheConstants.{LONGEST_DELAY}
-use Rattle.iloc_rules.proofs.PriorityValues.Longest.{length-priorities}
+use Rattle.iloc_explain.proofs.Common.{◌≡◌, ℕ, zero, suc, ◌+◌, ◌<◌, ◌≤◌, List, [], ◌∷◌, ◌++◌, length, get_or, slice_get, slice_index, Some, refl, ap, ◌∙◌, arith, length-append, get_or_default, Op, Nop, op_at, issued_within, latency, IsTable, issue_cycle, row_at, Latencies, Row, length-priorities, start, LONGEST_DELAY, waited_until, Explained}
 use Rattle.iloc_rules.proofs.PriorityValues.Starts.{length-starts}
-use Rattle.iloc_timed.specs.Rows.{row_at, issue_cycle, IsTable}
 use Rattle.iloc_explain.proofs.LatestOnes.{none_latest, one_more_latest}
-use Rattle.std.proofs.lemmas.List.{get_or_default}
-use Rattle.iloc_ops.specs.declared.op.Op.{Op}
-use Rattle.iloc_ops.specs.declared.op.Op.TheVariants.{Nop}
-use Rattle.iloc_timed.specs.declared.latencies.Latencies.{Latencies}
-use Rattle.iloc_timed.specs.declared.row.Row.{Row}
-use Rattle.iloc_timed.specs.Latency.{latency}
-use Rattle.iloc_timed.proofs.Arrivals.{issued_within}
-use Rattle.iloc_meaning.specs.Trace.{op_at}
-use Rattle.iloc_rules.specs.Starts.{start}
-use Rattle.iloc_explain.specs.declared.explanation.Explained.{Explained}
 use Rattle.iloc_explain.specs.declared.latest.Latest.{Latest}
 use Rattle.iloc_explain.specs.Explained.{IsExplained, slack_in, unit_of}
 use Rattle.iloc_explain.specs.Holding.{holder}
-use Rattle.iloc_explain.specs.Waiting.{waited_until}
 use Rattle.iloc_explain.specs.Steps.Latest.{AreLatest, Notes, ready_after}
 use Rattle.iloc_explain.specs.Steps.SoFar.{IsExplainedSoFar}
 use Rattle.iloc_explain.proofs.ReadyCycles.{is_ready}

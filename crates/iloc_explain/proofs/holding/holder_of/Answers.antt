@@ -1,5 +1,4 @@
-use Rattle.std.proofs.Common.{◌-◌}
-use Rattle.iloc_timed.proofs.Arrivals.{zero_known, one_known}
+use Rattle.iloc_explain.proofs.Common.{◌-◌, one_known, zero_known}
 use Rattle.iloc_explain.proofs.holding.holder_of.Goals as goal
 
 pub keeper-requires-clause-zero : goal.keeper-requires-clause-zero

@@ -1,6 +1,4 @@
-use Rattle.std.proofs.Common.{◌≡◌, length, arith, ap, ◌∙◌, ◌<◌, ◌≤◌}
-use Rattle.iloc_timed.specs.Rows.{row_at}
-use Rattle.iloc_timed.proofs.Arrivals.{zero_known, one_known, issued_within}
+use Rattle.iloc_explain.proofs.Common.{◌≡◌, ◌<◌, ◌≤◌, length, ap, ◌∙◌, arith, issued_within, one_known, zero_known, row_at}
 use Rattle.iloc_explain.specs.Steps.Issued.{with_slot}
 use Rattle.iloc_explain.proofs.IssueCycles.{length-with_slot, row_issued, slot_known}
 use Rattle.iloc_explain.proofs.issued.issue_cycles.Goals as goal

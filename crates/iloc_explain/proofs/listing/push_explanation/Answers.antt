@@ -1,9 +1,4 @@
-use Rattle.std.proofs.Common.{◌∙◌, ◌++◌, length, ap, refl, sym}
-use Rattle.std.proofs.lemmas.Result.{on_ok_weaker}
-use Rattle.iloc_timed.specs.Cycles.{cycles}
-use Rattle.iloc_rules.specs.Least.{least, least_of}
-use Rattle.iloc_rules.specs.Renaming.{without_nops}
-use Rattle.iloc_rules.proofs.Renamed.MentionedSources.{length-renamed_by}
+use Rattle.iloc_explain.proofs.Common.{◌++◌, length, sym, refl, ap, ◌∙◌, on_ok_weaker, cycles, length-renamed_by, least, least_of, without_nops}
 use Rattle.iloc_explain.specs.Listing.{explained_lines, cycles_line, chain_line, path_line}
 use Rattle.iloc_explain.proofs.Lines.{parts_pushed}
 use Rattle.iloc_explain.proofs.listing.push_explanation.Goals as goal

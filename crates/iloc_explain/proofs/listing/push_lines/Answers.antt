@@ -1,5 +1,4 @@
-use Rattle.std.proofs.Common.{◌≡◌, ◌<◌, ◌+◌, length, drop, ap, arith}
-use Rattle.iloc_rules.specs.Renaming.{without_nops}
+use Rattle.iloc_explain.proofs.Common.{◌≡◌, ◌+◌, ◌<◌, length, drop, ap, arith, without_nops}
 use Rattle.iloc_explain.proofs.Lines.{line_more, nop_passed, op_taken}
 use Rattle.iloc_explain.proofs.listing.push_lines.Goals as goal
 use Rattle.iloc_explain.proofs.listing.push_lines.Goals.{in-Nop, in_default+in_ok-push_explained-in_default}

@@ -1,5 +1,4 @@
-use Rattle.std.proofs.Common.{◌≡◌, ◌+◌, ◌++◌, drop, length}
-use Rattle.iloc_rules.specs.Renaming.{without_nops}
+use Rattle.iloc_explain.proofs.Common.{◌≡◌, ◌+◌, ◌++◌, length, drop, without_nops}
 use Rattle.iloc_explain.specs.Listing.{explained_lines}
 use Rattle.iloc_explain.proofs.listing.push_lines.Given as goal
 

@@ -1,5 +1,4 @@
-use Rattle.std.proofs.Common.{◌≡◌, ◌++◌, take}
-use Rattle.std.specs.List.{flat_map}
+use Rattle.iloc_explain.proofs.Common.{◌≡◌, ◌++◌, take, flat_map}
 use Rattle.std.specs.Fmt.{decimal}
 use Rattle.iloc_explain.proofs.listing.push_marked.Given as goal
 

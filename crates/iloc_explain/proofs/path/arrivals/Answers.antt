@@ -1,9 +1,4 @@
-use Rattle.std.proofs.Common.{◌<◌, ◌≤◌, ◌+◌, length, arith}
-use Rattle.iloc_meaning.specs.Trace.{op_at}
-use Rattle.iloc_rules.specs.declared.delay_pairs.TheConstants.{LONGEST_DELAY}
-use Rattle.iloc_timed.specs.Latency.{latency}
-use Rattle.iloc_timed.specs.Rows.{issue_cycle}
-use Rattle.iloc_timed.proofs.Arrivals.{issued_within}
+use Rattle.iloc_explain.proofs.Common.{◌+◌, ◌<◌, ◌≤◌, length, arith, op_at, issued_within, latency, issue_cycle, LONGEST_DELAY}
 use Rattle.iloc_explain.proofs.PathWalks.{arrival_more, arrival_read}
 use Rattle.iloc_explain.proofs.Bindings.{explained_there}
 use Rattle.iloc_explain.proofs.path.arrivals.Goals as goal

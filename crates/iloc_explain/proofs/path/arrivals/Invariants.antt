@@ -1,8 +1,4 @@
-use Rattle.std.specs.Prelude.{◌≡◌, ◌+◌, map}
-use Rattle.std.specs.List.{range_with_len}
-use Rattle.iloc_meaning.specs.Trace.{op_at}
-use Rattle.iloc_timed.specs.Latency.{latency}
-use Rattle.iloc_timed.specs.Rows.{issue_cycle}
+use Rattle.iloc_explain.proofs.Common.{◌≡◌, ◌+◌, map, range_with_len, op_at, latency, issue_cycle}
 use Rattle.iloc_explain.proofs.path.arrivals.Given as goal
 
 abbrev pub invariant-loop-i : goal.invariant-loop-i

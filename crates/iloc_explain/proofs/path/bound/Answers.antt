@@ -1,8 +1,4 @@
-use Rattle.std.proofs.Common.{◌≡◌, ◌-◌, ◌<◌, length, sym, inl, inr, arith, subst}
-use Rattle.std.specs.Prelude.{MatchOption}
-use Rattle.iloc_timed.specs.Rows.{issue_cycle}
-use Rattle.iloc_timed.proofs.Arrivals.{issued_within, zero_known, one_known}
-use Rattle.iloc_explain.specs.Path.{Begins, Binds}
+use Rattle.iloc_explain.proofs.Common.{◌≡◌, ◌-◌, ◌<◌, length, MatchOption, sym, subst, inl, inr, arith, issued_within, one_known, zero_known, issue_cycle, Begins, Binds}
 use Rattle.iloc_explain.proofs.Bindings.{delay_binds, explained_read, first_known, none_first}
 use Rattle.iloc_explain.proofs.path.bound.Goals as goal
 

@@ -1,5 +1,4 @@
-use Rattle.std.proofs.Common.{◌<◌, ◌≤◌, ◌-◌, length, ap, ◌∙◌, arith}
-use Rattle.iloc_explain.specs.Path.{Begins, Binds, IsLastToArrive, span}
+use Rattle.iloc_explain.proofs.Common.{◌-◌, ◌<◌, ◌≤◌, length, ap, ◌∙◌, arith, Begins, Binds, IsLastToArrive, span}
 use Rattle.iloc_explain.proofs.Bindings.{explained_there}
 use Rattle.iloc_explain.proofs.PathWalks.{last_latency, last_to_arrive, walk_ends, walk_more, walk_start}
 use Rattle.iloc_explain.proofs.Stretches.{binds_long}

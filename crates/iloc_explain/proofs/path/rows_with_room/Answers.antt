@@ -1,7 +1,4 @@
-use Rattle.std.proofs.Common.{◌≡◌, ◌-◌, ◌<◌, None, sym, ◌∙◌, inl, inr, arith, subst}
-use Rattle.std.proofs.lemmas.Bool.{cases_eq}
-use Rattle.iloc_timed.specs.Rows.{row_at}
-use Rattle.iloc_timed.proofs.Arrivals.{zero_known, one_known}
+use Rattle.iloc_explain.proofs.Common.{◌≡◌, ◌-◌, ◌<◌, None, sym, ◌∙◌, subst, inl, inr, arith, cases_eq, one_known, zero_known, row_at}
 use Rattle.iloc_explain.specs.Holding.{keeper}
 use Rattle.iloc_explain.proofs.Stretches.{is_none_from}
 use Rattle.iloc_explain.proofs.path.rows_with_room.Goals as goal

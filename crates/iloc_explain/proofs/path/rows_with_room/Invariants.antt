@@ -1,5 +1,4 @@
-use Rattle.std.specs.Prelude.{◌≡◌, ◌<◌, ◌≤◌, ℕ, None}
-use Rattle.iloc_timed.specs.Rows.{row_at}
+use Rattle.iloc_explain.proofs.Common.{◌≡◌, ℕ, ◌<◌, ◌≤◌, None, row_at}
 use Rattle.iloc_explain.specs.Holding.{keeper}
 use Rattle.iloc_explain.proofs.path.rows_with_room.Given as goal
 

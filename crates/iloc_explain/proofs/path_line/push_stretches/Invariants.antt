@@ -1,5 +1,4 @@
-use Rattle.std.proofs.Common.{◌≡◌, ◌++◌, take}
-use Rattle.std.specs.List.{flat_map}
+use Rattle.iloc_explain.proofs.Common.{◌≡◌, ◌++◌, take, flat_map}
 use Rattle.iloc_explain.specs.Listing.{stretch_text}
 use Rattle.iloc_explain.proofs.path_line.push_stretches.Given as goal
 

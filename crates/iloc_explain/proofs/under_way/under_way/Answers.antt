@@ -1,5 +1,4 @@
-use Rattle.std.proofs.Common.{◌∙◌, arith}
-use Rattle.iloc_timed.proofs.Arrivals.{zero_known, one_known}
+use Rattle.iloc_explain.proofs.Common.{◌∙◌, arith, one_known, zero_known}
 use Rattle.iloc_explain.proofs.UnderWay.{none_late, one_issued, row_late, zero_issued}
 use Rattle.iloc_explain.proofs.under_way.under_way.Goals as goal
 

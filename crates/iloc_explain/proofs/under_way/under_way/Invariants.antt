@@ -1,8 +1,6 @@
-use Rattle.std.proofs.Common.{◌≡◌, take}
-use Rattle.std.specs.Prelude.{filter, nat_lt}
+use Rattle.iloc_explain.proofs.Common.{◌≡◌, take, nat_lt, filter, issue_order}
 use Rattle.iloc_explain.specs.CycleLines.{paired}
 use Rattle.iloc_explain.specs.ReadyList.{arrival}
-use Rattle.iloc_explain.specs.Waiting.{issue_order}
 use Rattle.iloc_explain.proofs.under_way.under_way.Given as goal
 
 abbrev pub invariant-loop-issued : goal.invariant-loop-issued

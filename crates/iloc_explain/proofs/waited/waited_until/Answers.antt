@@ -1,5 +1,4 @@
-use Rattle.std.proofs.Common.{◌≡◌, length, min, ap, ◌∙◌, arith}
-use Rattle.iloc_timed.proofs.Arrivals.{zero_known, one_known}
+use Rattle.iloc_explain.proofs.Common.{◌≡◌, min, length, ap, ◌∙◌, arith, one_known, zero_known}
 use Rattle.iloc_explain.proofs.Waits.{none_before, row_waited, all_waited}
 use Rattle.iloc_explain.proofs.waited.waited_until.Goals as goal
 

@@ -1,5 +1,4 @@
-use Rattle.std.specs.Prelude.{◌≡◌, filter, take}
-use Rattle.iloc_explain.specs.Waiting.{ends_at, issue_order}
+use Rattle.iloc_explain.proofs.Common.{◌≡◌, take, filter, ends_at, issue_order}
 use Rattle.iloc_explain.proofs.waited.waited_until.Given as goal
 
 abbrev pub invariant-loop-issued : goal.invariant-loop-issued

@@ -1,5 +1,4 @@
-use Rattle.std.proofs.lemmas.List.{get_or_default}
-use Rattle.iloc_ops.specs.declared.op.Op.TheVariants.{Nop}
+use Rattle.iloc_explain.proofs.Common.{get_or_default, Nop}
 use Rattle.iloc_explain.proofs.HasDelay.{waits_is}
 use Rattle.iloc_explain.proofs.waited.waits_for.Goals as goal
 

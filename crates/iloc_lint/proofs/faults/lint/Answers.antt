@@ -1,7 +1,4 @@
-use Rattle.std.proofs.Common.{◌≡◌, ◌∙◌, ◌++◌, ◌+◌, [], ◌∷◌, length, refl, ap, subst, inl, inr, length-append, arith}
-use Rattle.iloc_text.specs.Lines.{lines_of, lines_left}
-use Rattle.iloc_text.proofs.Splitting.{lines_few, lines_are}
-use Rattle.iloc_text.specs.declared.fault.ReadFault.TheVariants.{InputTooLong}
+use Rattle.iloc_lint.proofs.Common.{◌≡◌, ◌+◌, [], ◌∷◌, ◌++◌, length, refl, ap, ◌∙◌, subst, inl, inr, arith, length-append, lines_are, lines_few, lines_left, lines_of, InputTooLong}
 use Rattle.iloc_lint.specs.Steps.Noted.{refusals}
 use Rattle.iloc_lint.proofs.Counted.{ops_few}
 use Rattle.iloc_lint.proofs.Linting.{GoesOn, begins, lines_fit, fit_first, judged_on, at_end}

@@ -1,9 +1,5 @@
-use Rattle.std.proofs.Common.{◌≡◌, ◌≤◌, ◌+◌, List, length}
-use Rattle.std.specs.List.{AllByRecursion}
-use Rattle.iloc_text.specs.Files.{Reading}
-use Rattle.iloc_text.specs.Lines.{lines_of, lines_left}
+use Rattle.iloc_lint.proofs.Common.{◌≡◌, ◌+◌, ◌≤◌, List, length, AllByRecursion, Reading, lines_left, lines_of, Refusal}
 use Rattle.iloc_lint.specs.Steps.Counted.{Count}
-use Rattle.iloc_lint.specs.Faults.{Refusal}
 use Rattle.iloc_lint.specs.Refused.{AreKept}
 use Rattle.iloc_lint.proofs.Linting.{GoesOn, IsFit}
 use Rattle.iloc_lint.proofs.faults.lint.Given as goal

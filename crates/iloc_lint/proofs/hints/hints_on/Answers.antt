@@ -1,5 +1,4 @@
-use Rattle.std.proofs.Common.{length, ap, arith}
-use Rattle.iloc_text.specs.Lines.{lines_left}
+use Rattle.iloc_lint.proofs.Common.{length, ap, arith, lines_left}
 use Rattle.iloc_lint.proofs.Linting.{lines_fit, fit_first}
 use Rattle.iloc_lint.proofs.hints.hints_on.Goals as goal
 

@@ -1,6 +1,4 @@
-use Rattle.std.proofs.Common.{length}
-use Rattle.std.specs.List.{AllByRecursion}
-use Rattle.iloc_text.specs.Lines.{lines_left}
+use Rattle.iloc_lint.proofs.Common.{length, AllByRecursion, lines_left}
 use Rattle.iloc_lint.proofs.Linting.{IsFit}
 use Rattle.iloc_lint.proofs.hints.hints_on.Given as goal
 

@@ -1,5 +1,4 @@
-use Rattle.std.proofs.Common.{sym, arith, ◌≡◌, ℕ, ◌≤◌, List, length, take}
-use Rattle.std.proofs.lemmas.List.{length-take-le, take_all}
+use Rattle.iloc_lint.proofs.Common.{◌≡◌, ℕ, ◌≤◌, List, length, take, sym, arith, length-take-le, take_all}
 use Rattle.iloc_lint.proofs.listing.front_of.Goals as goal
 
 -- What is shown of a line.

@@ -1,5 +1,4 @@
-use Rattle.std.proofs.Common.{◌≡◌, ◌+◌, ◌≤◌, ℕ, true, drop, length}
-use Rattle.iloc_lint.specs.Steps.Longest.{Longest, Rest, alternate}
+use Rattle.iloc_lint.proofs.Common.{◌≡◌, ℕ, ◌+◌, ◌≤◌, true, length, drop, Longest, Rest, alternate}
 use Rattle.iloc_lint.proofs.place.along.Given as goal
 
 -- whatever the rest of the bytes goes along, all of them go along so far and on

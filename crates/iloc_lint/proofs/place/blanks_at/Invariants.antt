@@ -1,5 +1,4 @@
-use Rattle.std.proofs.Common.{◌≡◌, ◌+◌, ◌≤◌, length}
-use Rattle.iloc_lint.specs.Steps.Longest.{blanks_in}
+use Rattle.iloc_lint.proofs.Common.{◌≡◌, ◌+◌, ◌≤◌, length, blanks_in}
 use Rattle.iloc_lint.proofs.place.blanks_at.Given as goal
 
 abbrev pub invariant-loop-rest : goal.invariant-loop-rest

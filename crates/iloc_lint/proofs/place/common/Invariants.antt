@@ -1,5 +1,4 @@
-use Rattle.std.proofs.Common.{◌≡◌, ◌+◌, ◌≤◌, length}
-use Rattle.iloc_lint.specs.Steps.Longest.{common_in}
+use Rattle.iloc_lint.proofs.Common.{◌≡◌, ◌+◌, ◌≤◌, length, common_in}
 use Rattle.iloc_lint.proofs.place.common.Given as goal
 
 abbrev pub invariant-loop-left : goal.invariant-loop-left

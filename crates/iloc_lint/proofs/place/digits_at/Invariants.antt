@@ -1,5 +1,4 @@
-use Rattle.std.proofs.Common.{◌≡◌, ◌+◌, ◌≤◌, length}
-use Rattle.iloc_lint.specs.Steps.Longest.{digits_in}
+use Rattle.iloc_lint.proofs.Common.{◌≡◌, ◌+◌, ◌≤◌, length, digits_in}
 use Rattle.iloc_lint.proofs.place.digits_at.Given as goal
 
 abbrev pub invariant-loop-rest : goal.invariant-loop-rest

@@ -1,6 +1,4 @@
-use Rattle.std.proofs.Common.{◌∙◌, ◌<◌, length, sym, ap, subst, arith}
-use Rattle.iloc_ops.specs.Forms.{opcode_text}
-use Rattle.iloc_lint.specs.Steps.Longest.{Longest, Called, Rest, parts, common_in}
+use Rattle.iloc_lint.proofs.Common.{◌<◌, length, sym, ap, ◌∙◌, subst, arith, opcode_text, Called, Longest, Rest, common_in, parts}
 use Rattle.iloc_lint.proofs.PartsAlong.{rest_of}
 use Rattle.iloc_lint.proofs.Languages.{called_stop, called_along}
 use Rattle.iloc_lint.proofs.place.operation_at.Goals as goal

@@ -1,5 +1,4 @@
-use Rattle.std.proofs.Common.{arith}
-use Rattle.iloc_ops.specs.Forms.{opcodes}
+use Rattle.iloc_lint.proofs.Common.{arith, opcodes}
 use Rattle.iloc_ops.specs.declared.forms.Opcode.TheVariants.{Load}
 use Rattle.iloc_lint.proofs.Longest.{comment_along}
 use Rattle.iloc_lint.proofs.PartsAlong.{rest_of}

@@ -1,5 +1,4 @@
-use Rattle.std.proofs.Common.{take}
-use Rattle.iloc_lint.specs.Steps.Longest.{Longest, Bodies}
+use Rattle.iloc_lint.proofs.Common.{take, Bodies, Longest}
 use Rattle.iloc_lint.proofs.place.place_of.Given as goal
 
 abbrev pub invariant-loop-opcode : goal.invariant-loop-opcode

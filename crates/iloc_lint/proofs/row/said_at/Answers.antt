@@ -1,5 +1,4 @@
-use Rattle.std.proofs.Common.{refl}
-use Rattle.std.proofs.lemmas.Result.{IfOk-weaker}
+use Rattle.iloc_lint.proofs.Common.{refl, IfOk-weaker}
 use Rattle.iloc_lint.specs.declared.row.Wanted.TheVariants.{LineEnd}
 use Rattle.iloc_lint.proofs.Stopping.{err_weaker, in_cycles, in_head, in_row, in_total}
 use Rattle.iloc_lint.proofs.row.said_at.Goals as goal

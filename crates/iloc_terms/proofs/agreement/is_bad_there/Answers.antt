@@ -1,9 +1,4 @@
-use Rattle.std.proofs.Common.{◌<◌, ℕ, ◌+◌, List, length, get_or, take, sym, ◌∙◌, inl, inr}
-use Rattle.std.specs.Prelude.{not}
-use Rattle.std.proofs.lemmas.Bool.{or_cases}
-use Rattle.std.proofs.lemmas.List.Folds.{list_any_more}
-use Rattle.iloc_meaning.specs.Address.{is_good}
-use Rattle.iloc_terms.specs.declared.table.node.Node.{Node}
+use Rattle.iloc_terms.proofs.Common.{ℕ, ◌+◌, ◌<◌, not, List, length, get_or, take, sym, ◌∙◌, inl, inr, or_cases, list_any_more, is_good, Node}
 use Rattle.iloc_terms.specs.Steps.Agreement.{IsBadWith, BadThere}
 use Rattle.iloc_terms.proofs.agreement.is_bad_there.Goals as goal
 

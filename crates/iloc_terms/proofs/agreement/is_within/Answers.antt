@@ -1,5 +1,4 @@
-use Rattle.std.proofs.Common.{w32, FitsSigned, rules, sym}
-use Rattle.std.proofs.lemmas.Int.{to_z-of_z}
+use Rattle.iloc_terms.proofs.Common.{FitsSigned, sym, w32, rules, to_z-of_z}
 use Rattle.iloc_terms.proofs.Addresses.{good_between_parts}
 use Rattle.iloc_terms.proofs.Terms.Epochs.{same_base}
 use Rattle.iloc_terms.proofs.agreement.is_within.Goals as goal

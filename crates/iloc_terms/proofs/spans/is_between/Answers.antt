@@ -1,6 +1,4 @@
-use Rattle.std.proofs.Common.{w32, FitsSigned, rules}
-use Rattle.std.proofs.lemmas.Bool.{ltb-true}
-use Rattle.std.proofs.lemmas.Int.{to_z-of_z}
+use Rattle.iloc_terms.proofs.Common.{FitsSigned, w32, rules, ltb-true, to_z-of_z}
 use Rattle.iloc_terms.proofs.Addresses.{good_between}
 use Rattle.iloc_terms.proofs.spans.is_between.Goals as goal
 

@@ -1,5 +1,4 @@
-use Rattle.std.proofs.Common.{take}
-use Rattle.iloc_terms.specs.Steps.Terms.{Adds}
+use Rattle.iloc_terms.proofs.Common.{take, Adds}
 use Rattle.iloc_terms.specs.Steps.Symbols.{HasLanded}
 use Rattle.iloc_terms.proofs.symbols.land_all.Given as goal
 

@@ -1,15 +1,6 @@
-use Rattle.std.proofs.Common.{◌≡◌, ◌+◌, ◌<◌, ◌==◌, true, false, length, get_or, take, ◌∷◌, [], ◌++◌, arith, refl, ap, ◌∙◌, eq-eqb, ne_eqb, ℕ, List, IsTrue, ℤ, pos, append-nil, append_assoc}
-use Rattle.iloc_meaning.specs.Memory.{word_at}
-use Rattle.iloc_meaning.specs.Registers.{value_of}
-use Rattle.iloc_trace.specs.declared.event.Place.TheVariants.{Register, Word}
+use Rattle.iloc_trace.proofs.Common.{◌≡◌, ℕ, ◌+◌, ◌<◌, true, false, List, [], ◌∷◌, ◌++◌, length, get_or, take, ℤ, pos, IsTrue, ◌==◌, fold, refl, ap, ◌∙◌, append_assoc, append-nil, arith, eq-eqb, ne_eqb, filter_more, fold_push, Reg, is_good, word_at, value_of, Place, Register, Word}
 use Rattle.iloc_trace.specs.declared.under_way.Arrival.{Arrival}
 use Rattle.iloc_trace.specs.Steps.Arrivals.{due_now, IsGood, arrival_line, arrival_lines, arrived_in}
-use Rattle.std.specs.Prelude.{fold}
-use Rattle.std.proofs.lemmas.List.Elements.{filter_more}
-use Rattle.std.proofs.lemmas.List.Sums.{fold_push}
-use Rattle.iloc_ops.specs.declared.op.Reg.{Reg}
-use Rattle.iloc_meaning.specs.Address.{is_good}
-use Rattle.iloc_trace.specs.declared.event.Place.{Place}
 use Rattle.iloc_trace.specs.Places.{value_at}
 use Rattle.iloc_trace.proofs.machine.land_all.Goals as goal
 use Rattle.iloc_trace.proofs.machine.land_all.Goals.{then-arrival-cycle+in_ok-land_one, else-arrival-cycle}

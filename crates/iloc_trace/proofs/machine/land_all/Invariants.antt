@@ -1,10 +1,4 @@
-use Rattle.std.proofs.Common.{ℕ, ◌≡◌, ◌++◌, pos, take, IsTrue}
-use Rattle.std.specs.Prelude.{fold}
-use Rattle.iloc_ops.specs.declared.op.Reg.{Reg}
-use Rattle.iloc_meaning.specs.Address.{is_good}
-use Rattle.iloc_meaning.specs.Memory.{word_at}
-use Rattle.iloc_meaning.specs.Registers.{value_of}
-use Rattle.iloc_trace.specs.declared.event.Place.TheVariants.{Register, Word}
+use Rattle.iloc_trace.proofs.Common.{◌≡◌, ℕ, ◌++◌, take, pos, IsTrue, fold, Reg, is_good, word_at, value_of, Register, Word}
 use Rattle.iloc_trace.specs.Places.{value_at}
 use Rattle.iloc_trace.specs.Steps.Arrivals.{arrival_lines, arrived_in, due_now}
 use Rattle.iloc_trace.proofs.machine.land_all.Given as goal

@@ -1,6 +1,4 @@
-use Rattle.std.specs.Prelude.{◌≡◌, fold, max, map, take}
-use Rattle.iloc_ops.specs.Registers.{used}
-use Rattle.iloc_timed.specs.Kinds.{kind}
+use Rattle.iloc_explain.proofs.Common.{◌≡◌, max, map, take, fold, used, kind}
 use Rattle.iloc_explain.specs.Steps.Latest.{by_kind, result_of}
 use Rattle.iloc_explain.proofs.latest.Latest.ready.Given as goal
 

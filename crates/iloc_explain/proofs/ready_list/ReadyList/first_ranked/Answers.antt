@@ -1,9 +1,7 @@
-use Rattle.std.proofs.Common.{◌≡◌, ◌++◌, [], length, map, arith, ap, ◌∙◌, sym}
-use Rattle.std.proofs.lemmas.Grind.{common_steps}
+use Rattle.iloc_explain.proofs.Common.{◌≡◌, [], ◌++◌, map, length, sym, ap, ◌∙◌, arith, common_steps, Place, shown}
 use Rattle.std.specs.Map.Iter.{deref}
 use Rattle.std.proofs.lemmas.Map.Iter.{rest_all}
 use Rattle.iloc_explain.specs.declared.ready_list.TheConstants.{MOST_LISTED}
-use Rattle.iloc_explain.specs.Steps.Queue.{Place, shown}
 use Rattle.iloc_explain.proofs.ReadyLines.{all_taken, first_taken}
 use Rattle.iloc_explain.proofs.ready_list.ReadyList.first_ranked.Goals as goal
 use Rattle.iloc_explain.proofs.ready_list.ReadyList.first_ranked.Goals.{in-None, in-Some+then-len-eq-MOST_LISTED}

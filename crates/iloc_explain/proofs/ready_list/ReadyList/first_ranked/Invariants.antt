@@ -1,6 +1,5 @@
-use Rattle.std.proofs.Common.{◌≡◌, ◌≤◌, ◌++◌, length, map}
+use Rattle.iloc_explain.proofs.Common.{◌≡◌, ◌≤◌, ◌++◌, map, length, shown}
 use Rattle.iloc_explain.specs.declared.ready_list.TheConstants.{MOST_LISTED}
-use Rattle.iloc_explain.specs.Steps.Queue.{shown}
 use Rattle.iloc_explain.proofs.ready_list.ReadyList.first_ranked.Given as goal
 
 abbrev pub invariant-loop-place : goal.invariant-loop-place

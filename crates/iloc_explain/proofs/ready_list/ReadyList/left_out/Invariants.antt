@@ -1,7 +1,4 @@
-use Rattle.std.proofs.Common.{◌≡◌, map}
-use Rattle.std.specs.Prelude.{find, not}
-use Rattle.iloc_timed.specs.Rows.{holds}
-use Rattle.iloc_explain.specs.Steps.Queue.{number}
+use Rattle.iloc_explain.proofs.Common.{◌≡◌, not, map, find, holds, number}
 use Rattle.iloc_explain.proofs.ready_list.ReadyList.left_out.Given as goal
 
 abbrev pub invariant-loop-place : goal.invariant-loop-place

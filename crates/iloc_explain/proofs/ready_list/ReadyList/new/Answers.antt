@@ -1,7 +1,4 @@
-use Rattle.std.proofs.Common.{◌≡◌, length, refl, arith, subst}
-use Rattle.std.specs.Prelude.{IfSome}
-use Rattle.std.proofs.lemmas.Option.{slice_get_read}
-use Rattle.iloc_explain.specs.Steps.Queue.{place_at}
+use Rattle.iloc_explain.proofs.Common.{◌≡◌, length, IfSome, refl, subst, arith, slice_get_read, place_at}
 use Rattle.iloc_explain.proofs.ReadyKept.{HasComing, kept_first, late_coming, one_coming}
 use Rattle.iloc_explain.proofs.ready_list.ReadyList.new.Goals as goal
 use Rattle.iloc_explain.proofs.ready_list.ReadyList.new.Goals.{then-own+in_ok-insert, else-own}

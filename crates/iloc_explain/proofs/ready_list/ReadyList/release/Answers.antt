@@ -1,6 +1,5 @@
-use Rattle.std.proofs.Common.{refl, ap}
+use Rattle.iloc_explain.proofs.Common.{refl, ap, Place}
 use Rattle.std.specs.BTreeSet.{BTreeSet}
-use Rattle.iloc_explain.specs.Steps.Queue.{Place}
 use Rattle.iloc_explain.proofs.ReadyKept.{kept_released}
 use Rattle.iloc_explain.proofs.ready_list.ReadyList.release.Goals as goal
 

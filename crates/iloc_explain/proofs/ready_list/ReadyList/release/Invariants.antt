@@ -1,6 +1,4 @@
-use Rattle.std.proofs.Common.{List, length}
-use Rattle.iloc_explain.specs.declared.explanation.Explained.{Explained}
-use Rattle.iloc_explain.specs.Steps.Queue.{IsKept}
+use Rattle.iloc_explain.proofs.Common.{List, length, IsKept, Explained}
 use Rattle.iloc_explain.proofs.ready_list.ReadyList.release.Given as goal
 
 abbrev pub invariant-loop-place : goal.invariant-loop-place

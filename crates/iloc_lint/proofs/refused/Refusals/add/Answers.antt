@@ -1,9 +1,7 @@
-use Rattle.std.proofs.Common.{◌∙◌, ◌+◌, ◌++◌, sym, ap, subst, ◌≡◌, ◌≤◌, ◌<◌, List, [], ◌∷◌, length-append, arith}
+use Rattle.iloc_lint.proofs.Common.{◌≡◌, ◌+◌, ◌<◌, ◌≤◌, List, [], ◌∷◌, ◌++◌, sym, ap, ◌∙◌, subst, arith, length-append, map-append, take-append-le, take_all, Refusal}
 use Rattle.iloc_lint.specs.Refused.{AreKept, refusal_of, refusals_of}
 use Rattle.iloc_lint.specs.Steps.Noted.{refusals}
 use Rattle.iloc_lint.specs.declared.refused.Refusals.{Refusals}
-use Rattle.std.proofs.lemmas.List.{map-append, take_all, take-append-le}
-use Rattle.iloc_lint.specs.Faults.{Refusal}
 use Rattle.iloc_lint.specs.declared.refused.Refused.{Refused}
 use Rattle.iloc_lint.proofs.refused.Refusals.add.Goals as goal
 use Rattle.iloc_lint.proofs.refused.Refusals.add.Goals.{then-self-lt-MOST_LISTED+in_ok-push, else-self-lt-MOST_LISTED}

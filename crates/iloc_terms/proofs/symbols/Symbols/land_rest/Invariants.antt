@@ -1,6 +1,4 @@
-use Rattle.std.proofs.Common.{List}
-use Rattle.iloc_timed.specs.Timed.{Issued}
-use Rattle.iloc_terms.specs.Steps.Terms.{Adds}
+use Rattle.iloc_terms.proofs.Common.{List, Issued, Adds}
 use Rattle.iloc_terms.specs.Steps.Tracking.{Keeps}
 use Rattle.iloc_terms.proofs.symbols.Symbols.land_rest.Given as goal
 

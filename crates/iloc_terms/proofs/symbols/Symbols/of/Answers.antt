@@ -1,6 +1,4 @@
-use Rattle.std.proofs.Common.{◌≡◌, ◌≤◌, length, arith, ap}
-use Rattle.iloc_timed.specs.Timed.{issued_before}
-use Rattle.iloc_timed.proofs.Arrivals.{zero_known, one_known}
+use Rattle.iloc_terms.proofs.Common.{◌≡◌, ◌≤◌, length, ap, arith, one_known, zero_known, issued_before}
 use Rattle.iloc_terms.proofs.Runs.Rows.{keeps_more, ends}
 use Rattle.iloc_terms.proofs.symbols.Symbols.of.Goals as goal
 

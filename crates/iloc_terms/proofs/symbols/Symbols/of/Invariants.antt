@@ -1,5 +1,4 @@
-use Rattle.iloc_timed.specs.Timed.{issued_before}
-use Rattle.iloc_terms.specs.Steps.Terms.{Adds}
+use Rattle.iloc_terms.proofs.Common.{issued_before, Adds}
 use Rattle.iloc_terms.specs.Steps.Tracking.{Keeps}
 use Rattle.iloc_terms.proofs.symbols.Symbols.of.Given as goal
 

@@ -1,6 +1,4 @@
-use Rattle.std.proofs.Common.{◌+◌, subst}
-use Rattle.std.proofs.lemmas.Result.{on_ok_weaker}
-use Rattle.iloc_timed.proofs.WholeRuns.{row_issued}
+use Rattle.iloc_terms.proofs.Common.{◌+◌, subst, on_ok_weaker, row_issued}
 use Rattle.iloc_terms.specs.Steps.Tracking.{Keeps}
 use Rattle.iloc_terms.proofs.symbols.Symbols.run_row.Goals as goal
 

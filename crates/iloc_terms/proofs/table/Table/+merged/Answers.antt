@@ -1,7 +1,4 @@
-use Rattle.std.proofs.Common.{◌+ℤ◌, ◌*ℤ◌, Some, FitsSigned, w32, rules, sym, ap, subst, ◌∙◌}
-use Rattle.std.proofs.lemmas.Int.{to_z-of_z}
-use Rattle.iloc_meaning.specs.Arithmetic.{wrapped}
-use Rattle.iloc_terms.specs.Steps.Terms.{base_word, IsMeaning, IsSumOfBases}
+use Rattle.iloc_terms.proofs.Common.{◌+ℤ◌, ◌*ℤ◌, FitsSigned, Some, sym, ap, ◌∙◌, subst, w32, rules, to_z-of_z, wrapped, IsMeaning, IsSumOfBases, base_word}
 use Rattle.iloc_terms.proofs.Terms.Sums.{term_before}
 use Rattle.iloc_terms.proofs.table.Table.+merged.Goals as goal
 

@@ -1,5 +1,4 @@
-use Rattle.std.proofs.Common.{◌==◌, refl, ◌∙◌}
-use Rattle.iloc_meaning.proofs.Cases.{by_bool}
+use Rattle.iloc_terms.proofs.Common.{◌==◌, refl, ◌∙◌, by_bool}
 use Rattle.iloc_terms.proofs.table.Table.+put_within.Goals as goal
 
 pub returns-then-is_at_most_at : goal.returns-then-is_at_most_at

@@ -1,8 +1,4 @@
-use Rattle.std.proofs.Common.{pos, ◌+ℤ◌, ◌*ℤ◌, FitsSigned, w32, rules, sym, ap, subst, ◌∙◌}
-use Rattle.std.specs.Int.{cast_signed, cast_unsigned}
-use Rattle.std.proofs.lemmas.Int.{to_z-of_z}
-use Rattle.iloc_meaning.specs.Arithmetic.{wrapped}
-use Rattle.iloc_terms.specs.Steps.Terms.{base_word, IsMeaning, IsMultiple}
+use Rattle.iloc_terms.proofs.Common.{pos, ◌+ℤ◌, ◌*ℤ◌, FitsSigned, sym, ap, ◌∙◌, subst, w32, rules, to_z-of_z, cast_signed, cast_unsigned, wrapped, IsMeaning, IsMultiple, base_word}
 use Rattle.iloc_terms.proofs.Terms.Arithmetic.{stored}
 use Rattle.iloc_terms.proofs.Terms.MultipliedOut.{times_more}
 use Rattle.iloc_terms.proofs.table.Table.+times_term.Goals as goal

@@ -1,5 +1,4 @@
-use Rattle.std.proofs.Common.{◌∙◌}
-use Rattle.iloc_timed.proofs.WholeRuns.{if_ok}
+use Rattle.iloc_terms.proofs.Common.{◌∙◌, if_ok}
 use Rattle.iloc_terms.proofs.Terms.Products.{less_times}
 use Rattle.iloc_terms.proofs.table.Table.difference.Goals as goal
 

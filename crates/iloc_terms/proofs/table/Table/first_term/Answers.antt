@@ -1,7 +1,4 @@
-use Rattle.std.proofs.Common.{◌≡◌, ◌+ℤ◌, ◌*ℤ◌, FitsSigned, w32, rules, arith, sym, ap, ◌∙◌}
-use Rattle.std.proofs.lemmas.Int.{to_z-of_z}
-use Rattle.iloc_meaning.specs.Arithmetic.{wrapped}
-use Rattle.iloc_terms.specs.Steps.Terms.{base_word}
+use Rattle.iloc_terms.proofs.Common.{◌≡◌, ◌+ℤ◌, ◌*ℤ◌, FitsSigned, sym, ap, ◌∙◌, arith, w32, rules, to_z-of_z, wrapped, base_word}
 use Rattle.iloc_terms.proofs.Terms.Arithmetic.{stored}
 use Rattle.iloc_terms.proofs.Terms.Sums.{left_term, right_term, two_terms}
 use Rattle.iloc_terms.proofs.table.Table.first_term.Goals as goal

@@ -1,6 +1,4 @@
-use Rattle.std.proofs.Common.{FitsSigned, w32, rules, ap, ◌∙◌}
-use Rattle.std.specs.Int.{cast_unsigned}
-use Rattle.std.proofs.lemmas.Int.{to_z-of_z}
+use Rattle.iloc_terms.proofs.Common.{FitsSigned, ap, ◌∙◌, w32, rules, to_z-of_z, cast_unsigned}
 use Rattle.iloc_terms.proofs.Terms.Epochs.{location_of_parts}
 use Rattle.iloc_terms.proofs.table.Table.location.Goals as goal
 

@@ -1,7 +1,4 @@
-use Rattle.std.proofs.Common.{◌+ℤ◌, ◌*ℤ◌, FitsSigned, w32, rules, ap, subst, ◌∙◌}
-use Rattle.std.proofs.lemmas.Int.{to_z-of_z}
-use Rattle.iloc_meaning.specs.Arithmetic.{wrapped}
-use Rattle.iloc_terms.specs.Steps.Terms.{base_word, IsMeaning, IsMultiple}
+use Rattle.iloc_terms.proofs.Common.{◌+ℤ◌, ◌*ℤ◌, FitsSigned, ap, ◌∙◌, subst, w32, rules, to_z-of_z, wrapped, IsMeaning, IsMultiple, base_word}
 use Rattle.iloc_terms.proofs.Terms.Arithmetic.{stored}
 use Rattle.iloc_terms.proofs.Terms.MultipliedOut.{product_parts}
 use Rattle.iloc_terms.proofs.table.Table.product_of_parts.Goals as goal

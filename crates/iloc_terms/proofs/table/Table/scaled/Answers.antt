@@ -1,8 +1,4 @@
-use Rattle.std.proofs.Common.{◌+ℤ◌, ◌*ℤ◌, FitsSigned, w32, rules, ap, ◌∙◌}
-use Rattle.std.proofs.lemmas.Int.{to_z-of_z}
-use Rattle.iloc_meaning.specs.Arithmetic.{wrapped}
-use Rattle.iloc_timed.proofs.WholeRuns.{if_ok}
-use Rattle.iloc_terms.specs.Steps.Terms.{base_word}
+use Rattle.iloc_terms.proofs.Common.{◌+ℤ◌, ◌*ℤ◌, FitsSigned, ap, ◌∙◌, w32, rules, to_z-of_z, wrapped, if_ok, base_word}
 use Rattle.iloc_terms.proofs.Terms.Arithmetic.{stored}
 use Rattle.iloc_terms.proofs.Terms.Products.{times_parts}
 use Rattle.iloc_terms.proofs.table.Table.scaled.Goals as goal

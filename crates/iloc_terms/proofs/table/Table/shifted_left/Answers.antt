@@ -1,6 +1,4 @@
-use Rattle.std.proofs.Common.{ap, ◌∙◌}
-use Rattle.iloc_meaning.specs.Arithmetic.{shifted_left}
-use Rattle.iloc_timed.proofs.WholeRuns.{if_ok}
+use Rattle.iloc_terms.proofs.Common.{ap, ◌∙◌, shifted_left, if_ok}
 use Rattle.iloc_terms.proofs.Terms.Shifts.{shifted_product}
 use Rattle.iloc_terms.proofs.table.Table.shifted_left.Goals as goal
 

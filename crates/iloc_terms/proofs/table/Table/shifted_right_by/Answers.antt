@@ -1,9 +1,4 @@
-use Rattle.std.proofs.Common.{◌≡◌, ◌+◌, ◌%◌, FitsSigned, w32, arith, rules, sym, ap, ◌∙◌}
-use Rattle.std.specs.Prelude.{min}
-use Rattle.std.specs.Int.{int_shr, cast_unsigned}
-use Rattle.std.proofs.lemmas.Int.{to_z-of_z}
-use Rattle.iloc_meaning.specs.Arithmetic.{shift_of}
-use Rattle.iloc_timed.proofs.WholeRuns.{if_ok}
+use Rattle.iloc_terms.proofs.Common.{◌≡◌, ◌+◌, ◌%◌, min, FitsSigned, sym, ap, ◌∙◌, arith, w32, rules, to_z-of_z, cast_unsigned, int_shr, shift_of, if_ok}
 use Rattle.iloc_terms.proofs.Terms.Shifts.{bits_of, shr_both}
 use Rattle.iloc_terms.proofs.table.Table.shifted_right_by.Goals as goal
 

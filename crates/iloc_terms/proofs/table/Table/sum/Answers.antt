@@ -1,7 +1,4 @@
-use Rattle.std.proofs.Common.{◌+ℤ◌, FitsSigned, w32, rules, ap, ◌∙◌}
-use Rattle.iloc_meaning.specs.Arithmetic.{wrapped}
-use Rattle.iloc_timed.proofs.WholeRuns.{if_ok}
-use Rattle.iloc_terms.specs.Steps.Terms.{base_word}
+use Rattle.iloc_terms.proofs.Common.{◌+ℤ◌, FitsSigned, ap, ◌∙◌, w32, rules, wrapped, if_ok, base_word}
 use Rattle.iloc_terms.proofs.Terms.Arithmetic.{stored, sum_parts}
 use Rattle.iloc_terms.proofs.table.Table.sum.Goals as goal
 

@@ -1,7 +1,4 @@
-use Rattle.std.proofs.Common.{◌≡◌, pos, Some, ◌+ℤ◌, ◌*ℤ◌, FitsSigned, w32, rules, arith, sym, ap, ◌∙◌}
-use Rattle.iloc_meaning.specs.Arithmetic.{wrapped}
-use Rattle.iloc_timed.proofs.WholeRuns.{if_ok}
-use Rattle.iloc_terms.specs.Steps.Terms.{base_word}
+use Rattle.iloc_terms.proofs.Common.{◌≡◌, pos, ◌+ℤ◌, ◌*ℤ◌, FitsSigned, Some, sym, ap, ◌∙◌, arith, w32, rules, wrapped, if_ok, base_word}
 use Rattle.iloc_terms.proofs.Terms.Arithmetic.{stored}
 use Rattle.iloc_terms.proofs.Terms.Sums.{one_more}
 use Rattle.iloc_terms.proofs.table.Table.with_term.Goals as goal

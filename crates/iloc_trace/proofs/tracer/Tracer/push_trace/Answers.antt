@@ -1,8 +1,4 @@
-use Rattle.std.proofs.Common.{◌≡◌, ◌≤◌, ◌+◌, true, false, [], ◌++◌, length, arith, ap, sym, ◌∙◌, append-nil, subst}
-use Rattle.iloc_timed.specs.Rows.{row_at}
-use Rattle.iloc_timed.specs.Timed.{issued_before}
-use Rattle.iloc_timed.proofs.Arrivals.{zero_known, one_known}
-use Rattle.iloc_trace.specs.Listing.{trace_lines}
+use Rattle.iloc_trace.proofs.Common.{◌≡◌, ◌+◌, ◌≤◌, true, false, [], ◌++◌, length, sym, ap, ◌∙◌, subst, append-nil, arith, one_known, zero_known, row_at, issued_before, trace_lines}
 use Rattle.iloc_trace.specs.Steps.Rows.{Follows}
 use Rattle.iloc_trace.proofs.WholeRuns.{ends_at_fault, follows_more, row_more_listed}
 use Rattle.iloc_trace.proofs.tracer.Tracer.push_trace.Goals as goal

@@ -1,6 +1,4 @@
-use Rattle.std.proofs.Common.{◌≡◌, ◌++◌}
-use Rattle.iloc_timed.specs.Timed.{issued_before}
-use Rattle.iloc_trace.specs.Listing.{trace_lines}
+use Rattle.iloc_trace.proofs.Common.{◌≡◌, ◌++◌, issued_before, trace_lines}
 use Rattle.iloc_trace.specs.Steps.Rows.{Follows}
 use Rattle.iloc_trace.proofs.WholeRuns.{events_before}
 use Rattle.iloc_trace.proofs.tracer.Tracer.push_trace.Given as goal

@@ -1,8 +1,5 @@
-use Rattle.std.proofs.Common.{nat_lt, ap, ◌∙◌, rules, subst, sym}
-use Rattle.std.specs.Prelude.{filter}
-use Rattle.std.specs.List.{All}
+use Rattle.iloc_trace.proofs.Common.{nat_lt, filter, sym, ap, ◌∙◌, subst, rules, All-filter, All}
 use Rattle.std.proofs.lemmas.Fn.{filter_same}
-use Rattle.std.proofs.lemmas.List.Elements.{All-filter}
 use Rattle.iloc_trace.specs.declared.under_way.Arrival.{Arrival}
 use Rattle.iloc_trace.specs.Steps.Arrivals.{CanArrive}
 use Rattle.iloc_trace.proofs.under_way.UnderWay.remove_due.Goals as goal

@@ -1,12 +1,7 @@
-use Rattle.std.proofs.Common.{sym, subst, refl, ◌≡◌, ℕ, ◌+◌, List, [], ◌∷◌, ◌++◌, length, Some, Result, Ok, Err}
-use Rattle.iloc_text.specs.declared.fault.ReadFault.TheVariants.{BadLine, NumberTooLarge, TooManyBlocks, TooManyOperations}
-use Rattle.iloc_text.specs.Files.{IsFaulty, Reading}
+use Rattle.iloc_lint.proofs.Common.{◌≡◌, ℕ, ◌+◌, List, [], ◌∷◌, ◌++◌, length, Some, Ok, Err, Result, sym, refl, subst, IsFaulty, Reading, Reads, ReadFault, BadLine, NumberTooLarge, TooManyBlocks, TooManyOperations, empty}
 use Rattle.iloc_lint.specs.Steps.Counted.{Judged, Adds, Count, Exceeds}
 use Rattle.std.specs.Result.{result_err}
-use Rattle.iloc_text.specs.declared.fault.ReadFault.{ReadFault}
-use Rattle.iloc_text.specs.Grammar.{Reads}
 use Rattle.iloc_lint.specs.declared.faults.counts.Counts.{Counts}
-use Rattle.iloc_lint.specs.Faults.{empty}
 use Rattle.iloc_lint.proofs.Counted.{empty_counted}
 use Rattle.iloc_lint.proofs.faults.counts.Counts.judge.Goals as goal
 
