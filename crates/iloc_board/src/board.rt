@@ -23,7 +23,7 @@ use std::alloc::Global;
 use std::marker::Model;
 
 /// What a look found.
-#[derive(Clone, Copy, Debug, PartialEq, Eq)]
+#[derive(Clone, Copy, PartialEq, Eq)]
 pub enum Seen {
     /// This job is next.
     Block(u32),
@@ -32,7 +32,7 @@ pub enum Seen {
 }
 
 /// What became of a try.
-#[derive(Clone, Copy, Debug, PartialEq, Eq)]
+#[derive(Clone, Copy, PartialEq, Eq)]
 pub enum Tried {
     /// The pass has taken this job.
     Took(u32),

@@ -14,7 +14,7 @@ use std::alloc::Global;
 use std::collections::BTreeMap;
 
 /// What a list of steps led to.
-#[derive(Drop, Debug)]
+#[derive(Drop)]
 pub struct Played {
     /// The reply to each step.
     pub replies: Vec<Reply>,
@@ -141,7 +141,6 @@ impl RunningCore {
 ///
 /// Promise: replies, next job and costs are those of the core, and whatever the steps, their takes and hand-backs are one legal
 /// history of a board of one thread, in which no job is taken twice.
-#[tactic(auto, using(crate::proofs::Laws::legal, crate::proofs::Laws::once, crate::proofs::Laws::ends_alike, crate::proofs::Laws::exact_play))]
 pub fn play(alloc: Global, count: u32, steps: &[Step]) -> Result<Played, NoMemory>
     requires { count ≤ MOST_JOBS }
     ensures replies { IfOk result (λ p. p.replies.items ≡ replies count steps.now) }

@@ -17,7 +17,7 @@ pub trait AtDesk<D>: Jobs {
 }
 
 /// No desk: the answer is made without one.
-#[derive(Clone, Copy, Debug)]
+#[derive(Clone, Copy)]
 pub struct NoDesk;
 
 impl<J: Jobs> AtDesk<NoDesk> for J {

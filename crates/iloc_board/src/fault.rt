@@ -9,7 +9,7 @@ use thiserror::Error;
 pub struct NoMemory;
 
 /// Memory was refused, and the value is given back.
-#[derive(Drop, Debug)]
+#[derive(Drop)]
 pub struct NoMemoryWith<T>(pub T);
 
 impl From<AllocError> for NoMemory {

@@ -10,7 +10,7 @@ pub trait Gate {
 }
 
 /// A gate that does nothing.
-#[derive(Clone, Copy, Debug)]
+#[derive(Clone, Copy)]
 pub struct FreeGate;
 
 impl Gate for FreeGate {

@@ -2,7 +2,7 @@
 use std::collections::LinkedList;
 
 /// One step at the board. Each worker has a number.
-#[derive(Clone, Copy, Debug, PartialEq, Eq)]
+#[derive(Clone, Copy)]
 pub enum Step {
     /// This worker asks which job is next.
     Look(u32),
@@ -30,7 +30,7 @@ pub enum Reply {
 }
 
 /// A step with its reply.
-#[derive(Clone, Copy, Debug, PartialEq, Eq)]
+#[derive(Clone, Copy)]
 pub struct Entry {
     pub step: Step,
     pub reply: Reply,

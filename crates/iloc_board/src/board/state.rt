@@ -1,7 +1,7 @@
 //! What a worker is about.
 
 /// What a worker is about. Jobs go by their numbers.
-#[derive(Clone, Copy, Debug, PartialEq, Eq)]
+#[derive(Clone, Copy, PartialEq, Eq)]
 pub enum State {
     /// It has no job in view.
     Free,

@@ -2,7 +2,7 @@ use Rattle.std.proofs.Common.{◌≡◌, ap, sym, ◌∙◌, length, take, ◌<�
 use Rattle.iloc_board.specs.Core.{Core}
 use Rattle.iloc_board.specs.Play.{final}
 use Rattle.iloc_board.proofs.Runs.{length-costs_final, shows_more, told_more}
-use Rattle.iloc_board.proofs.Laws.{within_final}
+use Rattle.iloc_board.proofs.Laws.{legal, once, ends_alike, exact_play, within_final}
 use Rattle.iloc_board.proofs.core_steps.play.Goals as goal
 
 pub step-requires-clause-costs : goal.step-requires-clause-costs
@@ -27,3 +27,51 @@ loop-step-preserved c =
       told = c.in_ok-push.ensures.items ∙ told_more c.args.count _ c.args.steps.now c.loop-step.step-index _ here same _
           _ c.loop-step.invariant.told made.0;
     }
+
+pub returns-in_err-vec-clause-exact : goal.returns-in_err-vec-clause-exact
+returns-in_err-vec-clause-exact c = exact_play c.args.count c.args.steps.now
+
+pub returns-in_err-vec-clause-legal : goal.returns-in_err-vec-clause-legal
+returns-in_err-vec-clause-legal c = legal c.args.count c.args.steps.now
+
+pub returns-in_err-vec-clause-once : goal.returns-in_err-vec-clause-once
+returns-in_err-vec-clause-once c = once c.args.count c.args.steps.now
+
+pub returns-in_err-vec-clause-ends : goal.returns-in_err-vec-clause-ends
+returns-in_err-vec-clause-ends c = ends_alike c.args.count c.args.steps.now
+
+pub returns-in_err-reply-clause-exact : goal.returns-in_err-reply-clause-exact
+returns-in_err-reply-clause-exact c = exact_play c.args.count c.args.steps.now
+
+pub returns-in_err-reply-clause-legal : goal.returns-in_err-reply-clause-legal
+returns-in_err-reply-clause-legal c = legal c.args.count c.args.steps.now
+
+pub returns-in_err-reply-clause-once : goal.returns-in_err-reply-clause-once
+returns-in_err-reply-clause-once c = once c.args.count c.args.steps.now
+
+pub returns-in_err-reply-clause-ends : goal.returns-in_err-reply-clause-ends
+returns-in_err-reply-clause-ends c = ends_alike c.args.count c.args.steps.now
+
+pub returns-in_err-push-clause-exact : goal.returns-in_err-push-clause-exact
+returns-in_err-push-clause-exact c = exact_play c.args.count c.args.steps.now
+
+pub returns-in_err-push-clause-legal : goal.returns-in_err-push-clause-legal
+returns-in_err-push-clause-legal c = legal c.args.count c.args.steps.now
+
+pub returns-in_err-push-clause-once : goal.returns-in_err-push-clause-once
+returns-in_err-push-clause-once c = once c.args.count c.args.steps.now
+
+pub returns-in_err-push-clause-ends : goal.returns-in_err-push-clause-ends
+returns-in_err-push-clause-ends c = ends_alike c.args.count c.args.steps.now
+
+pub returns-clause-exact : goal.returns-clause-exact
+returns-clause-exact c = exact_play c.args.count c.args.steps.now
+
+pub returns-clause-legal : goal.returns-clause-legal
+returns-clause-legal c = legal c.args.count c.args.steps.now
+
+pub returns-clause-once : goal.returns-clause-once
+returns-clause-once c = once c.args.count c.args.steps.now
+
+pub returns-clause-ends : goal.returns-clause-ends
+returns-clause-ends c = ends_alike c.args.count c.args.steps.now
