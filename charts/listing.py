@@ -1,17 +1,16 @@
 """Listings of `schedule` and `explain`, and rows as `check` reads them, for the scripts that draw them."""
-import argparse
 import re
 from dataclasses import dataclass, field
 
-from forms import ROLES, USUAL, kind_of
+from language import LONGEST_LATENCY, MOST_OPERATIONS, PASSING, ROLES, USUAL, kind_of
 from svg import Unread
 
 COLOURS = {"load": "#6cb6ff", "store": "#b392f0", "mult": "#f0a35e", "output": "#6fce7c", "other": "#b9c0c8"}
 CHAIN = "#e5484d"
 WRONG = "#d6409f"
 PATH = "#0969da"
-PASSED = ("", "lawful", "same", "prints")      # no verdict, or one that passes
-MOST_CYCLES = 160_000    # of a schedule: 10,000 operations, each of which takes 16
+PASSED = ("", *PASSING)     # no verdict, or one that passes
+MOST_CYCLES = MOST_OPERATIONS * LONGEST_LATENCY     # of a schedule
 HEADER = re.compile(r"block (\d+) (\S+)")
 COMMENT = re.compile(r"//.*")
 CYCLES = re.compile(r"cycles (\d+)(?: least (\d+).*)?")
@@ -43,8 +42,7 @@ class Operation:
         return self.spelling.split()[0]
 
     def kind(self):
-        kind = kind_of(self.opcode())
-        return kind if kind in COLOURS else "other"
+        return kind_of(self.opcode())
 
     def arrival(self, latencies):
         return self.cycle + latencies.get(self.kind(), 1)
@@ -56,9 +54,6 @@ class Operation:
 
     def defined(self):
         return next(iter(self.registers("d")), None)
-
-    def used(self):
-        return self.registers("u")
 
     def label(self):
         return self.spelling if self.number < 0 else f"{self.number}: {self.spelling}"
@@ -146,7 +141,7 @@ class Listed:
                                          for operation in self.operations}
         too_early = False
         for operation in sorted(self.operations, key=lambda operation: operation.number):
-            too_early = too_early or any(arrivals.get(name, 0) > operation.cycle for name in operation.used())
+            too_early = too_early or any(arrivals.get(name, 0) > operation.cycle for name in operation.registers("u"))
             if explained:
                 arrivals[operation.defined()] = operation.arrival(latencies)
         if too_early or self.end(latencies) != self.cycles:
@@ -163,11 +158,8 @@ def count(digits):
 def slots_of(row):
     """The spellings of a row `[ X ; Y ]` by unit; alone a product is on unit 1."""
     first, semicolon, second = (spelling.strip() for spelling in row[1:-1].partition(";"))
-    return ("", first) if not semicolon and is_product(first) else (first, second)
-
-
-def is_product(spelling):
-    return bool(spelling) and kind_of(spelling.split()[0]) == "mult"
+    is_product = first and kind_of(first.split()[0]) == "mult"
+    return ("", first) if not semicolon and is_product else (first, second)
 
 
 def read_blocks(lines):
@@ -194,21 +186,10 @@ def read_block(lines, wanted):
     return found
 
 
-def parser(name, usage):
-    """A command line with the latencies."""
-    made = argparse.ArgumentParser(prog=name, description=usage, formatter_class=argparse.RawDescriptionHelpFormatter)
-    add_latencies(made)
-    return made
-
-
 def add_latencies(made):
     for option, usual in USUAL.items():
-        made.add_argument(f"--{option}", metavar="N", type=int, choices=range(1, 17), default=usual,
-                          help=f"cycles that a {option} takes, 1 to 16 [{usual}]")
-
-
-def latencies(asked):
-    return {kind: getattr(asked, kind) for kind in USUAL}
+        made.add_argument(f"--{option}", metavar="N", type=int, choices=range(1, LONGEST_LATENCY + 1), default=usual,
+                          help=f"cycles that a {option} takes, 1 to {LONGEST_LATENCY} [{usual}]")
 
 
 def lines():

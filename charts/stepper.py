@@ -6,10 +6,9 @@ import re
 from html import escape
 from pathlib import Path
 
-from forms import kind_of
 from lanes import HEIGHT, TOP, Chart
+from language import kind_of
 from layers import Drawing
-from listing import COLOURS
 from traced import read_traces
 
 MOST = 60           # operations of a graph that is drawn
@@ -37,9 +36,9 @@ def drawing_of(block):
     early = {(i, j) for i, j, d in block.edges
              if block.is_wrong() and i in cycles and j in cycles and cycles[j] < cycles[i] + d}
     opcodes = [block.source[k].split()[0] for k in range(len(block.source))]
-    kinds = [kind_of(opcode) if kind_of(opcode) in COLOURS else "other" for opcode in opcodes]
     places = {operation.number: f"{operation.cycle}.{operation.unit}" for operation in block.operations}
     drawing = Drawing([f"{k} {opcode}" for k, opcode in enumerate(opcodes)], block.edges)
+    kinds = [*map(kind_of, opcodes)]
     return drawing.picture(f"dependence graph of block {block.number}", kinds, places, block.chain, early)
 
 

@@ -2,7 +2,7 @@
 import re
 
 import listing
-from forms import USUAL
+from language import USUAL
 from listing import HEADER, PASSED, VERDICT, Listed, Operation, count
 from svg import Unread
 

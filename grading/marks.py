@@ -5,9 +5,8 @@ from dataclasses import dataclass, field
 from pathlib import Path
 
 from judge import Task
+from language import PASSING
 from words import count, faults, number, shown
-
-PASSING = ("lawful", "same", "prints")
 
 
 class NoRows(Exception):
@@ -97,8 +96,7 @@ def unmarked(task, why):
 
 
 def give_points(students, asked, again):
-    """Gives these students of a class their points: for what passes, less for the cycles beyond a base, without
-    --per-cycle in their ratio; and a share of them for what only prints right."""
+    """Gives these students of a class points: fewer for cycles beyond a base, a share for what only prints right."""
     best = {}
     for mark in (mark for student in students for mark in student.row if mark.passes()):
         best[mark.task.name] = min(best.get(mark.task.name, mark.cycles), mark.cycles)

@@ -7,7 +7,7 @@ import listing
 import stepper
 import svg
 import words
-from forms import USUAL
+from language import USUAL
 
 MOST = 200_000      # bytes of rows that are drawn
 MOST_STEPPED = 50_000       # of those that have a page

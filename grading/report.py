@@ -178,10 +178,9 @@ def write_results(student, asked, seconds, warning):
     passed = sum(mark.passes() for mark in row)
     cycles = sum(mark.cycles for mark in row) if passed == len(row) else NOT_ALL
     said = [f"{passed} of {len(row)} tasks passed.", *student.said(), warning]
+    board = [{"name": "points", "value": total, "order": "desc"}, {"name": "cycles", "value": cycles, "order": "asc"}]
     made = {"score": total, "execution_time": round(seconds, 1), "visibility": asked.visibility,
-            "output": " ".join(said).rstrip(), "stdout_visibility": "hidden",
-            "tests": tests, "leaderboard": [{"name": "points", "value": total, "order": "desc"},
-                                            {"name": "cycles", "value": cycles, "order": "asc"}]}
+            "output": " ".join(said).rstrip(), "stdout_visibility": "hidden", "tests": tests, "leaderboard": board}
     with tempfile.NamedTemporaryFile("w", dir=asked.gradescope.parent, delete=False, encoding="utf-8") as file:
         json.dump(made, file, indent=1)
     os.replace(file.name, asked.gradescope)

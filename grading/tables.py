@@ -107,8 +107,7 @@ class Table:
 
 
 def days_of(text, due):
-    """Days begun: a number of them, hours as `30:00:00`, `1 day 6 hours late`, or a time after one that is due. Words
-    without a number are none; None is what can't be read."""
+    """Days begun, of `2`, `30:00:00`, `1 day 6 hours late`, a time after one due, or 0 of words; None if unreadable."""
     text = text.strip().casefold()
     if not re.search(r"\d", text):
         return 0

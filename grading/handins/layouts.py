@@ -34,8 +34,7 @@ def days_late(at, due):
 
 
 def last_attempts(files, tasks):
-    """By the name that a student gave it the last file of that name, of files whose names are given by those that they
-    have here; which attempt is the last; and notes of the others."""
+    """By each name that a student gave the last file's name here; the last attempt; and notes of the others."""
     tried = defaultdict(list)
     for here, name in files.items():
         found = AGAIN.fullmatch(name)

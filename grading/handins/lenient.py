@@ -6,7 +6,7 @@ from collections import Counter
 from functools import cached_property, lru_cache
 from itertools import islice
 
-from forms import FORMS
+from language import FORMS
 from words import count, shown
 
 ENDINGS = (".rows", ".rows.txt", ".out", ".sched", ".txt", "")      # of a file's name

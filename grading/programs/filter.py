@@ -1,5 +1,4 @@
-"""Prints a filter of system calls that namespaces leave open. It is a program for Debian's own python3, since it needs
-libseccomp's binding, Debian's package python3-seccomp."""
+"""Prints a filter of system calls that namespaces leave open, by Debian's python3, which has python3-seccomp."""
 import errno
 import socket
 import sys

@@ -47,8 +47,7 @@ def below(process):
 
 
 def kept(processes, sizes):
-    """Bytes of files in memory and of sockets, as the last process sees them whose file systems have these sizes:
-    others have ended, or aren't in their sandbox yet."""
+    """Bytes of files in memory and of sockets, as the last process sees them that is in its sandbox, by these sizes."""
     for each in reversed(processes if sizes else ()):
         with suppress(OSError):
             found = [os.statvfs(f"/proc/{each}/root{path}") for path in sizes]
@@ -60,8 +59,7 @@ def kept(processes, sizes):
 
 
 def used(process, sizes, most):
-    """What a process and all below it use, by /proc: seconds of processor time, those of ended children too, bytes of
-    memory, and whether anything could run. What processes share counts for each, unless that is too much."""
+    """Seconds and bytes of a process and all below it, shared bytes once if need be; and whether any could run."""
     resident, seconds = {}, 0
     for each in below(process):
         fields = numbers(f"/proc/{each}/stat", r".*\) . ")     # after the name, which may be anything
@@ -111,8 +109,7 @@ class Run:
             self.failure = self.fault()
 
     def fault(self):
-        """Why it has to be stopped, or None. Who waited for the processor until the clock ended it may be run again,
-        with more patience, and isn't judged if that doesn't do."""
+        """Why it has to be stopped, or None. Who starved may run again with more patience, and else is unjudged."""
         if len(self.output) > self.most or len(self.errors) > MOST_ERRORS:
             return NoRows("crashed", f"It printed more than {self.most >> 20} MiB.")
         passed, limit = time.monotonic() - self.looked, self.asked.time
@@ -133,8 +130,7 @@ class Run:
 
 
 def packed(folder):
-    """The same of files that are called otherwise here, or are in archives, of which each file lies in the folder: one
-    that all are in isn't made."""
+    """The same of files that have other names here, or are in archives; a folder that all are in isn't made."""
     made, files = tempfile.TemporaryFile(), {path.split("/", 1)[1]: data for path, data in folder.unpacked().items()}
     while files and len({path.partition("/")[0] for path in files}) == 1 and all("/" in path for path in files):
         files = {path.partition("/")[2]: data for path, data in files.items()}

@@ -11,10 +11,9 @@ import re
 import sys
 
 sys.path.insert(0, os.path.dirname(os.path.dirname(os.path.abspath(__file__))))
-import oracle  # noqa: E402,F401  (it finds forms)
+import oracle  # noqa: E402,F401  (it finds language)
 from bench import measure  # noqa: E402
-from forms import SPELLED  # noqa: E402
-from limits import MAX_NUMBER, MOST_BLOCKS, MOST_BYTES, MOST_OPERATIONS  # noqa: E402
+from language import MAX_NUMBER, MOST_BLOCKS, MOST_BYTES, MOST_OPERATIONS, SPELLED  # noqa: E402
 
 # Operations, what each of their numbers is, and how often they come.
 MIX = [
@@ -79,24 +78,6 @@ def full_of_blocks(draw, counts, registers):
     return b"".join(parts)
 
 
-def one_block(draw):
-    """A block of the greatest length over registers of any number."""
-    registers = [draw.below(MAX_NUMBER + 1) for _ in range(4000)]
-    return block(draw, "only", MOST_OPERATIONS, registers)
-
-
-def many_blocks(draw):
-    return full_of_blocks(draw, range(6, 29), range(32))
-
-
-def long_blocks(draw):
-    return full_of_blocks(draw, [MOST_OPERATIONS], range(5000))
-
-
-def least_blocks(_):
-    return b"".join(b"L%d: output 0\n" % number for number in range(1, MOST_BLOCKS + 1))
-
-
 def comments_and_blanks(draw):
     lines = [b"\n", b" \t \r\n", b" " * 60 + b"\n", b"// a short comment\n",
              b"\t// a longer comment, about what the next operations are meant to do\n"]
@@ -107,37 +88,20 @@ def comments_and_blanks(draw):
     return b"".join(parts) + b" " * left
 
 
-def long_number(_):
-    return b"loadI %s8 => r1\n" % (b"0" * (MOST_BYTES - 14))
-
-
 def middling_blocks(draw):
     """7,000 blocks of about 100 operations each."""
     registers = range(64)
     return b"".join(block(draw, f"L{number}", 60 + draw.below(81), registers) for number in range(1, 7001))
 
 
-def high_registers(draw):
-    return full_of_blocks(draw, range(60, 141), [draw.below(MAX_NUMBER + 1) for _ in range(64)])
+def any_registers(draw, count):
+    return [draw.below(MAX_NUMBER + 1) for _ in range(count)]
 
 
-def repeated(lines):
+def repeated(*lines):
     """A block of these lines, as often as there is room."""
     text = b"L:\n" + b"".join(line + b"\n" for line in lines)
     return text * min(MOST_BLOCKS, MOST_BYTES // len(text))
-
-
-def highest_registers(_):
-    return repeated([b"addI r4095, 8 => r2147483647", b"storeAI r2147483647 => r4095, 4",
-                     b"loadAI r4095, 4 => r4095", b"output 4"])
-
-
-def one_store_a_block(_):
-    return repeated([b"loadI 64 => r0", b"store r0 => r0", b"output 64"])
-
-
-def many_outputs(_):
-    return repeated([b"subI r1, 2147483647 => r0", b"store r0 => r1", *[b"output 0"] * (MOST_OPERATIONS - 2)])
 
 
 def long_comments(draw):
@@ -150,22 +114,6 @@ def long_comments(draw):
     return b"".join(parts)
 
 
-def loads(_):
-    return b"load r0 => r1\n" * MOST_OPERATIONS
-
-
-def stores(_):
-    return b"store r1 => r0\n" * MOST_OPERATIONS
-
-
-def stores_and_loads(_):
-    return b"store r1 => r0\nload r0 => r2\n" * (MOST_OPERATIONS // 2)
-
-
-def sums(_):
-    return b"".join(b"addI r0, %d => r%d\n" % (number, number + 1) for number in range(MOST_OPERATIONS))
-
-
 def operations(text):
     """How many operations an input has, at least 1."""
     return max(1, len(OPERATION.findall(text)))
@@ -176,18 +124,33 @@ def front(text, most):
     return text if len(text) <= most else text[:text.rfind(b"\nL", 0, most) + 1]
 
 
-MAKERS = [one_block, many_blocks, middling_blocks, long_blocks, least_blocks, one_store_a_block, many_outputs,
-          high_registers, highest_registers, comments_and_blanks, long_comments, long_number,
-          loads, stores, stores_and_loads, sums]
-NAMES = [maker.__name__ for maker in MAKERS]
+# By name what makes each input.
+MAKERS = {
+    "one_block": lambda draw: block(draw, "only", MOST_OPERATIONS, any_registers(draw, 4000)),
+    "many_blocks": lambda draw: full_of_blocks(draw, range(6, 29), range(32)),
+    "middling_blocks": middling_blocks,
+    "long_blocks": lambda draw: full_of_blocks(draw, [MOST_OPERATIONS], range(5000)),
+    "least_blocks": lambda _: b"".join(b"L%d: output 0\n" % number for number in range(1, MOST_BLOCKS + 1)),
+    "one_store_a_block": lambda _: repeated(b"loadI 64 => r0", b"store r0 => r0", b"output 64"),
+    "many_outputs": lambda _: repeated(b"subI r1, 2147483647 => r0", b"store r0 => r1",
+                                       *[b"output 0"] * (MOST_OPERATIONS - 2)),
+    "high_registers": lambda draw: full_of_blocks(draw, range(60, 141), any_registers(draw, 64)),
+    "highest_registers": lambda _: repeated(b"addI r4095, 8 => r2147483647", b"storeAI r2147483647 => r4095, 4",
+                                            b"loadAI r4095, 4 => r4095", b"output 4"),
+    "comments_and_blanks": comments_and_blanks,
+    "long_comments": long_comments,
+    "long_number": lambda _: b"loadI %s8 => r1\n" % (b"0" * (MOST_BYTES - 14)),
+    "loads": lambda _: b"load r0 => r1\n" * MOST_OPERATIONS,
+    "stores": lambda _: b"store r1 => r0\n" * MOST_OPERATIONS,
+    "stores_and_loads": lambda _: b"store r1 => r0\nload r0 => r2\n" * (MOST_OPERATIONS // 2),
+    "sums": lambda _: b"".join(b"addI r0, %d => r%d\n" % (number, number + 1) for number in range(MOST_OPERATIONS)),
+}
 
 
 def make(folder, only=()):
     """Makes the inputs, or those of the names in `only`, one at a time: gives the name and the path of each."""
-    for maker in MAKERS:
-        if only and maker.__name__ not in only:
-            continue
-        yield maker.__name__, measure.stored(os.path.join(folder, f"{maker.__name__}.iloc"), maker(Draw()))
+    for name in (name for name in MAKERS if not only or name in only):
+        yield name, measure.stored(os.path.join(folder, f"{name}.iloc"), MAKERS[name](Draw()))
 
 
 if __name__ == "__main__":

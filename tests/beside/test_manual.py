@@ -6,7 +6,7 @@ import subprocess
 from harness.place import COMMAND, Place
 from harness.program import SECONDS, TESTED, TOP
 from harness.terminal import terminal
-from limits import MAX_NUMBER, MOST_BLOCKS, MOST_BYTES, MOST_OPERATIONS
+from language import MAX_NUMBER, MOST_BLOCKS, MOST_BYTES, MOST_OPERATIONS
 
 PAGE = f"{TOP}/man/ilocfarm.1"
 LITERAL = re.compile(r"^\.Bd -literal.*\n((?:(?!\.Ed).*\n)*)\.Ed\n", re.MULTILINE)

@@ -10,7 +10,7 @@ from bench import measure
 from cases.test_stored import CASES, read
 from harness.program import ALL, SECONDS, TESTED, Run, ending, folder, listed, refused, stored, told
 from harness.suite import Check, table
-from limits import MOST_BLOCKS, MOST_BYTES
+from language import MOST_BLOCKS, MOST_BYTES
 
 FIRST = read(f"{CASES}/first.in", b"")
 ROWS = (b"[ loadI 1024 => r0 ; loadI 7 => r1 ]\n[ store r1 => r0 ; nop ]\n" + b"[ nop ; nop ]\n" * 4

@@ -2,9 +2,9 @@
 import random
 from functools import partial
 
-from forms import USUAL
 from harness.program import listed
 from harness.suite import table
+from language import USUAL
 from oracle.drawn import made_block
 from oracle.graph import OPENING, cluster
 from oracle.machine import fault_place, row_text, words_from

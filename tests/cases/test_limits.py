@@ -1,7 +1,7 @@
 """Inputs at the limits, which are too long to store."""
 from harness.program import listed, refused
 from harness.suite import table
-from limits import MOST_BLOCKS, MOST_BYTES, MOST_OPERATIONS, WORDS
+from language import MOST_BLOCKS, MOST_BYTES, MOST_OPERATIONS, WORDS
 
 DIGITS = 1_000_000
 

@@ -1,7 +1,7 @@
 """What `lint` says of wrong lines, one by one; its hints; and its texts at the limits."""
 from harness.program import TOP, ending, told
 from harness.suite import Case, rows_of, table
-from limits import MOST_BLOCKS, MOST_BYTES, MOST_OPERATIONS
+from language import MOST_BLOCKS, MOST_BYTES, MOST_OPERATIONS
 
 # So many faults are listed.
 MOST_LISTED = 1000

@@ -6,10 +6,9 @@ import re
 import time
 
 from cases.test_drawn import comparison, comparison_table, unsearched
-from forms import USUAL
-from harness.program import TESTED, ending
+from harness.program import TESTED, ending, unlike
 from harness.suite import Check, table
-from limits import MOST_OPERATIONS
+from language import MOST_OPERATIONS, USUAL
 from oracle.drawn import lab_block
 from oracle.operations import Op, text_of, words_for
 from oracle.optimum import fewest, odd_latencies, small_block
@@ -60,9 +59,8 @@ def compared(blocks, latencies, sought, words):
     """Where `compare` lists anything but these bounds and best cycles beside the orders', in lines or in a table."""
     for due, form in ((comparison(blocks, latencies, sought), []),
                       (comparison_table(blocks, latencies, sought), ["--csv"])):
-        end = ending(["compare", *words, *words_for(latencies), *form], text_of(blocks))
-        if end != (0, due, b""):
-            yield f"{[[*map(str, ops)] for ops in blocks]}, {words}, {latencies}: {end} in place of {due}"
+        got = ending(["compare", *words, *words_for(latencies), *form], text_of(blocks))
+        yield from unlike(f"{text_of(blocks)}, {words}, {latencies}", got, (0, due, b""))
 
 
 def exact_beside_orders(count):
@@ -98,9 +96,8 @@ def checked(count):
         words = ["--nodes", "1000", *words_for(latencies)]
         given = text_of(blocks) + listing_of(blocks, latencies)[1]
         for due, form in ((verdicts(found), []), (verdict_objects(found, read(given)), ["--json"])):
-            end = ending(["check", "--lawful", *words, *form], given)
-            if end != (0, due, b""):
-                yield f"{[[*map(str, ops)] for ops in blocks]}, {latencies}: {end} in place of {due}"
+            got = ending(["check", "--lawful", *words, *form], given)
+            yield from unlike(f"{given}, {latencies}", got, (0, due, b""))
 
 
 def numbers_of(ours, best, bound, least):

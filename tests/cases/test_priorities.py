@@ -4,10 +4,9 @@ import random
 import re
 
 from cases.test_drawn import comparison_of, listing, table_of
-from forms import USUAL
-from harness.program import TESTED, Run, ending, folder, listed, stored, told
+from harness.program import TESTED, Run, ending, folder, listed, stored, told, unlike
 from harness.suite import Check, table
-from limits import MOST_BYTES
+from language import MOST_BYTES, USUAL
 from oracle.drawn import made_block
 from oracle.operations import text_of, words_for
 from oracle.scheduler import ORDERS, Schedule
@@ -93,8 +92,7 @@ def wrong_among(latencies, seeds):
         for words, listed_by in ((chance.choice(RANKED), ranked_by), (compare, compared_by)):
             got = ending([*words, *more], text_of(blocks))
             due = (0, listed_by(words, blocks, latencies, numbers), b"")
-            if got != due:
-                yield f"{' '.join(words)}, seed {seed}: {told(got)} in place of {told(due)}"
+            yield from unlike(f"{' '.join(words)}, seed {seed}", got, due)
 
 
 def with_own(listed_plainly, by):

@@ -6,7 +6,7 @@ import subprocess
 import unittest
 
 from cases import test_stored
-from harness.program import SECONDS, ending, needs
+from harness.program import SECONDS, ending, needs, unlike
 from harness.suite import Check, table
 from oracle.judge import ENTRY, NOT_SAME
 from oracle.reader import read
@@ -59,8 +59,7 @@ def checked():
                for entry, claim in zip(found, claims, strict=True)]
         text = "".join(",".join(row) + "\n" for row in [CHECK_HEAD, *due])
         got = ending(["check", "--csv", *words], JUDGED)
-        if got != (status, text.encode(), b""):
-            yield f"{got} in place of {text!r}"
+        yield from unlike(f"{words}", got, (status, text.encode(), b""))
         if [*csv.reader(io.StringIO(got[1].decode()), strict=True)] != [CHECK_HEAD, *due]:
             yield f"{got[1]} is read as something else"
 

@@ -65,6 +65,11 @@ def told(end):
     return f"status {status}, {short(out, 120)}, {short(err, 120)}"
 
 
+def unlike(what, got, due):
+    """What is wrong where a run ended otherwise than it must."""
+    return [] if got == due else [f"{what}: {told(got)} in place of {told(due)}"]
+
+
 class Run(Case):
     """How the program ends with these words on this input. `None` for an output is some text."""
 

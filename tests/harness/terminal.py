@@ -25,10 +25,8 @@ class Terminal:
 
     def until(self, line):
         """Waits until this is the line that was written last."""
-        def is_there():
-            return self.lines()[-1] == line
         try:
-            until(line, is_there)
+            until(line, lambda: self.lines()[-1] == line)
         except AssertionError:
             raise AssertionError(f"the terminal shows {self.lines()!r}, and not {line!r}") from None
 

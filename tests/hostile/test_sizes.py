@@ -7,9 +7,9 @@ import resource
 
 from bench import inputs, measure
 from bench.measure import contents
-from harness.program import COMMANDS, TESTED, ending, folder, stored, told
+from harness.program import COMMANDS, TESTED, ending, folder, stored, told, unlike
 from harness.suite import Check, table
-from limits import MOST_BLOCKS, MOST_BYTES, MOST_OPERATIONS
+from language import MOST_BLOCKS, MOST_BYTES, MOST_OPERATIONS
 from oracle.judge import NOT_SAME
 from oracle.printed import printed
 from oracle.reader import NO_SUCH_BLOCK
@@ -209,8 +209,7 @@ def wrong_of_part(part):
     longest = max(len(block) for block in re.split(rb"(?m)^\w*:", part))
     if longest < 10_000 or b"\n" not in part:
         for command in COMMANDS:
-            if (got := ending([command], part)) != (due := printed(command, part)):
-                yield f"{command} of the part: {told(got)} in place of {told(due)}"
+            yield from unlike(f"{command} of the part", ending([command], part), printed(command, part))
         return
     ran, checked = printed("run", part), ending(["check", "--lawful"], part + ending(["schedule"], part)[1])
     if ending(["run"], part) != ran or ending(["simulate"], part) != ran or checked[0] != 0:

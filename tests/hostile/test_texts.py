@@ -3,7 +3,7 @@ import random
 import re
 
 from cases.test_lint import WRONG
-from harness.program import COMMANDS, TESTED, ending, told
+from harness.program import COMMANDS, TESTED, ending, unlike
 from harness.suite import Check, table
 from oracle.odd import odd_text
 from oracle.printed import printed
@@ -74,11 +74,9 @@ def wrong_among(command, texts):
     """Where the program ends otherwise than it must; and where the texts are all of one kind."""
     statuses = set()
     for text in texts:
-        got = ending([command], text)
         due = printed(command, text)
         statuses.add(due[0])
-        if got != due:
-            yield f"{text!r}: {told(got)} in place of {told(due)}"
+        yield from unlike(repr(text), ending([command], text), due)
     print(f"{command}: {len(texts)} texts")
     if statuses != {0, 1}:
         yield f"the texts end with the statuses {statuses} in place of 0 and 1"

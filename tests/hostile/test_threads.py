@@ -5,9 +5,9 @@ import resource
 import shutil
 
 from bench import inputs
-from harness.program import ALL, ALONE, FARMED, TESTED, ending, folder, told
+from harness.program import ALL, ALONE, FARMED, TESTED, ending, folder, told, unlike
 from harness.suite import Check, table
-from limits import MOST_OPERATIONS
+from language import MOST_OPERATIONS
 from refusals.refuser import Asked, refusing
 from refusals.test_program import NO_WORKER, long_text
 
@@ -36,9 +36,7 @@ def same_bytes(command, given=TINY, runs=RUNS, **how):
     if due[0] != 0 or not due[1]:
         yield f"one worker: {told(due)}"
     for number in range(1, runs + 1):
-        got = ending([command, *by(8)], given, **how)
-        if got != due:
-            yield f"run {number}: {told(got)} in place of {told(due)}"
+        yield from unlike(f"run {number}", ending([command, *by(8)], given, **how), due)
 
 
 def as_many_as_asked(command):
@@ -107,8 +105,7 @@ def little_stack(command):
     for block in (chained, loose):
         block = handed_in(command, block)
         due = ending([command], block)
-        got = ending([command], block,
-                           preexec_fn=lambda: resource.setrlimit(resource.RLIMIT_STACK, (STACK, STACK)))
+        got = ending([command], block, preexec_fn=lambda: resource.setrlimit(resource.RLIMIT_STACK, (STACK, STACK)))
         if got != due or due[0] != 0 or not due[1]:
             yield f"{told(got)} in place of {told(due)}"
 

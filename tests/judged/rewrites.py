@@ -2,10 +2,9 @@
 operations, each with a register of its own, and gives such operations, or None where it finds nothing to do."""
 from functools import partialmethod
 
-from forms import ROLES
 from judged.labs import Known
 from judged.students import may_fault, named, needed
-from limits import WORDS
+from language import ROLES, WORDS
 from oracle.machine import COMPUTED
 from oracle.operations import Op
 

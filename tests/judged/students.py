@@ -1,7 +1,7 @@
 """Schedules as students hand them in. Each kind is a function of a source of chance and a block with our schedule of it
 (labs.Given), and gives rows, or None where there is nothing of its kind to do."""
 from judged.labs import put, scheduled
-from limits import MAX_NUMBER, WORDS
+from language import MAX_NUMBER, WORDS
 from oracle.machine import COMPUTED
 from oracle.operations import Op
 from oracle.scheduler import pairs_of

@@ -6,7 +6,7 @@ from harness.program import TESTED, Run, ending, stored, told
 from harness.suite import Check, table
 from judged.labs import Given, scheduled
 from judged.students import WRONG, own_names, registers_reused
-from limits import MAX_NUMBER
+from language import MAX_NUMBER
 from oracle import alike
 from oracle.judge import ENTRY, proposed
 from oracle.machine import bad_row, row_text

@@ -3,10 +3,10 @@ tries to change the task, or to pass without solving it, doesn't pass."""
 import os
 from pathlib import Path
 
-from harness.program import TOP, Run, ending, folder, stored, told
+from harness.program import TOP, Run, ending, folder, stored, told, unlike
 from harness.suite import Check, table
 from judged.test_rows import LISTED, SAME, UNLIKE, VERDICTS, WORDS, spread
-from limits import MOST_BYTES
+from language import MOST_BYTES
 from oracle.reader import NO_SUCH_BLOCK
 
 ROW_STARTS = ("[", "block ", "cycles", "total")
@@ -70,8 +70,7 @@ def as_together(text):
     task, rows = (part.encode("latin-1") for part in parts(text))
     together = ending(WORDS, text.encode("latin-1"))
     apart = ending([*WORDS, "--task", stored("task.iloc", task)], rows)
-    if apart != together:
-        yield f"{text!r}: {told(apart)} in place of {told(together)}"
+    yield from unlike(repr(text), apart, together)
 
 
 def all_as_together():

@@ -4,13 +4,13 @@ import random
 import re
 from pathlib import Path
 
-from forms import USUAL
-from harness.program import TESTED, TOP, ending, stored, told
+from harness.program import TESTED, TOP, ending, stored, told, unlike
 from harness.suite import Check, table
 from judged.labs import Given
 from judged.students import longer_waits, one_a_row, other_priorities, ours, own_names, units_exchanged
 from judged.test_apart import CLASS, parts
 from judged.test_rows import SAME, UNLIKE, VERDICTS, spread
+from language import USUAL
 from oracle.drawn import lab_block, made_block
 from oracle.judge import proposed
 from oracle.operations import text_of, words_for
@@ -35,15 +35,13 @@ def own_blocks():
         yield text_of([lab_block(chance) for _ in range(4)])
 
 
-def own_as_ours():
-    """Our own listing is explained, byte for byte, as our schedules are."""
+def own_as_ours(*words):
+    """Our own listing is explained, or traced, byte for byte, as our schedules are."""
     for block in own_blocks():
         for more in ([], ["--load", "2", "--mult", "7"]):
-            due = ending(["explain", *more], block)
             rows = ending(["schedule", *more], block)[1]
-            got = ending(["explain", "--task", stored("own.iloc", block), *more], rows)
-            if got != due:
-                yield f"{block!r}: {told(got)} in place of {told(due)}"
+            got = ending([*words, "--task", stored("own.iloc", block), *more], rows)
+            yield from unlike(repr(block), got, ending([*words, *more], block))
 
 
 def below(out):
@@ -86,20 +84,17 @@ def class_as_checked():
         if status in (PASSED, FAILED):
             yield from as_checked(task, rows)
         else:
-            ends = [ending([command, "--task", TASK], rows) for command in ("check", "explain")]
-            if ends[0] != ends[1]:
-                yield f"{name}: {told(ends[1])} in place of {told(ends[0])}"
+            yield from unlike(name, *(ending([command, "--task", TASK], rows) for command in ("explain", "check")))
 
 
-def in_either_slot():
-    """Rows that can be issued only with their slots exchanged are explained so if that is asked for."""
+def in_either_slot(command, said, issued):
+    """Rows that can be issued only with their slots exchanged are taken so if that is asked for."""
     task, rows = b"loadI 4 => r0\nload r0 => r1\n", b"[ loadI 4 => r0 ; nop ]\n[ nop ; load r0 => r1 ]\n"
-    file = stored("either.iloc", task)
-    refused = ending(["explain", "--task", file], rows)
-    if refused[0] != FAILED or b"  row 1: [ nop ; load r0 => r1 ]: a load or store on unit 1\n" not in refused[1]:
-        yield told(refused)
-    taken = ending(["explain", "--task", file, "--either-slot"], rows)
-    if taken[0] != PASSED or b"1 cycle 1 unit 0 " not in taken[1]:
+    words = [command, "--task", stored("either.iloc", task)]
+    refused = said % b"  row 1: [ nop ; load r0 => r1 ]: a load or store on unit 1\n"
+    yield from unlike("refused", ending(words, rows), (FAILED, b"block 1 -\n" + refused, b""))
+    taken = ending([*words, "--either-slot"], rows)
+    if taken[0] != PASSED or issued not in taken[1]:
         yield told(taken)
 
 
@@ -139,10 +134,11 @@ def left_by_drawn_rows():
 
 
 def explained_cases():
-    yield Check("explained/own_as_ours", own_as_ours)
+    yield Check("explained/own_as_ours", own_as_ours, "explain")
     yield Check("explained/rows_as_checked", rows_as_checked)
     yield Check("explained/class_as_checked", class_as_checked)
-    yield Check("explained/in_either_slot", in_either_slot)
+    yield Check("explained/in_either_slot", in_either_slot, "explain", b"  not lawful\n%stotal 6\n",
+                b"\n1 cycle 1 unit 0 ready 1 ")
     yield Check("explained/left_by_drawn_rows", left_by_drawn_rows)
 
 

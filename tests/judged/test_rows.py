@@ -3,10 +3,9 @@ import re
 from pathlib import Path
 from typing import NamedTuple
 
-from forms import USUAL
-from harness.program import TOP, Run, ending, told
+from harness.program import TOP, Run, ending, told, unlike
 from harness.suite import Check, plain, rows_of, table
-from limits import MOST_BLOCKS, MOST_BYTES, MOST_OPERATIONS
+from language import MOST_BLOCKS, MOST_BYTES, MOST_OPERATIONS, USUAL
 from oracle.book import MOST_FACTS
 from oracle.judge import ENTRY, NOT_SAME, entries_of, operations_of, status_of, total
 from oracle.machine import row_text, words_from
@@ -304,8 +303,7 @@ def other_statuses():
             is_kept = keeps or "--operations" not in words
             due = status_of([verdict], "--lawful" in words) if is_kept else NOT_SAME, out, err
             passed |= {(verdict, keeps, got[0] == 0)}
-            if got != due:
-                yield f"{given!r}: {told(got)} with {words} in place of {told(due)}"
+            yield from unlike(f"{given!r} with {words}", got, due)
     if not passed >= {("same", True, True), ("same", False, False), ("lawful", True, True)}:
         yield f"no more than {passed} were tried"
 
@@ -321,10 +319,8 @@ def outputs_alone():
             yield f"{given!r}: {told((status, out, err))}"
             continue
         yield from entry.wrong(got, is_right=verdict == "same" and not entry.void)
-        both = ending([*WORDS, "--outputs", "--lawful"], given)
         due = status_of([got[3].decode()], lawful=True), out, err
-        if both != due:
-            yield f"{given!r}: {told(both)} in place of {told(due)}"
+        yield from unlike(repr(given), ending([*WORDS, "--outputs", "--lawful"], given), due)
 
 
 def refused(name, text, fault):

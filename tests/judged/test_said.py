@@ -1,8 +1,8 @@
 """What is said of rows that aren't by the book: the memory that refutes them, wherever inputs lie, and why."""
-from forms import USUAL
 from harness.program import TOP, ending, told
 from harness.suite import Check, table
 from judged.students import slots_of, with_slot
+from language import USUAL
 from oracle.judge import NOT_SAME, proposed, wrong_ending
 from oracle.machine import keeps_units
 from oracle.reader import read

@@ -4,12 +4,12 @@ from functools import cache
 
 from cases.test_drawn import ODD
 from cases.test_stored import stored_cases
-from forms import USUAL
 from harness.program import TESTED, ending, told
 from harness.suite import Check, table
 from hostile.test_texts import KINDS, changed_texts
 from judged.labs import Given
 from judged.students import RIGHT, WRONG, ours
+from language import USUAL
 from oracle.drawn import lab_block, made_block
 from oracle.judge import ENTRY, NOT_SAME, proposed, request, wrong_ending
 from oracle.machine import cycles

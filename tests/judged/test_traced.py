@@ -3,13 +3,14 @@ rows that aren't traced."""
 import random
 import re
 
-from forms import USUAL
-from harness.program import TESTED, TOP, ending, stored, told
+from harness.program import TESTED, ending, stored, told
 from harness.suite import Check, table
 from judged.students import RIGHT, WRONG
 from judged.test_apart import parts
+from judged.test_explained import in_either_slot, own_as_ours
 from judged.test_rows import LISTED
 from judged.test_students import EACH_LATENCIES, LINES, WORDS, given_blocks, ours
+from language import USUAL
 from oracle.drawn import made_block
 from oracle.judge import AT, proposed
 from oracle.machine import bad_row, bad_row_text, words_from
@@ -60,17 +61,6 @@ def of_kind(kind):
             yield from wrongly_traced(blocks, rows, latencies)
 
 
-def as_scheduled():
-    """Our own listing is traced, byte for byte, as our schedules are."""
-    for name in ("first", "book", "dot", "faults", "class/dan"):
-        with open(f"{TOP}/examples/{name}.iloc", "rb") as file:
-            block = file.read()
-        due = ending(["trace", "3", "4"], block)
-        got = ending(["trace", "3", "4", "--task", stored("own.iloc", block)], ending(["schedule"], block)[1])
-        if got != due:
-            yield f"{name}: {told(got)} in place of {told(due)}"
-
-
 def as_checked(text):
     """A row that isn't traced has the line that `check` has for it."""
     task, rows = (part.encode("latin-1") for part in parts(text))
@@ -93,23 +83,14 @@ def rows_as_checked():
         yield from as_checked(LINES[:end].decode("latin-1"))
 
 
-def in_either_slot():
-    task, rows = b"loadI 4 => r0\nload r0 => r1\n", b"[ loadI 4 => r0 ; nop ]\n[ nop ; load r0 => r1 ]\n"
-    words = ["trace", "--task", stored("either.iloc", task)]
-    refused, taken = ending(words, rows), ending([*words, "--either-slot"], rows)
-    if refused != (FAILED, b"block 1 -\n  row 1: [ nop ; load r0 => r1 ]: a load or store on unit 1\n", b""):
-        yield told(refused)
-    if taken[0] != PASSED or b"issue 1 unit 0 load r0 => r1 reads r0 = 4, word 4 = 0\n" not in taken[1]:
-        yield told(taken)
-
-
 def traced_cases():
     yield Check("traced/drawn", drawn)
     for kind in (*RIGHT, *WRONG):
         yield Check(f"traced/students/{kind.__name__}", of_kind, kind)
-    yield Check("traced/as_scheduled", as_scheduled)
+    yield Check("traced/own_as_ours", own_as_ours, "trace", "3", "4")
     yield Check("traced/rows_as_checked", rows_as_checked)
-    yield Check("traced/in_either_slot", in_either_slot)
+    yield Check("traced/in_either_slot", in_either_slot, "trace", b"%s",
+                b"\nissue 1 unit 0 load r0 => r1 reads r0 = 4, word 4 = 0\n")
 
 
 load_tests = table(traced_cases)

@@ -291,14 +291,9 @@ class Fails(Repository):
 
     def test_output(self):
         with open("/dev/full", "wb") as full:
-            started = self.start("run")
-            script = [f"{self.top}/ilocfarm", "run"]
-            given = {"PATH": f"{self.folder}/bin:{self.folder}/tools", "TEST": self.folder}
-            ran = subprocess.run(script, stdin=subprocess.DEVNULL, stdout=full, stderr=subprocess.PIPE, text=True,
-                                 env=given)
-            started.communicate("", timeout=SECONDS)
-        self.assertEqual(ran.returncode, 125)
-        self.assertRegex(ran.stderr, r"\nilocfarm: standard output can't be written\n\Z")
+            status, _, err = self.ran("run", stdin=subprocess.DEVNULL, stdout=full)
+        self.assertEqual(status, 125)
+        self.assertRegex(err, r"\nilocfarm: standard output can't be written\n\Z")
 
     def test_no_place_for_files(self):
         nowhere = {"env": {"TMPDIR": f"{self.folder}/nowhere"}}

@@ -44,8 +44,7 @@ fn main(rt: HostRuntime) -> io::Result<()> {
     def test_readme_on_a_fresh_clone(self):
         """Where nothing is built each command of the README prints what is shown below it."""
         shown = [example for example in shown_on("README.md") if "./ilocfarm " in example[0]]
-        started = [subprocess.Popen(["bash", "-c", command], cwd=self.clone(number), stdin=subprocess.DEVNULL,
-                                    stdout=subprocess.PIPE, stderr=subprocess.PIPE, text=True)
+        started = [self.process("bash", "-c", command, cwd=self.clone(number), stdin=subprocess.DEVNULL)
                    for number, (command, _) in enumerate(shown)]
         self.assertTrue(started)
         for (command, below), run in zip(shown, started):

@@ -2,5 +2,5 @@
 import os
 import sys
 
-# The table of forms is the product's own (charts/forms.py).
+# How operations are written and the limits are the product's own tables (charts/language.py).
 sys.path.append(os.path.join(os.path.dirname(os.path.dirname(os.path.dirname(os.path.abspath(__file__)))), "charts"))

@@ -1,7 +1,7 @@
 """Blocks with many operations that are alike, and rows for them."""
 from itertools import product
 
-from forms import ROLES
+from language import ROLES
 from oracle.operations import Op
 
 # The opcodes of which a block is drawn.

@@ -1,6 +1,5 @@
-"""Blocks that are drawn: of any operations, and as students get them."""
-from forms import FORMS, ROLES
-from limits import MAX_NUMBER
+"""Blocks that are drawn: of any operations, as students get them, and with addresses that are often the same."""
+from language import FORMS, MAX_NUMBER, ROLES
 from oracle.operations import Op
 
 FREE = ("add", "sub", "mult", "lshift", "rshift")
@@ -53,3 +52,23 @@ def lab_block(chance):
         else:
             add(chance.choice(FREE), chance.choice(values[-3:]), chance.choice(values), target, fresh=values)
     return [*ops, *(Op("output", [1024 + 4 * place]) for place in chance.sample(range(6), chance.randrange(4)))]
+
+
+def aliasing_block(chance):
+    """A block whose few addresses meet: constants, sums and loaded words, with constants added, also past 2 ** 32.
+    Some blocks fault, and now and then a base is a register that nobody defined."""
+    registers = range(chance.choice([3, 5, 8]))
+    ops = chance.choice([[], [Op("loadI", [1024, 0]), Op("load", [0, 1])]])
+    for _ in range(chance.choice([6, 12, 24])):
+        base, value, target = (chance.choice(registers) for _ in range(3))
+        place = 4 * chance.randrange(3) if chance.random() < 0.96 else chance.choice([2, MAX_NUMBER, MAX_NUMBER - 3])
+        ops.append(Op(*chance.choices(
+            [("loadI", [chance.choice([0, 4, 1024, 1028, MAX_NUMBER - 3, MAX_NUMBER - 7]), target]),
+             (chance.choice(["addI", "subI"]), [base, place, target]),
+             (chance.choice(FREE), [base, value, target]),
+             (chance.choice(["multI", "lshiftI", "rshiftI"]), [base, chance.choice([0, 1, 2, 33]), target]),
+             ("load", [base, target]), ("loadAI", [base, place, target]),
+             ("store", [value, base]), ("storeAI", [value, base, place]),
+             ("output", [chance.choice([0, 1024]) + place % 1024])],
+            [3, 3, 1, 1, 2, 4, 2, 5, 3])[0]))
+    return [*ops, *(Op("output", [place]) for place in chance.sample([0, 4, 8, 1024, 1028, 1032], chance.randrange(4)))]

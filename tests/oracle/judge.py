@@ -11,7 +11,7 @@ import re
 from functools import cache
 
 from harness.program import ending, told
-from limits import WORDS
+from language import WORDS
 from oracle import book
 from oracle.machine import Fault, Machine, bad_row, bad_row_text, cycles, difference, memories, row_text, words_from
 from oracle.operations import text_of, words_for

@@ -1,5 +1,5 @@
 """What blocks and rows of operations do on a memory: run plainly, and on the timed machine with its two units."""
-from limits import WORDS
+from language import WORDS
 
 MASK = 0xFFFF_FFFF
 UNITS = {"load": (0,), "store": (0,), "mult": (1,)}     # those that take a kind; any other goes on both

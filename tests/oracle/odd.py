@@ -1,7 +1,7 @@
 """Texts that are drawn: good ones, bad ones and nearly good ones."""
 import re
 
-from forms import FORMS
+from language import FORMS
 
 OPCODES = [*FORMS]
 NUMBERS = ["0", "1", "4", "31", "1024", "65532", "65536", "214748364", "2147483647", "2147483648", "2147483650",

@@ -1,10 +1,13 @@
 """Operations, by their opcodes and numbers."""
-from forms import ROLES, SPELLED, kind_of
+from language import ROLES, SPELLED
+
+# By opcode the one that is to the machine the same; any other is its own.
+KINDS = {"loadAI": "load", "storeAI": "store", "multI": "mult"}
 
 
 class Op:
     def __init__(self, opcode, numbers):
-        self.opcode, self.numbers, self.roles, self.kind = opcode, [*numbers], ROLES[opcode], kind_of(opcode)
+        self.opcode, self.numbers, self.roles, self.kind = opcode, [*numbers], ROLES[opcode], KINDS.get(opcode, opcode)
         self.used, self.defined, constants = ([n for n, had in zip(numbers, self.roles) if had == role]
                                               for role in "udc")
         self.constant = constants[0] if constants else None

@@ -1,10 +1,10 @@
 """The fewest cycles that a lawful schedule of a small block takes: by trying all rows, one after another."""
 from functools import lru_cache
 
+from language import ROLES
 from oracle.drawn import made_block
 from oracle.operations import Op
 from oracle.scheduler import befores_of, beside
-from forms import ROLES
 
 ENOUGH = 9
 CROWDED = ["load", "loadAI", "store", "storeAI", "mult", "output", "add"]

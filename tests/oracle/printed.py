@@ -1,5 +1,5 @@
 """What `run`, `simulate`, `schedule` and `counts` print, at the usual latencies and on a memory of zeros."""
-from forms import USUAL
+from language import USUAL
 from oracle.machine import outcome, row_text, signed
 from oracle.reader import Reader, Refused
 from oracle.scheduler import Schedule

@@ -2,8 +2,7 @@
 import re
 from dataclasses import dataclass, field
 
-from forms import FORMS
-from limits import MAX_NUMBER, MOST_BLOCKS, MOST_BYTES, MOST_OPERATIONS
+from language import FORMS, MAX_NUMBER, MOST_BLOCKS, MOST_BYTES, MOST_OPERATIONS
 from oracle.operations import Op
 
 BLANKS = b" \t\r"

@@ -1,7 +1,7 @@
 """What `trace` lists of rows, each value looked up among all that was issued before."""
 from typing import NamedTuple
 
-from limits import WORDS
+from language import WORDS
 from oracle.machine import MASK, Fault, Machine, signed
 
 LONGEST = 16        # cycles that a latency may have

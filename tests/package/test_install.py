@@ -33,12 +33,6 @@ def files_below(folder):
     return {os.path.relpath(f"{at}/{name}", folder) for at, _, names in os.walk(folder) for name in names}
 
 
-def folders_above(name):
-    """Of `a/b/c` it is `a` and `a/b`."""
-    while name := os.path.dirname(name):
-        yield name
-
-
 def dead_links(folder):
     """The links of pages to what isn't there."""
     for page in sorted(name for name in files_below(folder) if name.endswith(".md")):
@@ -77,7 +71,7 @@ class Install(Place):
         wanted = {form.format(name) for form in FORMS for name in COMMANDS} | set(ALONE)
         wanted |= {f"{at}/{name}" for folder, at in WHOLE.items() for name in files_below(f"{TOP}/{folder}")}
         self.expect("files", sorted(files_below(self.path("a prefix"))), sorted(wanted))
-        wanted |= {f"{at}/" for name in wanted for at in folders_above(name)}
+        wanted |= {f"{at}/" for name in wanted for at in Path(name).parents if at.name}
         self.expect("the list", self.text("a prefix/share/ilocfarm/installed").splitlines(), sorted(wanted))
         self.expect("dead links", list(dead_links(self.path("a prefix/share/doc/ilocfarm"))), [])
         for made, source in (("bin/ilocfarm", TESTED.program), ("share/man/man1/ilocfarm.1", "man/ilocfarm.1"),

@@ -1,4 +1,5 @@
-"""docs/PROMISES.md has for each crate what its sources promise (promises.py), and README names calls that are there."""
+"""docs/PROMISES.md has for each crate what its sources promise (promises.py), README names calls that are there, and
+charts/tables.json is what crates/iloc_tables prints (its stdout, which ./build --all compares)."""
 import re
 import unittest
 
@@ -10,6 +11,9 @@ class Promises(unittest.TestCase):
         for crate, why in faults():
             with self.subTest(crate):
                 self.assertFalse(why)
+
+    def test_tables(self):
+        self.assertEqual(read(f"{TOP}/charts/tables.json"), read(f"{TOP}/crates/iloc_tables/stdout"))
 
     def test_readme(self):
         """Each contract that README's table names is a row of the page, in the section of its crate."""

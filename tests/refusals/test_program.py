@@ -11,9 +11,9 @@ No growth that was refused is done without. So a body that tries again where it 
 from dataclasses import dataclass, field
 
 from bench import inputs
-from forms import USUAL
 from harness.program import ALONE, FARMED, TESTED, ending, stored, told
 from harness.suite import Check, table
+from language import USUAL
 from oracle.judge import proposed
 from oracle.reader import read
 from oracle.scheduler import Schedule

@@ -26,8 +26,8 @@ pub enum VerdictKind {
 }
 
 impl VerdictKind {
-    /// The word that is listed.
-    pub(crate) fn word(self) -> &'static str
+    /// Promise: the word that is listed.
+    pub fn word(self) -> &'static str
         ensures { result.now ≡ listed.kind_word self }
     {
         match self {
