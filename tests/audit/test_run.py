@@ -119,13 +119,10 @@ class Audit(Repository):
         self.edit("returns_another", "wrong")
         self.edit("returns_nothing", "unanswered")
         self.edit("returns_what_is_far", "searched")
-        status, lines = self.status_and_lines()
-        self.expect("status", status, 0)
-        self.expect("lines", lines, [f"refused high/returns_another: {GOAL.strip()}",
-                                *(f"refused high/{name}: {SAID[said][0].splitlines()[0]}"
-                                  for name, said in (("returns_nothing", "unanswered"),
-                                                     ("returns_what_is_far", "searched"))),
-                                "3 passed, 0 failed"])
+        others = ("returns_nothing", "unanswered"), ("returns_what_is_far", "searched")
+        lines = [f"refused high/{name}: {SAID[said][0].splitlines()[0]}" for name, said in others]
+        self.expect("ending", self.status_and_lines(),
+                    (0, [f"refused high/returns_another: {GOAL.strip()}", *lines, "3 passed, 0 failed"]))
         checks = self.asked("checked")
         self.expect("checks, each first without edits", len(checks), 6)
         for word in ("--crate-name high", f"--extern low={self.path('top')}/crates/low/out/rlib/low.rlib", "--only f",
@@ -137,9 +134,8 @@ class Audit(Repository):
         self.edit("makes_it_right", "other", old="wrong")
         self.edit("keeps_it_wrong", "unanswered", old="wrong")
         status, lines = self.status_and_lines()
-        self.expect("status", status, 1)
-        self.expect("first line", lines[0], "FAILED high: it isn't proved without edits")
-        self.expect("last line", lines[-1], "0 passed, 2 failed")
+        self.expect("ending", (status, lines[0], lines[-1]),
+                    (1, "FAILED high: it isn't proved without edits", "0 passed, 2 failed"))
 
     def test_the_gate_s_alone(self):
         """In a crate that the gate has proved, which isn't checked once more."""
@@ -159,10 +155,8 @@ class Audit(Repository):
         self.expect("the gate", self.status_and_lines("--gate"), (0, [*goals, "2 passed, 0 failed"]))
         self.expect("checks", ["--only f --only g" in line for line in self.asked("checked")], [True])
         self.edit("fourth", "other", **GATES, **OF_G)
-        status, lines = self.status_and_lines("--gate")
-        self.expect("status with one more of a function", status, 1)
-        self.expect("lines", lines,
-                    [goals[0], "FAILED high/fourth: it is still proved", goals[1], "2 passed, 1 failed"])
+        lines = [goals[0], "FAILED high/fourth: it is still proved", goals[1], "2 passed, 1 failed"]
+        self.expect("with one more of a function", self.status_and_lines("--gate"), (1, lines))
         self.expect("checks", len(self.asked("checked")), 3)
         self.status_and_lines()
         self.expect("checks of all, first without edits", len(self.asked("checked")), 7)
@@ -232,9 +226,8 @@ class Audit(Repository):
                 self.edit("bad", body, **how)
                 self.edit("good", "wrong")
                 status, lines = self.status_and_lines("high")
-                self.expect("status", status, 1)
-                self.expect("what is said", sorted(lines)[1], f"FAILED high/bad: {why}")
-                self.expect("last line", lines[-1], "1 passed, 1 failed")
+                self.expect("ending", (status, sorted(lines)[1], lines[-1]),
+                            (1, f"FAILED high/bad: {why}", "1 passed, 1 failed"))
 
     def test_other_forms(self):
         for name, (text, why) in OTHER_FORMS.items():

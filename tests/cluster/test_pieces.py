@@ -40,18 +40,20 @@ class Pieces(Place):
         """Cuts the file `blocks`, and gives the number of pieces."""
         return int(self.printed("cluster/split", "blocks", "pieces", *options))
 
-    def run_piece(self, number, *words, program="ilocfarm"):
-        return self.call("cluster/job", "pieces", program, *words, PIECE=str(number))[0]
+    def run_pieces(self, *numbers, words=("counts",), program="ilocfarm"):
+        """The statuses of their runs."""
+        return [self.call("cluster/job", "pieces", program, *words, PIECE=str(number))[0] for number in numbers]
+
+    def split_each(self, text=b"a: nop\nb: nop\nc: nop\n"):
+        """Cuts a text into its blocks."""
+        self.write("blocks", text)
+        return self.split("--blocks", "1")
 
     def join(self):
         return self.call("cluster/join", "pieces")
 
-    def stored(self):
-        return sorted(os.listdir(self.path("pieces")))
-
     def joined_is_one_run(self, words, count):
-        for number in range(1, count + 1):
-            self.run_piece(number, *words)
+        self.run_pieces(*range(1, count + 1), words=words)
         status, out, err = self.call("ilocfarm", *words, given=self.read("blocks"))
         got_status, got, said = self.join()
         self.expect(f"{words} of {count} pieces", (got_status, got, b"".join(said.splitlines(True)[:1])),
@@ -88,38 +90,33 @@ class Pieces(Place):
         count, joined = self.split("--blocks", "2"), set()
         for command in self.commands():
             for option in [[], *self.options_of(command)]:
-                for number in range(1, count + 1):
-                    self.run_piece(number, command, *option)
+                self.run_pieces(*range(1, count + 1), words=(command, *option))
                 ended = self.join()
                 if ended[0] == 3:
-                    self.expect(f"{command} {option} is refused by its name", (ended[1], command.encode() in ended[2]),
-                                (b"", True))
+                    self.expect(f"{command} {option}", (ended[1], command.encode() in ended[2]), (b"", True))
                 else:
-                    self.expect(f"{command} {option}", ended,
-                                self.call("ilocfarm", command, *option, given=self.read("blocks")))
+                    due = self.call("ilocfarm", command, *option, given=self.read("blocks"))
+                    self.expect(f"{command} {option}", ended, due)
                     joined.add((command, *option[:1]))
         self.expect("joined without an option", {words[0] for words in joined if len(words) == 1}, JOINED)
         self.expect("tables", {words[0] for words in joined if words[1:] == ("--csv",)}, {"counts", "compare"})
 
     def test_cuts_before_labels_alone(self):
-        self.write("blocks", b"nop // a:\n// b:\n\t c \t: nop\n\n//d:\nnop\re: nop\n f :\r")
-        self.expect("pieces", self.split("--blocks", "1"), 3)
+        pieces = [b"nop // a:\n// b:\n", b"\t c \t: nop\n\n//d:\nnop\re: nop\n", b" f :\r"]
+        self.expect("pieces", self.split_each(b"".join(pieces)), 3)
         self.expect("index", self.read("pieces/index"), b"1 1 1\n2 3 1\n3 7 1\n")
-        self.expect("piece 1", self.read("pieces/1.iloc"), b"nop // a:\n// b:\n")
-        self.expect("piece 2", self.read("pieces/2.iloc"), b"\t c \t: nop\n\n//d:\nnop\re: nop\n")
-        self.expect("piece 3", self.read("pieces/3.iloc"), b" f :\r")
+        self.expect("each", [self.read(f"pieces/{number}.iloc") for number in (1, 2, 3)], pieces)
 
     def test_comments_first(self):
-        self.write("blocks", b"// what follows\n\n \r\na: nop\nb: nop\n")
-        self.expect("pieces", self.split("--blocks", "1"), 2)
+        self.expect("pieces", self.split_each(b"// what follows\n\n \r\na: nop\nb: nop\n"), 2)
         self.expect("index", self.read("pieces/index"), b"1 1 1\n2 5 1\n")
         self.joined_is_one_run(["counts"], 2)
 
     def test_nothing(self):
         self.write("blocks", b"")
         self.expect("pieces", self.split(), 1)
-        self.joined_is_one_run(["counts"], 1)
-        self.joined_is_one_run(["run"], 1)
+        for command in "counts", "run":
+            self.joined_is_one_run([command], 1)
 
     def test_from_a_pipe(self):
         self.expect("pieces", self.shell("cluster/split <(printf 'a: nop\\nb:') pieces --blocks 1"), (0, b"2\n"))
@@ -127,10 +124,8 @@ class Pieces(Place):
 
     def test_more_than_one_run_takes(self):
         self.write("blocks", b"a: loadI 1 => r1\n" * 70_000)
-        count = self.split()
-        self.expect("pieces", count, 2)
-        for number in (1, 2):
-            self.expect("status", self.run_piece(number, "counts"), 0)
+        self.expect("pieces", self.split(), 2)
+        self.expect("statuses", self.run_pieces(1, 2), [0, 0])
         lines = [b"block %d a cycles 1\n" % number for number in range(1, 70_001)]
         self.expect("joined", self.join(), (0, b"".join(lines) + b"total 70000\n", b""))
 
@@ -139,52 +134,41 @@ class Pieces(Place):
         self.write("blocks", block * 3)
         self.expect("pieces", self.split(), 3)
         self.write("blocks", b"a: nop\nb: // " + b"-" * 16_777_216 + b"\nc:\n")
-        status, out, err = self.call("cluster/split", "blocks", "more")
-        self.expect("split", (status, out), (1, b""))
-        self.expect("said", err,
-                    b"cluster/split: the block from line 2 on has more than 16777216 bytes, which no run takes\n")
+        said = b"cluster/split: the block from line 2 on has more than 16777216 bytes, which no run takes\n"
+        self.expect("split", self.call("cluster/split", "blocks", "more"), (1, b"", said))
         self.expect("folder", os.path.exists(self.path("more")), False)
 
-    def two_blocks(self, text=b"a: nop\nb: nop\nc: nop\n"):
-        self.write("blocks", text)
-        return self.split("--blocks", "1")
-
     def test_missing_pieces(self):
-        self.write("blocks", b"a: nop\n" * 7)
-        self.expect("pieces", self.split("--blocks", "1"), 7)
-        for number in (2, 6):
-            self.run_piece(number, "counts")
+        self.expect("pieces", self.split_each(b"a: nop\n" * 7), 7)
+        self.run_pieces(2, 6)
         self.expect("joined", self.join(), (3, b"", b"cluster/join: not run to their end: 1,3-5,7\n"))
 
     def test_failed_piece(self):
-        self.two_blocks()
+        self.split_each()
         self.script("failing",
                     "#!/bin/sh\n[ $PIECE != 2 ] || { echo ilocfarm: out of memory >&2; exit 3; }\nexec ilocfarm $@\n")
-        self.expect("statuses", [self.run_piece(number, "counts", program="./failing") for number in (1, 2, 3)],
-                    [0, 3, 0])
+        self.expect("statuses", self.run_pieces(1, 2, 3, program="./failing"), [0, 3, 0])
         self.expect("joined", self.join(), (3, b"", b"cluster/join: piece 2 ended with 3: ilocfarm: out of memory\n"))
 
     def test_killed_piece(self):
-        self.two_blocks()
+        self.split_each()
         self.script("killed",
                     '#!/bin/sh\n[ $PIECE != 2 ] || { echo block 1; kill -KILL $PPID; exit 1; }\nexec ilocfarm "$@"\n')
-        for number in (1, 2, 3):
-            self.run_piece(number, "counts", program="./killed")
+        self.run_pieces(1, 2, 3, program="./killed")
         self.expect("joined", self.join(), (3, b"", b"cluster/join: not run to their end: 2\n"))
-        self.expect("status", self.run_piece(2, "counts"), 0)
+        self.expect("status", self.run_pieces(2), [0])
         self.expect("joined", self.join(), self.call("ilocfarm", "counts", given=self.read("blocks")))
 
     def test_other_words(self):
-        self.two_blocks()
-        for number in (1, 2):
-            self.run_piece(number, "counts")
-        self.run_piece(3, "counts", "--load", "1")
+        self.split_each()
+        self.run_pieces(1, 2)
+        self.run_pieces(3, words=("counts", "--load", "1"))
         self.expect("joined", self.join(), (3, b"", b"cluster/join: piece 3 was run as ['counts', '--load', '1'], "
                                                 b"and piece 1 as ['counts']\n"))
 
     def test_broken_pieces(self):
         """A file that was changed or cut is no listing, and its piece is named."""
-        self.two_blocks()
+        self.split_each()
         for name, text, said in (
                 ("2.result/status", b"", b"not run to their end: 2"),
                 ("2.result/out", b"", b"piece 2 has 1 blocks, and its listing others"),
@@ -194,19 +178,17 @@ class Pieces(Place):
                  b"the pieces' last lines differ: total 0, .."),
                 ("index", b"1 1 1\n2 x 1\n", b"pieces/index: line 2 is none that cluster/split writes"),
                 ("index", b"", b"pieces/index: line 1 is none that cluster/split writes")):
-            for number in (1, 2, 3):
-                self.run_piece(number, "counts")
+            self.run_pieces(1, 2, 3)
             self.write(f"pieces/{name}", text)
             self.expect(name, self.join(), (3, b"", b"cluster/join: " + said + b"\n"))
 
     def test_first_fault(self):
         """The first fault decides, whatever became of the pieces after it."""
-        self.two_blocks(b"a: nop\n// b\nb: nop\nadd\nc: add\n")
-        for number in (1, 2):
-            self.run_piece(number, "counts")
+        self.split_each(b"a: nop\n// b\nb: nop\nadd\nc: add\n")
+        self.run_pieces(1, 2)
         said = b"ilocfarm: line 4: not understood\ncluster/join: this is line 2 of pieces/2.iloc\n"
         self.expect("joined", self.join(), (1, b"", said))
-        self.run_piece(3, "counts")
+        self.run_pieces(3)
         self.expect("joined", self.join(), (1, b"", said))
 
     def test_mistakes(self):
@@ -220,4 +202,4 @@ class Pieces(Place):
         for words in (["split", "blocks", "pieces"], ["split", "none", "more"], ["join", "none"]):
             status, out, err = self.call(f"cluster/{words[0]}", *words[1:])
             self.expect(f"{words}", (status, out, err.startswith(f"cluster/{words[0]}: ".encode())), (4, b"", True))
-        self.expect("nothing was made", self.stored(), ["1.iloc", "index"])
+        self.expect("nothing was made", sorted(os.listdir(self.path("pieces"))), ["1.iloc", "index"])

@@ -1,19 +1,19 @@
 """A class made anew: tasks, hand-ins of each kind of student, and what the oracle says of them."""
 import random
 from functools import cache
+from itertools import cycle
 
-from forms import USUAL
 from judged.labs import Given
 from judged.students import RIGHT, WRONG
+from language import USUAL
 from oracle.drawn import lab_block
-from oracle.judge import AT, MEMORIES, Entry, operations_of, proposed, why_void
+from oracle.judge import AT, MEMORIES, Entry, operations_of, why_void
 from oracle.machine import memories, outcome, signed, words_from
 from oracle.operations import Op, text_of
 from oracle.reader import Block
 from oracle.scheduler import Schedule
 
 SIZES = (8, 10, 12, 16, 20, 24, 30, 36, 48, 64, 96, 130)
-STUDENTS = 61
 
 
 class Made:
@@ -71,17 +71,10 @@ def handed_in(made, kind, number):
     return made.given.rows if rows is None else rows
 
 
-KINDS = (*RIGHT, *WRONG, constants, of_another_task)
-
-
-def students():
-    """By name a kind."""
-    return {f"{k:02} {KINDS[k % len(KINDS)].__name__}": KINDS[k % len(KINDS)] for k in range(STUDENTS)}
+# By name the kind of rows that a student hands in.
+STUDENTS = {f"{number:02} {kind.__name__}": kind
+            for number, kind in zip(range(61), cycle((*RIGHT, *WRONG, constants, of_another_task)))}
 
 
 def keeps_operations(made, rows):
     return operations_of(made.ops) == operations_of(op for row in rows for op in row if op)
-
-
-def text(rows, claim=None):
-    return proposed(1, "B1", rows, claim)

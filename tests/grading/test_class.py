@@ -6,22 +6,36 @@ from grading import classes
 from harness.place import Place
 from harness.program import TOP
 from harness.suite import rows_of
+from oracle.judge import proposed
 
-BOTH = "examples/class/tasks"
+BOTH, CLASS = "examples/class/tasks", "examples/class/submissions"
+BEST = ("ada", "dan", "fay")
 # Options, and the points of ada (lawful, 16 cycles as ours and the least), dan (same, 15) and fay (lawful, 21).
-POLICIES = (
-    ((), (10, 10, 7.62)), (("--policy", "pass"), (10, 10, 10)), (("--policy", "least"), (10, 10, 7.62)),
-    (("--policy", "best"), (9.38, 10, 7.14)), (("--per-cycle", "1"), (10, 10, 5)),
-    (("--per-cycle", "0.5", "--points", "4"), (4, 4, 2)), (("--per-cycle", "2", "--floor", "0"), (10, 10, 0)),
-    (("--floor", "1"), (10, 10, 10)), (("--points", "0"), (0, 0, 0)), (("--require", "lawful"), (10, 0, 7.62)),
-    (("--require", "outcome"), (10, 10, 7.62)), (("--penalty", "3"), (10, 10, 7.62)),
-    (("--check=--store=4",), (9.38, 10, 7.14)))
+POLICIES = {
+    "": (10, 10, 7.62), "--policy pass": (10, 10, 10), "--policy least": (10, 10, 7.62),
+    "--policy best": (9.38, 10, 7.14), "--per-cycle 1": (10, 10, 5), "--per-cycle 0.5 --points 4": (4, 4, 2),
+    "--per-cycle 2 --floor 0": (10, 10, 0), "--floor 1": (10, 10, 10), "--points 0": (0, 0, 0),
+    "--require lawful": (10, 0, 7.62), "--require outcome": (10, 10, 7.62), "--penalty 3": (10, 10, 7.62),
+    "--check=--store=4": (9.38, 10, 7.14)}
 
 
 class Graded(Place):
     """A place with a class."""
 
-    def grade(self, *words, tasks="tasks", submissions="submissions"):
+    def rows(self, name="ada"):
+        """What somebody of the class of the examples hands in."""
+        return self.read(f"{CLASS}/{name}/both.rows")
+
+    def hand_in(self, name, data, file="both.rows"):
+        self.write(f"submissions/{name}/{file}", data)
+
+    def is_running(self, argument):
+        return self.call("pgrep", "-f", argument)[0] == 0
+
+    def feedback(self, name):
+        return self.text(f"grades/feedback/{name}/feedback.txt").splitlines()
+
+    def grade(self, *words, tasks=BOTH, submissions="submissions"):
         """Status and what is said; the gradebook by name."""
         status, out, err = self.call("ilocgrade", tasks, submissions, "--pictures", "none", *words)
         return status, out + err, self.book() if os.path.exists(self.path("grades")) else {}
@@ -30,9 +44,9 @@ class Graded(Place):
         """Hands in for these tasks, one student in so many: name, task, kind and rows of each hand-in."""
         for made in tasks:
             self.write(f"tasks/{made.name}.iloc", made.text())
-            for number, (name, kind) in [*enumerate(classes.students().items())][::step]:
+            for number, (name, kind) in [*enumerate(classes.STUDENTS.items())][::step]:
                 rows = classes.handed_in(made, kind, number)
-                self.write(f"submissions/{name}/{made.name}.rows", classes.text(rows, number if number % 3 else None))
+                self.hand_in(name, proposed(1, "B1", rows, number if number % 3 else None), f"{made.name}.rows")
                 yield name, made, kind, rows
 
     def book(self):
@@ -47,8 +61,8 @@ class Class(Graded):
         for name, made, kind, rows in self.class_of(classes.tasks()):
             due[name, made.name] = kind in classes.RIGHT, classes.keeps_operations(made, rows), *made.judged(rows)
         for required in "operations", "outcome":
-            status, said, book = self.grade("--require", required)
-            self.expect("status", (status, len(book)), (0, classes.STUDENTS))
+            status, _, book = self.grade("--require", required, tasks="tasks")
+            self.expect("status", (status, len(book)), (0, len(classes.STUDENTS)))
             for (name, task), (is_right, keeps, passes, points) in due.items():
                 got, verdict = float(book[name][task]), book[name][f"{task} verdict"]
                 if passes or is_right and (keeps or required == "outcome"):
@@ -59,34 +73,29 @@ class Class(Graded):
                     self.expect(f"{name} {task} {verdict} gets no more than a right one", got in (0, points), True)
 
     def test_policies(self):
-        for words, points in POLICIES:
-            status, said, book = self.grade(*words, tasks=BOTH, submissions="examples/class/submissions")
-            self.expect(f"{words}", (status, tuple(float(book[name]["total"]) for name in ("ada", "dan", "fay"))),
-                        (0, points))
-            self.expect(f"{words}: the others",
-                        {float(book[name]["total"]) for name in ("ben", "cem", "eve", "gus", "hal", "jan")}, {0})
+        for words, points in POLICIES.items():
+            status, _, book = self.grade(*words.split(), submissions=CLASS)
+            got = {name: float(line["total"]) for name, line in book.items() if name != "ivy"}
+            self.expect(words, (status, got), (0, {**dict.fromkeys(got, 0), **dict(zip(BEST, points))}))
 
     def test_roster(self):
         """Everybody of the roster is in the gradebook, with nothing handed in too, and everybody who handed in."""
         for roster in (b"\xef\xbb\xbfStudent,Section\r\nzoe,1\r\nada,2", b"zoe\n\nada\n"):
             self.write("roster.csv", roster)
-            status, _, book = self.grade("--roster", "roster.csv", tasks=BOTH, submissions="examples/class/submissions")
+            status, _, book = self.grade("--roster", "roster.csv", submissions=CLASS)
             self.expect("gradebook", (status, len(book), book["zoe"]["both verdict"], book["ada"]["total"]),
                         (0, 11, "missing", "10"))
 
     def test_pages(self):
         """Each drawn hand-in that is traced has the page that charts/page makes of its listings, and a link to it."""
         for words in (), ("--load=6",):
-            self.call("ilocgrade", BOTH, "examples/class/submissions", *(f"--check={word}" for word in words))
+            self.call("ilocgrade", BOTH, CLASS, *(f"--check={word}" for word in words))
+            task, of_rows = f"{BOTH}/both.iloc", (*words, "--task", f"{BOTH}/both.iloc", "3", "4")
             for name in "ben", "eve":
+                listings = self.listings(("graph", *words), given=self.read(task))
+                listings += self.listings(("trace", *of_rows), ("check", *of_rows), given=self.rows(name))
                 page = f"feedback/{name}/both.html"
-                rows = self.read(f"examples/class/submissions/{name}/both.rows")
-                of_rows = "--task", f"{BOTH}/both.iloc", "3", "4"
-                listings = [self.call("ilocfarm", "graph", *words, given=self.read(f"{BOTH}/both.iloc"))[1]]
-                listings += [self.call("ilocfarm", command, *words, *of_rows, given=rows)[1]
-                             for command in ("trace", "check")]
-                self.expect(f"{name}'s page", self.read(f"grades/{page}"),
-                            self.call("charts/page", given=b"".join(listings))[1])
+                self.expect(f"{name}'s page", self.read(f"grades/{page}"), self.printed("charts/page", given=listings))
                 self.expect(f"{name}'s link", f'href="{page}"' in self.text("grades/report.html"), True)
             for name in ("cem", "gus") if words else ("ada", "cem", "gus"):     # with --load=6 hers is wrong too
                 self.expect(f"{name}'s page", os.path.exists(self.path(f"grades/feedback/{name}/both.html")), False)
@@ -96,9 +105,11 @@ class Class(Graded):
         self.shell("mkdir empty open faults two unread shows input twice; chmod 777 open; ln -s two link;"
                    "echo output 1 > faults/a.iloc; echo output > unread/a.iloc; echo 'loadI 1 => r1' > shows/a.iloc;"
                    "printf 'a: output 4\\nb: output 8\\n' > two/a.iloc; echo output 4 | tee twice/a.i > twice/a.iloc;"
-                   "printf '//SIM INPUT: -r 1\\noutput 4\\n' > input/a.iloc")
+                   "printf '//SIM INPUT: -r 1\\noutput 4\\n' > input/a.iloc;"
+                   "mkdir -p moodle/Ann_{1,2}_assignsubmission_file; echo 'Name;ID;Grade x' > site.csv;"
+                   "printf 'name,late\\nAnn,soon 1\\n' > late.csv; printf 'ID,Grade\\n1\\n2,\\n' > short.csv")
         for line, status, said in rows_of(f"{TOP}/tests/grading/statuses.tsv"):
-            line = line.replace("TASKS", BOTH).replace("CLASS", "examples/class/submissions")
+            line = line.replace("TASKS", BOTH).replace("CLASS", CLASS)
             got, told = self.shell(f"ilocgrade --pictures none {line}")
             self.expect(f"{line}: {told}", (got, said in told.decode(), b"Traceback" in told),
                         (int(status), True, False))

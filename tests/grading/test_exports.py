@@ -1,87 +1,145 @@
-"""A class as a course's site exports it, and its table with the points of each filled in."""
-from grading.exports import NO_POINTS, POINTS, SIZE, Canvas, GitHub, Gradescope, Moodle, everybody
+"""A class of 120 as a course's site exports it, and its table with the points of each filled in."""
+import random
+from dataclasses import dataclass
+
 from grading.test_class import BOTH, Graded
 
+FIRST = ("Ann", "José", "李", "Mary Jane", "O'Neil", "=1+1", "Zoë")
+LAST = ("Adams", "de la Cruz", "Łukasz", "X", "Smith-Jones")
+POINTS = {"ada": "10", "ben": "0", "fay": "7.62", "": "0"}      # of examples/class, or nothing is handed in
 DUE = ("--due", "2026-11-20T23:59+00:00")
-# The words beside --merge for each site; by default all comes from the export.
-SITES = {Canvas: (), Gradescope: DUE, GitHub: (*DUE, "--late", "site.csv"), Moodle: ("--late", "site.csv")}
+
+
+class One:
+    def __init__(self, number, first, last):
+        self.number, self.first, self.last, self.name = number, first, last, f"{first} {last}"
+        self.kind, self.is_late, self.attempt = [*POINTS][number % 4], number % 5 == 0, 1 + number % 3
+        self.id, self.user = f"{9000 + number}", f"u-{number}" if number % 2 else f"user{number}"
+        self.short = "".join(letter for letter in f"{last}{first}".lower() if letter.isalnum())
+        self.history = "".join(f"\n  - :id: {k}" for k in range(1, self.attempt)) or " []"
+
+
+CHANCE = random.Random(1)
+STUDENTS = [One(number, CHANCE.choice(FIRST), CHANCE.choice(LAST)) for number in range(120)]    # with names in common
+
+
+@dataclass
+class Site:
+    """Formats of what a site writes about `one`; `late` is its word for who is in time and for who is late."""
+    words: tuple        # of the command, beside those for rosters and tables
+    by: str
+    column: str
+    late: tuple
+    paths: tuple        # of the rows, and of what is beside them
+    head: str           # of the table
+    line: str
+    last: str = ""
+    about: str = ""     # of a submission
+
+    def format(self, text, one, **more):
+        return text.format(one=one, late=self.late[one.is_late], **more)
+
+    def files(self, one, rows):
+        """Paths with what is there. An attempt whose file isn't the last one's is wrong."""
+        for attempt in range(1, one.attempt + 1):
+            for path, data in zip(self.paths, (rows if attempt == one.attempt else b"[ nop ]\n", b"", b"")):
+                yield self.format(path, one, attempt=attempt, again=f"-{attempt - 1}" * (attempt > 1)), data
+
+    def table(self, points):
+        lines = "".join(self.format(self.line, one, points=points[one.kind]) for one in STUDENTS)
+        return self.head + lines + self.last
+
+
+SITES = {
+    # Files of all in one folder; a later attempt has a number. Its table has lines that are no students.
+    "canvas": Site(
+        (), "ID", "Lab 3 (4711)", ("", "LATE_"), ("{one.short}_{late}{one.id}_7700{attempt}_both{again}.rows",),
+        "Student,ID,SIS User ID,SIS Login ID,Section,Lab 3 (4711),Lab 4 (4712)\r\n"
+        "    Points Possible,,,,,10.00,(read only)\r\n",
+        '"{one.last}, {one.first}",{one.id},s{one.id},{one.user},A;1,{points},3\r\n', '"Student, Test",77,,,A,,\r\n'),
+    # A folder a submission, and a file of YAML that says whose.
+    "gradescope": Site(
+        DUE, "SID", "Score", ("20", "21"), ("submission_33{one.number:04}/both.rows",),
+        "First Name,Last Name,SID,Email,Score\n", "{one.first},{one.last},{one.id},{one.user}@x.edu,{points}\n",
+        about="""\
+submission_33{one.number:04}:
+  :submitters:
+  - :name: "{one.name}"
+    :sid: '{one.id}'
+    :email: {one.user}@x.edu
+  :created_at: 2026-11-{late} 22:59:00.000000000 Z
+  :score: 0.0
+  :status: processed
+  :history:{one.history}
+"""),
+    # A repository a student, with a folder for what is handed in.
+    "github": Site(
+        (*DUE, "--late", "site.csv"), "github_username", "points_awarded", ("20", "21"),
+        ("lab3-{one.user}/rows/both.rows", "lab3-{one.user}/.git/config", "lab3-{one.user}/README.md"),
+        '"roster_identifier","github_username","submission_timestamp","points_awarded"\r\n',
+        '"{one.id}","{one.user}","2026-11-{late} 22:59:00 UTC","{points}"\r\n'),
+    # A folder a student; its table has a mark of bytes, semicolons, and words for how late.
+    "moodle": Site(
+        ("--late", "site.csv"), "Identifier", "Grade", ("", " - 23 hours 59 mins late"),
+        ("{one.name}_{one.id}_assignsubmission_file/Both.ROWS",
+         "{one.name}_{one.id}_assignsubmission_onlinetext/onlinetext.html"),
+        "\ufeffIdentifier;Full name;Status;Grade;Feedback comments\r\n",
+        'Participant {one.id};{one.name};Submitted for grading{late};{points};"two\nlines"\r\n')}
 
 
 class Exports(Graded):
-    def export(self, site, students):
-        for student in students:
-            if student.kind:
-                rows = self.read(f"examples/class/submissions/{student.kind}/both.rows")
-                for path, data in site.files(student, rows):
-                    self.write(f"export/{path}", data)
-        handed_in = [student for student in students if student.kind]
-        for path, text in site.more(handed_in).items() if hasattr(site, "more") else ():
-            self.write(f"export/{path}", text)
+    def export(self, site):
+        for student in (student for student in STUDENTS if student.kind):
+            for path, data in site.files(student, self.rows(student.kind)):
+                self.write(f"export/{path}", data)
+        if site.about:
+            about = (site.format(site.about, student) for student in STUDENTS if student.kind)
+            self.write("export/submission_metadata.yml", "---\n" + "".join(about))
         self.write("export/__MACOSX/._both.rows", b"")
-        self.write("site.csv", site.table(students, NO_POINTS))
+        self.write("site.csv", site.table(dict.fromkeys(POINTS, "")))
 
     def test_sites(self):
-        """One command: each student of each export has the right points, days and attempt, and the site's table with
-        one column filled."""
-        students = everybody()
-        for site, words in SITES.items():
-            with self.subTest(site.__name__):
+        """By one command each student has the right points, days and attempt, and the table one column filled."""
+        for name, site in SITES.items():
+            with self.subTest(name):
                 self.shell("rm -rf export grades")
-                self.export(site, students)
-                status, said, book = self.grade("--roster", "site.csv", "--by", site.by, "--merge", "site.csv",
-                                                "--column", site.column, *words, tasks=BOTH, submissions="export")
-                self.expect(f"status: {said}", status, 0)
-                self.expect("said", f"{SIZE // 4} on the roster submitted nothing:" in said.decode(), True)
-                self.expect("read", f"export is read by --layout {site.__name__.lower()}" in said.decode(), True)
-                self.expect("students", len(book), SIZE)
-                self.compare(site, students, book)
+                self.export(site)
+                words = "--roster", "site.csv", "--by", site.by, "--merge", "site.csv", "--column", site.column
+                status, said, book = self.grade(*words, *site.words, submissions="export")
+                self.expect(f"status: {said}", (status, len(book)), (0, len(STUDENTS)))
+                for line in "30 on the roster submitted nothing:", f"export is read by --layout {name}":
+                    self.expect(line, line in said.decode(), True)
+                self.compare(name, book)
+                self.expect("merged", self.text("grades/merged.csv"), site.table(POINTS))
 
-    def compare(self, site, students, book):
+    def compare(self, name, book):
         by_id = {line["id"]: line for line in book.values()}
-        for student in students:
-            line = by_id[student.id()] if site is not GitHub else book.get(student.user()) or by_id[student.user()]
-            days = str(int(student.is_late and bool(student.kind))).replace("0", "")
-            attempt = str(student.attempt) if student.kind and site in (Canvas, Gradescope) else ""
-            self.expect(f"{student}", (line["total"], line["days late"], line.get("attempt", "")),
+        for student in STUDENTS:
+            line = by_id[student.id] if name != "github" else book.get(student.user) or by_id[student.user]
+            days = "1" if student.is_late and student.kind else ""
+            attempt = f"{student.attempt}" if student.kind and name in ("canvas", "gradescope") else ""
+            self.expect(f"{student.name}", (line["total"], line["days late"], line.get("attempt", "")),
                         (POINTS[student.kind], days, attempt))
-        self.expect("merged", self.text("grades/merged.csv"), site.table(students, POINTS))
 
     def test_tables(self):
         """Whom two lines name is filled nowhere, which is said; what a table lacks is said before anybody is graded."""
-        rows = self.read("examples/class/submissions/ada/both.rows")
-        for path in "Ann X_1_assignsubmission_file", "Ann X_2_assignsubmission_file", "=1+1_3_assignsubmission_file":
-            self.write(f"export/{path}/both.rows", rows)
+        for name in "Ann X_1", "Ann X_2", "=1+1_3":
+            self.write(f"export/{name}_assignsubmission_file/both.rows", self.rows())
         text = '\ufeffName;ID;"Grade ""x"""\r\nAnn X;1;\r\n"Ann X";2;?\r\n=1+1;"3";"?"\r\n\r\n'
         self.write("site.csv", text)
         for by, lines in (("Name", 'Ann X;1;\r\n"Ann X";2;?\r\n'), ("id", 'Ann X;1;10\r\n"Ann X";2;10\r\n')):
-            status, said, _ = self.grade("--merge", "site.csv", "--by", by, "--column", 'Grade "x"', tasks=BOTH,
-                                         submissions="export")
+            words = "--merge", "site.csv", "--by", by, "--column", 'Grade "x"'
+            status, said, _ = self.grade(*words, submissions="export")
             self.expect(f"{by}: {said}", (status, said.count(b"Ann X is more than one")), (0, 2 * (by == "Name")))
             self.expect(by, self.text("grades/merged.csv"), text[:text.index("Ann")] + lines + '=1+1;"3";"10"\r\n\r\n')
-        self.write("late.csv", "name,late\nAnn X,soon 1\n")
-        self.write("short.csv", "ID,Grade\n1\n2,\n")
-        for words, why in (
-                (("--merge", "site.csv", "--by", "ID", "--column", "Grad"),
-                 "site.csv: there is no column Grad; there is Name, ID, Grade"),
-                (("--roster", "site.csv", "--by", "Id No"), "site.csv: there is no column Id No; there is Name, ID,"),
-                (("--late", "late.csv"), "late.csv: soon 1 is neither days nor a time after --due"),
-                (("--merge", "short.csv", "--by", "ID", "--column", "Grade"),
-                 "short.csv: 1 row too short to be filled"),
-                (("--layout", "gradescope"), "submission_metadata.yml")):
-            status, said, _ = self.grade(*words, tasks=BOTH, submissions="export")
-            self.expect(f"{words}: {said}", (status, why in said.decode(), b"Traceback" in said), (3, True, False))
 
     def test_attempts(self):
         """The last attempt counts, in whatever order files are; a task's own number is none."""
-        rows = self.read("examples/class/submissions/ada/both.rows")
         for name in "lab-1", "lab":
             self.write(f"tasks/{name}.iloc", self.read(f"{BOTH}/both.iloc"))
-        for number, (name, data) in enumerate({"lab-1.rows": rows, "lab-1-10.rows": rows, "lab-1-9.rows": b"",
-                                               "lab.rows": rows}.items()):
-            self.write(f"export/annx_7_{number}_{name}", data)
-        book = self.grade(submissions="export")[2]["annx"]
+        for number, name in enumerate(("lab-1.rows", "lab-1-10.rows", "lab-1-9.rows", "lab.rows")):
+            self.write(f"export/annx_7_{number}_{name}", b"" if name == "lab-1-9.rows" else self.rows())
+        book = self.grade(tasks="tasks", submissions="export")[2]["annx"]
         self.expect("points", (book["lab-1"], book["lab"], book["attempt"], book["id"]), ("10", "10", "11", "7"))
-        notes = [line
-                 for line in self.text("grades/feedback/annx/feedback.txt").splitlines() if line.startswith("Note")]
-        self.expect("notes", notes,
+        self.expect("notes", [line for line in self.feedback("annx") if line.startswith("Note")],
                     [f"Note: lab-1.rows of attempt {k} isn't counted, but that of attempt 11." for k in (1, 10)])

@@ -29,14 +29,9 @@ def written(rows, form):
     return [FORMS[form](number, *("" if op is None else str(op) for op in row)) for number, row in enumerate(rows)]
 
 
-def logged(lines, chance):
-    """Lines among those of a log."""
-    return [text for line in lines for text in (*chance.sample(LOGS, chance.randrange(3)), line)]
-
-
 class Lenient(Graded):
-    def hand_in(self, student, lines, coding="utf-8", end="\n"):
-        self.write(f"submissions/{student}/a.rows", end.join([*lines, ""]).encode(coding))
+    def hand_in_text(self, student, lines, coding="utf-8", end="\n"):
+        self.hand_in(student, end.join([*lines, ""]).encode(coding), "a.rows")
 
     def test_forms(self):
         """No right schedule loses by a form, nor by what is round it."""
@@ -47,10 +42,13 @@ class Lenient(Graded):
                 chance = random.Random(group)
                 rows = classes.handed_in(made, RIGHT[group % len(RIGHT)], group)
                 for form in FORMS:
-                    self.hand_in(f"{group:03} {form}", written(rows, form))
-                self.hand_in(f"{group:03} log", logged(written(rows, chance.choice([*FORMS])), chance))
-                self.hand_in(f"{group:03} mark", written(rows, "bare"), ("utf-8-sig", "utf-16")[group % 2], "\r\n")
-            status, _, book = self.grade("--lenient", "--require", "outcome")
+                    self.hand_in_text(f"{group:03} {form}", written(rows, form))
+                lines = written(rows, chance.choice([*FORMS]))
+                log = [text for line in lines for text in (*chance.sample(LOGS, chance.randrange(3)), line)]
+                self.hand_in_text(f"{group:03} log", log)
+                coding = "utf-16" if group % 2 else "utf-8-sig"
+                self.hand_in_text(f"{group:03} mark", written(rows, "bare"), coding, "\r\n")
+            status, _, book = self.grade("--lenient", "--require", "outcome", tasks="tasks")
             self.expect("status", (status, len(book)), (0, len(groups) * (len(FORMS) + 2)))
             for name, line in book.items():
                 self.expect(f"{made.name} {name}", [*line.values()][1:], [*book[f"{name[:3]} plain"].values()][1:])

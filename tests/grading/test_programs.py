@@ -3,16 +3,15 @@ import ctypes
 import os
 import re
 import shlex
-import shutil
 import socket
-import subprocess
-import threading
+from concurrent.futures import ThreadPoolExecutor
+from pathlib import Path
 
 from grading import classes
 from grading.test_class import BOTH, Graded
 from harness.program import TESTED, TOP, needs, needs_bubblewrap
 
-ADA = "examples/class/submissions/ada/both.rows"
+PROGRAM = ("--program", "./schedule")
 WARNING = "Without walls any program may have falsified marks, and read and written what its user may."
 NOBODY = 65534
 TO_NOBODY = ["setpriv", "--reuid", f"{NOBODY}", "--regid", f"{NOBODY}", "--clear-groups"]
@@ -24,8 +23,10 @@ def cases(text):
     return {name: case for names, *case in found for name in names.split(", ")}
 
 
-def is_running(argument):
-    return subprocess.run(["pgrep", "-f", argument], capture_output=True).returncode == 0
+def groups(name):
+    """The words after each `##` in a file, with the cases below."""
+    parts = re.split("^## (.*)\n", Path(f"{TOP}/tests/grading/{name}.cases").read_text("utf-8"), flags=re.MULTILINE)
+    return [(shlex.split(words), cases(text)) for words, text in zip(parts[1::2], parts[2::2])]
 
 
 class Programs(Graded):
@@ -39,27 +40,22 @@ class Programs(Graded):
         needs("setpriv", "prlimit", "taskset", "unshare", "pgrep", "/usr/bin/python3")
         self.user = [] if self.is_root or os.geteuid() else TO_NOBODY
         self.addCleanup(self.shell, "rm -rf submissions")       # of any depth
-        os.mkdir(self.path("open"))
-        for name, mode in ("", 0o755), ("open", 0o777):
-            os.chmod(self.path(name), mode)
-        if self.user:
-            os.chown(self.folder, NOBODY, NOBODY)
+        self.shell("chmod 755 .; mkdir -m 777 open" + f"; chown {NOBODY}:{NOBODY} ." * bool(self.user))
         needs_bubblewrap(self.user)
         if self.call(*self.user, "test", "-x", TESTED.program, "-a", "-r", f"{TOP}/grading/ilocgrade")[0]:
             self.skipTest("an ordinary user can't read the repository")
 
-    def hand_in(self, name, lines):
-        """Hands in a program, after lines that are run in its folder."""
+    def hand_in_program(self, name, lines):
+        """Hands in a program and right rows, after lines that are run in its folder."""
         self.script(f"submissions/{name}/schedule", "#!/bin/sh\n" + re.sub(r"^\$ .*\n", "", lines, flags=re.MULTILINE))
-        shutil.copy(self.path(ADA), self.path(f"submissions/{name}/rows"))
+        self.hand_in(name, self.rows(), "rows")
         for line in re.findall(r"^\$ (.*)", lines, re.MULTILINE):
             self.shell(f"cd 'submissions/{name}'; {line}")
 
     def graded(self, due, command=("ilocgrade",)):
-        """Grades, of which nothing is said but the result; whoever is lawful has all points."""
-        words = [*self.user, *command, BOTH, "submissions"]
-        self.expect("status", (self.call(*words, *["--program", "./schedule"] * ("--program" not in command))[::2]),
-                    (0, b""))
+        """Grades, of which nothing is said but the result; whoever is lawful has all points, and nobody else any."""
+        words = *self.user, *command, BOTH, "submissions", *PROGRAM * ("--program" not in command)
+        self.expect("status", self.call(*words)[::2], (0, b""))
         book = self.book()
         self.shell("rm -r grades submissions")
         for name, verdict in due.items():
@@ -72,14 +68,13 @@ class ByRoot(Programs):
     def test_limits(self):
         """Who breaks a limit has no points, nobody else has less for it, and nothing is left."""
         before = set(os.listdir("/tmp"))
-        groups = re.split("^## (.*)\n", self.text(f"{TOP}/tests/grading/programs.cases"), flags=re.MULTILINE)[1:]
-        for command, text in zip(groups[::2], groups[1::2]):
-            due = cases(text)
+        core = f"{min(os.sched_getaffinity(0))}"
+        for command, due in groups("programs"):
             for name, (_, lines) in due.items():
-                self.hand_in(name, lines)
-            command = command.replace("CORE", f"{min(os.sched_getaffinity(0))}")
-            self.graded({name: verdict for name, (verdict, _) in due.items()}, shlex.split(command))
-        self.expect("left running", is_running("98765"), False)
+                self.hand_in_program(name, lines)
+            command = [core if word == "CORE" else word for word in command]
+            self.graded({name: verdict for name, (verdict, _) in due.items()}, command)
+        self.expect("left running", self.is_running("98765"), False)
         found = set(os.listdir("/tmp")) - before | set(os.listdir("/dev/shm"))
         self.expect("left behind", [name for name in found if "MARK" in name or "ilocgrade" in name], [])
 
@@ -88,8 +83,7 @@ class ByRoot(Programs):
         apart = 6 if TESTED.is_short else 1
         for name, *_ in self.class_of(classes.tasks()[::apart], apart):
             self.script(f"submissions/{name}/schedule", '#!/bin/sh\nexec cat "$(sed -n "s,^// ,,p").rows"\n')
-        books = [self.grade(*words)[2] for words in (
-            (), ("--program", "./schedule"), ("--program", "./schedule", "--unconfined"))]
+        books = [self.grade(*words, tasks="tasks")[2] for words in ((), PROGRAM, (*PROGRAM, "--unconfined"))]
         for line in (line for book in books for line in book.values()):
             for name in [name for name in line if name.endswith(" seconds")]:
                 del line[name]
@@ -97,12 +91,9 @@ class ByRoot(Programs):
 
     def attacks(self, port):
         """The attacks that reach what they are after outside of the walls; each other one isn't run."""
-        os.makedirs(self.path("outside"))
-        os.symlink(self.path("submissions/right/rows"), self.path("outside/solution"))
-        shutil.copy(self.path(f"{BOTH}/both.iloc"), self.path("outside/task.iloc"))
-        has_filter = not subprocess.run(["/usr/bin/python3", "-c", "import seccomp"], capture_output=True).returncode
-        values = {"FOLDER": self.folder, "TOP": TOP, "PROGRAM": TESTED.program, "PROCESS": f"{os.getpid()}",
-                  "PORT": f"{port}"}
+        has_filter = self.call("/usr/bin/python3", "-c", "import seccomp")[0] == 0
+        values = {"FOLDER": self.folder, "TOP": TOP, "PROGRAM": TESTED.program, "PORT": port,
+                  "PROCESS": f"{os.getpid()}"}
         for name, (kind, lines) in cases(self.text(f"{TOP}/tests/grading/attacks.cases")).items():
             lines = re.sub("|".join(values), lambda word: values[word[0]], lines)
             with self.subTest(name):
@@ -114,39 +105,34 @@ class ByRoot(Programs):
 
     def test_attacks(self):
         """What can be reached outside of the walls can't within."""
-        self.hand_in("right", f"cat {self.folder}/tools/hello || exit 1; cat rows\n")
-        self.write("tools/hello", b"")
-        self.write("old/gradebook.csv", b"")
-        shutil.copy(TESTED.program, self.path("tools/ilocfarm-2"))
+        self.hand_in_program("right", f"cat {self.folder}/tools/hello || exit 1; cat rows\n")
+        self.shell("mkdir old tools outside; touch old/gradebook.csv tools/hello;"
+                   f"cp {TESTED.program} tools/ilocfarm-2; cp {BOTH}/both.iloc outside/task.iloc;"
+                   "ln -s ../submissions/right/rows outside/solution")
         with socket.create_server(("127.0.0.1", 0)) as server:
-            tried = dict(self.attacks(server.getsockname()[1]))
+            tried = dict(self.attacks(f"{server.getsockname()[1]}"))
             for name, lines in tried.items():
-                self.hand_in(name,
-                             f"$ ln -s {self.folder}/submissions/right/rows solution\n{{ {lines}}} >&2 && cat rows\n")
+                link = f"$ ln -s {self.folder}/submissions/right/rows solution\n"
+                self.hand_in_program(name, f"{link}{{ {lines}}} >&2 && cat rows\n")
             os.remove(self.path("open/reached"))
-            self.graded({"right": "lawful", **dict.fromkeys(tried, "crashed")},
-                        ("ilocgrade", "--bind", self.path("tools")))
+            due = {"right": "lawful", **dict.fromkeys(tried, "crashed")}
+            self.graded(due, ("ilocgrade", "--bind", self.path("tools")))
         self.expect("a file outside", os.path.exists(self.path("open/reached")), False)
 
     def test_changed(self):
         """A folder that a link takes the place of meanwhile leads nowhere."""
-        self.write("secret/rows", self.read(ADA))
-        inner = [self.path(f"submissions/{number}/inner").encode() for number in range(40)]
-        for number in range(40):
-            self.hand_in(f"{number}", f"$ mkdir inner; ln -s {self.folder}/secret link\ncat inner/rows\n")
-        is_over, rename = threading.Event(), ctypes.CDLL(None).renameat2
-
-        def swap():
-            while not is_over.is_set():
+        self.write("secret/rows", self.rows())
+        names = [f"{number}" for number in range(40)]
+        inner = [self.path(f"submissions/{name}/inner").encode() for name in names]
+        for name in names:
+            self.hand_in_program(name, f"$ mkdir inner; ln -s {self.folder}/secret link\ncat inner/rows\n")
+        rename = ctypes.CDLL(None).renameat2
+        with ThreadPoolExecutor() as pool:
+            graded = pool.submit(self.graded, dict.fromkeys(names, "crashed"))
+            while not graded.done():
                 for path in inner:
                     rename(-1, path, -1, path.replace(b"inner", b"link"), 2)        # which exchanges them
-        swapping = threading.Thread(target=swap)
-        swapping.start()
-        try:
-            self.graded({f"{number}": "crashed" for number in range(40)})
-        finally:
-            is_over.set()
-            swapping.join()
+        graded.result()
 
 
 class ByUser(ByRoot):
@@ -159,25 +145,23 @@ class Unwalled(Programs):
     def setUp(self):
         super().setUp()
         self.script("bin/bwrap", "#!/bin/sh\necho 'bwrap: forbidden' >&2\nexit 1\n")
-        self.hand_in("right", "(setsid sleep 98765 &) >&-; cat rows\n")
-        self.hand_in("fails", "echo $PWD/x >&2; exit 1\n")
+        self.hand_in_program("right", "(setsid sleep 98765 &) >&-; cat rows\n")
+        self.hand_in_program("fails", "echo $PWD/x >&2; exit 1\n")
 
     def test_nothing_runs(self):
-        status, said, _ = self.grade("--program", "./schedule", tasks=BOTH)
-        self.expect("said", (status, said),
-                    (3, b"ilocgrade: programs can't be run apart: bwrap: forbidden: Debian's package "
-                     b"bubblewrap, 0.8 or later, has to be installed and allowed, or see --unconfined\n"))
+        self.expect("said", self.grade(*PROGRAM)[:2], (
+            3, b"ilocgrade: programs can't be run apart: bwrap: forbidden: Debian's package bubblewrap, 0.8 or later, "
+            b"has to be installed and allowed, or see --unconfined\n"))
         self.expect("grades", os.path.exists(self.path("grades")), False)
 
     def test_unconfined(self):
         """Programs run all the same, and that marks may be false is said wherever there are any."""
-        words = ("--program", "./schedule", "--unconfined")
-        status, said, book = self.grade(*words, tasks=BOTH)
+        words = (*PROGRAM, "--unconfined")
+        status, said, book = self.grade(*words)
         self.expect("said", (status, said.decode().splitlines()[-1]), (0, f"ilocgrade: {WARNING}"))
         self.expect("verdicts", [book[name]["both verdict"] for name in ("right", "fails")], ["lawful", "crashed"])
         self.expect("report", WARNING in self.text("grades/report.html"), True)
-        self.expect("feedback", self.text("grades/feedback/fails/feedback.txt").splitlines()[-2:],
-                    ["  It ended with status 1:", "    x"])
+        self.expect("feedback", self.feedback("fails")[-2:], ["  It ended with status 1:", "    x"])
         self.call("ilocgrade", BOTH, "submissions/right", *words, "--gradescope", "results.json")
         self.expect("results", WARNING in self.text("results.json"), True)
-        self.expect("left running", is_running("98765"), False)
+        self.expect("left running", self.is_running("98765"), False)

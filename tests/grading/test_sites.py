@@ -2,57 +2,35 @@
 import json
 import os
 import re
-import shutil
 
-from grading.test_class import BOTH, Graded
-from grading.test_programs import is_running
+from grading.test_class import BOTH, CLASS, Graded
 from harness.browser import LEAST_CONTRAST, Browser, contrast
 from harness.program import TESTED
 
-BEN = "examples/class/submissions/ben"
-# The fields of Gradescope's results.json that are written, and what each may be.
-FIELDS = {"score": float, "execution_time": float, "output": str,
-          "visibility": ("hidden", "after_due_date", "after_published", "visible"), "stdout_visibility":
-          ("hidden", "after_due_date", "after_published", "visible"), "tests": list, "leaderboard": list}
-TEST = {"score": float, "max_score": float, "status": ("passed", "failed"), "name": str, "number": str, "output": str,
-        "output_format": ("text", "html", "simple_format", "md", "ansi"), "visibility": FIELDS["visibility"]}
-BOARD = {"name": str, "value": float, "order": ("asc", "desc")}
+BEN = f"{CLASS}/ben"
 
 
 class Sites(Graded):
-    def fits(self, given, fields):
-        self.expect("fields", sorted(given), sorted(fields))
-        for name, kind in fields.items():
-            value = given[name]
-            types = (int, float) if kind is float else kind
-            is_fine = value in kind if isinstance(kind, tuple) else isinstance(value, types)
-            self.expect(f"{name}: {value!r}", is_fine, True)
-
     def test_gradescope(self):
         """results.json has the fields that Gradescope reads, and status 0 whatever the student did."""
-        for name, points, cycles in ("ada", 10, 16), ("ben", 0, 1_000_000):
-            status, out, err = self.call("ilocgrade", BOTH, f"examples/class/submissions/{name}", "--gradescope",
-                                         "results.json")
-            self.expect(f"{name}: status", (status, out, err), (0, b"", b""))
+        for name, points, said, cycles in ("ada", 10, "passed", 16), ("ben", 0, "failed", 1_000_000):
+            self.expect(name, self.printed("ilocgrade", BOTH, f"{CLASS}/{name}", "--gradescope", "results.json"), b"")
             made = json.loads(self.read("results.json"))
-            self.fits(made, FIELDS)
-            for test in made["tests"]:
-                self.fits(test, TEST)
-            for place in made["leaderboard"]:
-                self.fits(place, BOARD)
-            self.expect("points", (made["score"], made["tests"][0]["score"], made["tests"][0]["max_score"]),
-                        (points, points, 10))
-            self.expect("board", [place["value"] for place in made["leaderboard"]], [points, cycles])
-        self.expect("feedback", made["tests"][0]["output"].splitlines()[1],
-                    "Word 1 that your rows print is 3; it should be 7.")
+            seconds, output = made.pop("execution_time"), made["tests"][0].pop("output").splitlines()
+            self.expect("outputs", (type(seconds), output[0].partition(".")[0]), (float, f"both: {points} points"))
+            self.expect("results", made, {
+                "score": points, "output": f"{points // 10} of 1 tasks passed.", "visibility": "visible",
+                "stdout_visibility": "hidden", "tests": [{
+                    "name": "both", "number": "1", "score": points, "max_score": 10, "status": said,
+                    "output_format": "text", "visibility": "visible"}],
+                "leaderboard": [{"name": "points", "value": points, "order": "desc"},
+                                {"name": "cycles", "value": cycles, "order": "asc"}]})
+        self.expect("feedback", output[1], "Word 1 that your rows print is 3; it should be 7.")
 
-    def autograder(self, submission, said=b""):
+    def autograder(self, name, said=b""):
         """The results of the autograder's files in a folder as Gradescope has it."""
-        self.call("rm", "-rf", self.path("autograder"))
-        os.makedirs(self.path("autograder/source"))
-        for name, source in ("submission", submission), ("source/tasks", BOTH):
-            shutil.copytree(self.path(source), self.path(f"autograder/{name}"))
-        os.symlink(self.path("installed"), self.path("autograder/source/ilocfarm"))
+        self.shell(f"rm -rf autograder; mkdir -p autograder/source; cp -rL {CLASS}/{name} autograder/submission;"
+                   f"cp -rL {BOTH} autograder/source/tasks; ln -s $PWD/installed autograder/source/ilocfarm")
         status, _, err = self.call("grading/gradescope/run_autograder", AUTOGRADER=self.path("autograder"))
         self.expect("status", (status, err), (0, said))
         return json.loads(self.read("autograder/results/results.json"))
@@ -60,33 +38,28 @@ class Sites(Graded):
     def test_autograder(self):
         """The files that a course copies, with an installed ilocfarm; a task that can't be graded blames nobody."""
         self.call("./install", self.path("installed"), "bin/ilocfarm")
-        self.expect("score", self.autograder(BEN)["score"], 0)
-        self.expect("score", self.autograder("examples/class/submissions/ada")["score"], 10)
-        self.call("rm", self.path("installed/bin/ilocfarm"), self.path("bin/ilocfarm"))
-        made = self.autograder(BEN, b"ilocgrade: ilocfarm is not on the PATH\n")
+        self.expect("scores", [self.autograder(name)["score"] for name in ("ben", "ada")], [0, 10])
+        self.shell("rm installed/bin/ilocfarm bin/ilocfarm")
+        made = self.autograder("ben", b"ilocgrade: ilocfarm is not on the PATH\n")
         self.expect("failed", (made["score"], "no fault of yours" in made["output"]), (0, True))
 
     def test_programs_in_a_container(self):
-        """Where bubblewrap is forbidden root runs one student's program as another user, who can't read what is
-        secret."""
+        """Where bubblewrap is forbidden root runs one student's program as a user who can't read what is secret."""
         if os.geteuid():
             self.skipTest("root is needed")
         self.script("bin/bwrap", "#!/bin/sh\nexit 1\n")
-        shutil.copytree(self.path(BOTH), self.path("secret/tasks"))
-        shutil.copy(TESTED.program, self.path("secret/ilocfarm"))
-        os.chmod(self.folder, 0o755)
+        self.shell(f"mkdir secret; chmod 755 .; cp -rL {BOTH} secret; cp {TESTED.program} secret/ilocfarm")
         self.script("one/schedule",
                     f"#!/bin/sh\n(setsid sleep 87654 &) >&-; id -u >&2; cat {self.folder}/secret/*/* || cat rows\n")
-        self.write("one/rows", self.read("examples/class/submissions/ada/both.rows"))
+        self.write("one/rows", self.rows())
         words = ("ilocgrade", "secret/tasks", "one", "--program", "./schedule", "--ilocfarm", "secret/ilocfarm",
                  "--gradescope", "secret/results.json")
         status, _, said = self.call(*words)
         self.expect("not hidden", (status, b"secret/tasks can be read, which `chmod 700` prevents" in said), (3, True))
-        os.chmod(self.path("secret"), 0o700)
-        os.chmod(self.path("one"), 0o700)
+        self.shell("chmod 700 secret one")
         self.expect("status", self.call(*words), (0, b"", b""))
         self.expect("score", json.loads(self.read("secret/results.json"))["score"], 10)
-        self.expect("left running", is_running("87654"), False)
+        self.expect("left running", self.is_running("87654"), False)
 
     def test_github(self):
         """Annotations lead to the line; students' texts are no commands of the runner."""
@@ -97,7 +70,7 @@ class Sites(Graded):
         error = next(line for line in lines if line.startswith("::error "))
         self.expect("said apart", lines.index(f"::{stopped}::") < lines.index(error), True)
         self.expect("error", error.startswith(f"::error file={BEN}/both.rows,line=8::both: 0 points. Wrong."), True)
-        self.expect("ada", self.call("ilocgrade", BOTH, "examples/class/submissions/ada", "--github")[0], 0)
+        self.expect("ada", self.call("ilocgrade", BOTH, f"{CLASS}/ada", "--github")[0], 0)
         self.write("eve/both.rows", b"[ nop ; nop ]\n::error::a\r##[add-mask]b\n")
         status, out, _ = self.call("ilocgrade", BOTH, "eve", "--github")
         begun = [line for line in out.decode().splitlines() if line.lstrip().startswith("::")]
@@ -105,7 +78,7 @@ class Sites(Graded):
 
     def test_report_in_a_browser(self):
         """The report on light and dark ground and on a narrow screen: each mark opens, and nothing is cut or faint."""
-        self.call("ilocgrade", BOTH, "examples/class/submissions")
+        self.call("ilocgrade", BOTH, CLASS)
         browser = Browser()
         self.addCleanup(browser.close)
         for width, scheme in (1200, "light"), (1200, "dark"), (400, "light"):
