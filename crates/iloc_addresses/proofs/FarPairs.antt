@@ -11,6 +11,7 @@ use Rattle.iloc_timed.specs.Kinds.{kind, is_output, is_store}
 use Rattle.iloc_timed.specs.Latency.{latency}
 use Rattle.iloc_rules.specs.Delays.{Counts, uses_result, when, memory_delays_where, delays_where, IsDelayPairWhere, keeps_order_where}
 use Rattle.iloc_rules.specs.Steps.Members.{In}
+use Rattle.iloc_rules.specs.Steps.Ways.{GoesBy}
 use Rattle.iloc_rules.proofs.Basics.Members.{contains_from, in_from, in_right, from_append}
 use Rattle.iloc_rules.proofs.Basics.Kinds.{store_is}
 use Rattle.iloc_rules.proofs.DelayPairs.DelayBounds.{kind_delays, in_when, from_when}
@@ -50,15 +51,6 @@ passes_between test a (suc b) = elim (passes_between test a b) [
         | inr apart ↦ none k after (omega arith)
       ]))
 ]
-
--- an operation between
-pub record GoesBy (counts : Counts) (lat : Latencies) (ops : List Op) (i j d : ℕ) : Type 0 where
-  pub way : ℕ
-  pub first_delay : ℕ
-  pub second_delay : ℕ
-  pub first : IsDelayPairWhere counts lat ops i way first_delay
-  pub second : IsDelayPairWhere counts lat ops way j second_delay
-  pub enough : d ≤ first_delay + second_delay
 
 module _ (counts : Counts) (lat : Latencies) (ops : List Op) where
   of_memory : (i j d : ℕ) → i < j → j < length ops

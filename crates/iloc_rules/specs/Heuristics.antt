@@ -7,14 +7,18 @@ use Rattle.iloc_timed.specs.declared.latencies.Latencies.{Latencies}
 use Rattle.iloc_timed.specs.Latency.{latency}
 use Rattle.iloc_rules.specs.declared.heuristic.Heuristic.{Heuristic}
 use Rattle.iloc_rules.specs.declared.heuristic.Heuristic.TheVariants.{Chain, Slack, Descendants, Successors, Latency, Order}
-use Rattle.iloc_rules.specs.Delays.{delays}
-use Rattle.iloc_rules.specs.Priority.{priorities, priority}
-use Rattle.iloc_rules.specs.Starts.{start}
+use Rattle.iloc_rules.specs.Delays.{Counts, all_count, delays_where}
+use Rattle.iloc_rules.specs.Priority.{priorities, priority, priorities_where, priority_where}
+use Rattle.iloc_rules.specs.Starts.{start, start_where}
 pub mod Listed
 
 -- the length of the longest chain of delays through operation i
 abbrev pub through : Latencies → List Op → ℕ → ℕ
 through lat ops i = start lat ops i + priority lat ops i
+
+-- the same where these count
+abbrev pub through_where : Counts → Latencies → List Op → ℕ → ℕ
+through_where counts lat ops i = start_where counts lat ops i + priority_where counts lat ops i
 
 -- the length of the longest chain of delays
 abbrev pub longest : Latencies → List Op → ℕ
@@ -24,27 +28,39 @@ longest lat ops = fold max 0 (priorities lat ops)
 abbrev pub slack : Latencies → List Op → ℕ → ℕ
 slack lat ops i = longest lat ops - priority lat ops i - start lat ops i
 
--- whether operation j has to wait for operation i
-abbrev pub waits_for : Latencies → List Op → ℕ → ℕ → Bool
-waits_for lat ops i j = nat_lt i j && nat_lt 0 (length (delays lat (op_at ops i) (op_at ops j)))
+-- whether operation j has to wait for operation i, where these count
+abbrev pub waits_for_where : Counts → Latencies → List Op → ℕ → ℕ → Bool
+waits_for_where counts lat ops i j =
+    nat_lt i j && nat_lt 0 (length (delays_where (counts i j) lat (op_at ops i) (op_at ops j)))
 
 -- how many operations wait for operation i directly
-abbrev pub successors : Latencies → List Op → ℕ → ℕ
-successors lat ops i = count_by (waits_for lat ops i) (range_with_len 0 (length ops))
+abbrev pub successors_where : Counts → Latencies → List Op → ℕ → ℕ
+successors_where counts lat ops i = count_by (waits_for_where counts lat ops i) (range_with_len 0 (length ops))
 
 -- whether a chain of delays leads from operation i to operation j, of n at most
-abbrev pub depends : Latencies → List Op → ℕ → ℕ → ℕ → Bool
-depends lat ops zero i j = false
-depends lat ops (suc n) i j =
-    list_any (λ k. waits_for lat ops i k && ((k == j) || depends lat ops n k j)) (range_with_len 0 (length ops))
+abbrev pub depends_where : Counts → Latencies → List Op → ℕ → ℕ → ℕ → Bool
+depends_where counts lat ops zero i j = false
+depends_where counts lat ops (suc n) i j =
+    list_any (λ k. waits_for_where counts lat ops i k && ((k == j) || depends_where counts lat ops n k j))
+    (range_with_len 0 (length ops))
 
 -- whether operation j depends on operation i
-abbrev pub depends_on : Latencies → List Op → ℕ → ℕ → Bool
-depends_on lat ops i j = depends lat ops (length ops) i j
+abbrev pub depends_on_where : Counts → Latencies → List Op → ℕ → ℕ → Bool
+depends_on_where counts lat ops i j = depends_where counts lat ops (length ops) i j
 
 -- how many operations depend on operation i
+abbrev pub descendants_where : Counts → Latencies → List Op → ℕ → ℕ
+descendants_where counts lat ops i = count_by (depends_on_where counts lat ops i) (range_with_len 0 (length ops))
+
+-- the same where all count
+abbrev pub waits_for : Latencies → List Op → ℕ → ℕ → Bool
+waits_for = waits_for_where all_count
+
+abbrev pub successors : Latencies → List Op → ℕ → ℕ
+successors = successors_where all_count
+
 abbrev pub descendants : Latencies → List Op → ℕ → ℕ
-descendants lat ops i = count_by (depends_on lat ops i) (range_with_len 0 (length ops))
+descendants = descendants_where all_count
 
 -- the priorities of renamed operations by a heuristic
 abbrev pub priorities_by : Heuristic → Latencies → List Op → List ℕ
@@ -54,3 +70,12 @@ priorities_by Descendants lat ops = map (descendants lat ops) (range_with_len 0 
 priorities_by Successors lat ops = map (successors lat ops) (range_with_len 0 (length ops))
 priorities_by Latency lat ops = map (latency lat) ops
 priorities_by Order lat ops = map (λ op. 0) ops
+
+-- the same where these count
+abbrev pub priorities_by_where : Counts → Heuristic → Latencies → List Op → List ℕ
+priorities_by_where counts Chain lat ops = priorities_where counts lat ops
+priorities_by_where counts Slack lat ops = map (through_where counts lat ops) (range_with_len 0 (length ops))
+priorities_by_where counts Descendants lat ops = map (descendants_where counts lat ops) (range_with_len 0 (length ops))
+priorities_by_where counts Successors lat ops = map (successors_where counts lat ops) (range_with_len 0 (length ops))
+priorities_by_where counts Latency lat ops = map (latency lat) ops
+priorities_by_where counts Order lat ops = map (λ op. 0) ops

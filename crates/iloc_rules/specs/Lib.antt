@@ -6,6 +6,7 @@ pub mod Starts
 pub mod Lawful
 pub mod Sound
 pub mod Apart
+pub mod Rule
 pub mod Greedy
 pub mod Heuristics
 pub mod Least

@@ -3,3 +3,4 @@ pub mod Members
 pub mod Stands
 pub mod Chains
 pub mod Choosing
+pub mod Ways

@@ -6,8 +6,12 @@ use Rattle.iloc_timed.specs.declared.row.Row.{Row}
 use Rattle.iloc_timed.specs.Rows.{issue_cycle}
 use Rattle.iloc_timed.specs.Cycles.{cycles}
 use Rattle.iloc_timed.proofs.Arrivals.{arrival_le_cycles}
+use Rattle.iloc_rules.specs.declared.memory_rule.MemoryRule.{MemoryRule}
+use Rattle.iloc_rules.specs.declared.memory_rule.MemoryRule.TheVariants.{Book, Address}
+use Rattle.iloc_rules.specs.Apart.{by_address}
 use Rattle.iloc_rules.specs.Delays.{Counts}
 use Rattle.iloc_rules.specs.Priority.{priority, priority_where}
+use Rattle.iloc_rules.specs.Rule.{counts_by, priority_under}
 use Rattle.iloc_rules.proofs.DelayPairs.WaitedFor.{WaitsWhere, Waits}
 use Rattle.iloc_rules.proofs.PriorityValues.Longest.{priority_least}
 use Rattle.iloc_rules.proofs.PriorityValues.LongestWhere.{priority_least_where}
@@ -30,3 +34,11 @@ priority_bound_where counts lat ops rows waits i within =
     (λ k below. omega (arith, arrival_le_cycles lat ops rows k below))
     (λ k j d pair. omega (arith, waits k j d pair, arrival_le_cycles lat ops rows j pair.within)) i within in
     omega (arith, arrival_le_cycles lat ops rows i within)
+
+-- and whichever the rule
+pub ruled_priority_bound : (rule : MemoryRule) (lat : Latencies) (ops : List Op) (rows : List Row)
+    → WaitsWhere (counts_by rule ops) lat ops rows
+    → (i : ℕ) → i < length ops → issue_cycle rows i + priority_under rule lat ops i ≤ cycles lat ops rows
+ruled_priority_bound Book lat ops rows waits i within = priority_bound lat ops rows waits i within
+ruled_priority_bound Address lat ops rows waits i within =
+    priority_bound_where (by_address ops) lat ops rows waits i within

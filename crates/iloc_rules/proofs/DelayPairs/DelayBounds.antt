@@ -6,7 +6,7 @@ use Rattle.iloc_timed.specs.declared.kind.Kind.{Kind}
 use Rattle.iloc_timed.specs.declared.latencies.Latencies.{Latencies}
 use Rattle.iloc_timed.specs.Kinds.{kind}
 use Rattle.iloc_timed.specs.Latency.{latency, latency_of}
-use Rattle.iloc_rules.specs.Delays.{reads_stored, keeps_order, when, delays}
+use Rattle.iloc_rules.specs.Delays.{reads_stored, keeps_order, when, delays_where, delays}
 use Rattle.iloc_rules.specs.Steps.Members.{In}
 use Rattle.iloc_rules.proofs.Basics.Members.{in_from, from_append}
 use Rattle.iloc_timed.proofs.WholeRuns.{some_latency, short_latency}
@@ -21,15 +21,32 @@ in_when b d holds = rw holds (inl refl)
 pub from_when : (b : Bool) (d e : ℕ) → In (when b d) e → (b ≡ true) × (d ≡ e)
 from_when b d e there = grind arith
 
--- a delay is the latency of the first or 1
-pub delay_is : (lat : Latencies) (i j : Op) (d : ℕ) → Contains (delays lat i j) d → (latency lat i ≡ d) ⊎ (1 ≡ d)
-delay_is lat i j d there = grind (arith, from_append, from_when, in_from)
+-- a delay is the latency of the first or 1, whether the two count or not
+pub delay_is_where : (counts : Bool) (lat : Latencies) (i j : Op) (d : ℕ) → Contains (delays_where counts lat i j) d
+    → (latency lat i ≡ d) ⊎ (1 ≡ d)
+delay_is_where counts lat i j d there = grind (arith, from_append, from_when, in_from)
 
+pub delay_at_least_where : (counts : Bool) (lat : Latencies) (i j : Op) (d : ℕ)
+    → Contains (delays_where counts lat i j) d → 1 ≤ d
+delay_at_least_where counts lat i j d there =
+    grind (arith, delay_is_where counts lat i j d there, some_latency lat (kind i))
+
+pub delay_at_most_where : (counts : Bool) (lat : Latencies) (i j : Op) (d : ℕ)
+    → Contains (delays_where counts lat i j) d → d ≤ latency lat i
+delay_at_most_where counts lat i j d there =
+    grind (arith, delay_is_where counts lat i j d there, some_latency lat (kind i))
+
+pub short_delay_where : (counts : Bool) (lat : Latencies) (i j : Op) (d : ℕ)
+    → Contains (delays_where counts lat i j) d → d ≤ 16
+short_delay_where counts lat i j d there =
+    omega (arith, delay_at_most_where counts lat i j d there, short_latency lat (kind i))
+
+-- the same where they do
 pub delay_at_least : (lat : Latencies) (i j : Op) (d : ℕ) → Contains (delays lat i j) d → 1 ≤ d
-delay_at_least lat i j d there = grind (arith, delay_is lat i j d there, some_latency lat (kind i))
+delay_at_least = delay_at_least_where true
 
 pub delay_at_most : (lat : Latencies) (i j : Op) (d : ℕ) → Contains (delays lat i j) d → d ≤ latency lat i
-delay_at_most lat i j d there = grind (arith, delay_is, some_latency)
+delay_at_most = delay_at_most_where true
 
 pub short_delay : (lat : Latencies) (i j : Op) (d : ℕ) → Contains (delays lat i j) d → d ≤ 16
-short_delay lat i j d there = omega (arith, delay_at_most lat i j d there, short_latency lat (kind i))
+short_delay = short_delay_where true

@@ -6,10 +6,13 @@ use Rattle.iloc_meaning.specs.Outcome.{outcome}
 use Rattle.iloc_timed.specs.declared.latencies.Latencies.{Latencies}
 use Rattle.iloc_timed.specs.declared.row.Row.{Row}
 use Rattle.iloc_timed.specs.Timed.{timed_outcome}
+use Rattle.iloc_rules.specs.declared.memory_rule.MemoryRule.{MemoryRule}
+use Rattle.iloc_rules.specs.declared.memory_rule.MemoryRule.TheVariants.{Book, Address}
 use Rattle.iloc_rules.specs.Delays.{Counts, all_count}
 use Rattle.iloc_rules.specs.Lawful.{IsLawfulWhere, IsLawful}
 use Rattle.iloc_rules.specs.Sound.{IsSound}
 use Rattle.iloc_rules.specs.Apart.{unless_apart, by_address}
+use Rattle.iloc_rules.specs.Rule.{counts_by}
 use Rattle.iloc_rules.proofs.Renamed.RenamedBlocks.{renamed_is_renamed, renaming_keeps_the_outcome}
 use Rattle.iloc_rules.proofs.Outcome.TimedOutcomes.{timed_is_plain}
 use Rattle.iloc_rules.proofs.Outcome.ApartAddresses.{unless_apart_is_sound}
@@ -49,3 +52,13 @@ pub stores_kept_is_sound : (ops : List Op) → IsSound (by_address ops) ops
 stores_kept_is_sound ops =
     sound_by_more (unless_apart ops) (by_address ops) ops (λ i j counts. or_right _ _ counts)
     (unless_apart_is_sound ops)
+
+-- so whichever the rule
+counts_by_is_sound : (rule : MemoryRule) (ops : List Op) → IsSound (counts_by rule ops) ops
+counts_by_is_sound Book ops = all_count_is_sound ops
+counts_by_is_sound Address ops = stores_kept_is_sound ops
+
+pub ruled_same_outcome : (rule : MemoryRule) (lat : Latencies) (block ops : List Op) (rows : List Row) (memory : List ℤ)
+    → IsLawfulWhere (counts_by rule ops) lat block ops rows → timed_outcome lat ops rows memory ≡ outcome block memory
+ruled_same_outcome rule lat block ops rows memory =
+    sound_same_outcome (counts_by rule ops) lat block ops rows memory (counts_by_is_sound rule ops)

@@ -1,10 +1,12 @@
 -- Whichever count, a priority is the greatest of latency and d + prio(j) over the delay pairs: `laws::counts_bound_the_cycles`.
-use Rattle.std.proofs.Common.{◌≡◌, ℕ, ◌+◌, ◌-◌, ◌<◌, ◌≤◌, zero, suc, Bool, true, List, [], ◌∷◌, max, map, length, drop, ◌⊎◌, inl, inr, refl, ap, sym, arith}
+use Rattle.std.proofs.Common.{◌≡◌, ℕ, ◌+◌, ◌-◌, ◌*◌, ◌<◌, ◌≤◌, zero, suc, Bool, true, List, [], ◌∷◌, max, map, length, drop, ◌⊎◌, inl, inr, refl, ap, sym, arith}
 use Rattle.std.specs.Prelude.{fold, slice_index}
 use Rattle.iloc_ops.specs.declared.op.Op.{Op}
 use Rattle.iloc_meaning.specs.Trace.{op_at}
 use Rattle.iloc_timed.specs.declared.latencies.Latencies.{Latencies}
+use Rattle.iloc_timed.specs.Kinds.{kind}
 use Rattle.iloc_timed.specs.Latency.{latency}
+use Rattle.iloc_timed.proofs.WholeRuns.{short_latency}
 use Rattle.iloc_timed.proofs.Greatest.{le_fold_max}
 use Rattle.iloc_rules.specs.Delays.{Counts, all_count, delays_where, IsDelayPairWhere}
 use Rattle.iloc_rules.specs.Priority.{reaches_where, reaches, after_first, priorities_where, priorities, priority_where}
@@ -12,6 +14,7 @@ use Rattle.iloc_rules.specs.Steps.Chains.{IsChain}
 use Rattle.iloc_rules.specs.Steps.Members.{In}
 use Rattle.iloc_rules.proofs.Basics.Members.{contains_from, in_from, in_left, in_right, from_append, in_map, from_map}
 use Rattle.iloc_rules.proofs.Basics.Maxima.{fold_max_each, fold_max_reached}
+use Rattle.iloc_rules.proofs.DelayPairs.DelayBounds.{short_delay_where}
 use Rattle.iloc_rules.proofs.PriorityValues.Chains.{least}
 
 pub length_where : (counts : Counts) (lat : Latencies) (ops : List Op) → length (priorities_where counts lat ops) ≡ length ops
@@ -152,6 +155,16 @@ pub priority_least_where : (counts : Counts) (lat : Latencies) (ops : List Op) (
 priority_least_where counts lat ops other own pairs =
     least (length ops) (IsDelayPairWhere counts lat ops) (λ i. latency lat (op_at ops i)) (priority_where counts lat ops) (is_priority counts lat ops)
     (λ i. length ops - i) (λ i j d pair. (pair.within, omega (arith, pair.order, pair.within))) other own pairs
+
+-- so it is at most 16 cycles for each operation
+pub priority_most_where : (counts : Counts) (lat : Latencies) (ops : List Op) (i : ℕ) → i < length ops
+    → priority_where counts lat ops i ≤ 16 * length ops
+priority_most_where counts lat ops i below =
+    let most = priority_least_where counts lat ops (λ k. 16 * (length ops - k))
+    (λ k within. omega (arith, short_latency lat (kind (op_at ops k))))
+    (λ k j d pair. omega (arith, pair.order, pair.within, short_delay_where (counts k j) lat (op_at ops k) (op_at ops j) d pair.delay))
+    i below in
+    omega arith
 
 -- where all count these are the priorities
 reaches_all : (lat : Latencies) (op : Op) (later : List Op) (prios : List ℕ)

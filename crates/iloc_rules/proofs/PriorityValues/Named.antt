@@ -1,14 +1,20 @@
 -- Each heuristic in the list of all, and its priorities as a list, one for each operation; for `fill_ranks`.
-use Rattle.std.proofs.Common.{◌≡◌, List, length, arith}
+use Rattle.std.proofs.Common.{◌≡◌, ℕ, ◌+◌, List, length, map, refl, ap, arith}
+use Rattle.std.specs.List.{range_with_len}
+use Rattle.std.specs.Prelude.{slice_index}
 use Rattle.std.proofs.lemmas.List.{length-map}
 use Rattle.std.proofs.lemmas.List.FromFn.{length-map-range_with_len}
 use Rattle.iloc_ops.specs.declared.op.Op.{Op}
 use Rattle.iloc_timed.specs.declared.latencies.Latencies.{Latencies}
 use Rattle.iloc_rules.specs.declared.heuristic.Heuristic.{Heuristic}
-use Rattle.iloc_rules.specs.Heuristics.{priorities_by}
+use Rattle.iloc_rules.specs.declared.heuristic.Heuristic.TheVariants as H
+use Rattle.iloc_rules.specs.Delays.{Counts, all_count}
+use Rattle.iloc_rules.specs.Starts.{start}
+use Rattle.iloc_rules.specs.Heuristics.{priorities_by, priorities_by_where}
 use Rattle.iloc_rules.specs.Heuristics.Listed.{heuristics}
 use Rattle.iloc_rules.specs.Steps.Members.{In}
 use Rattle.iloc_rules.proofs.PriorityValues.Longest.{length-priorities}
+use Rattle.iloc_rules.proofs.PriorityValues.LongestWhere.{length_where, priorities_all}
 
 -- each is listed
 pub listed : (heuristic : Heuristic) → In heuristics heuristic
@@ -17,3 +23,19 @@ listed heuristic = grind arith
 pub length-priorities_by : (heuristic : Heuristic) (lat : Latencies) (ops : List Op)
     → length (priorities_by heuristic lat ops) ≡ length ops
 length-priorities_by heuristic lat ops = grind (arith, length-map, length-map-range_with_len, length-priorities)
+
+pub length-priorities_by_where : (counts : Counts) (heuristic : Heuristic) (lat : Latencies) (ops : List Op)
+    → length (priorities_by_where counts heuristic lat ops) ≡ length ops
+length-priorities_by_where counts heuristic lat ops =
+    grind (arith, length-map, length-map-range_with_len, length_where)
+
+-- where all count these are the priorities
+pub priorities_by_all : (heuristic : Heuristic) (lat : Latencies) (ops : List Op)
+    → priorities_by_where all_count heuristic lat ops ≡ priorities_by heuristic lat ops
+priorities_by_all H.Chain lat ops = priorities_all lat ops
+priorities_by_all H.Slack lat ops = ap (λ (prios : List ℕ). map (λ i. start lat ops i + slice_index prios i) (range_with_len 0 (length ops)))
+    (priorities_all lat ops)
+priorities_by_all H.Descendants lat ops = refl
+priorities_by_all H.Successors lat ops = refl
+priorities_by_all H.Latency lat ops = refl
+priorities_by_all H.Order lat ops = refl

@@ -4,7 +4,7 @@ use Rattle.iloc_ops.specs.declared.op.Op.{Op}
 use Rattle.iloc_meaning.specs.Trace.{op_at}
 use Rattle.iloc_timed.specs.declared.latencies.Latencies.{Latencies}
 use Rattle.iloc_timed.specs.Latency.{latency}
-use Rattle.iloc_rules.specs.Delays.{IsDelayPair}
+use Rattle.iloc_rules.specs.Delays.{Counts, all_count, IsDelayPairWhere}
 
 -- the chain of an operation is at least its base and each d + value(j) over its pairs (i, j, d), and it is one of these;
 -- its value is at least the chain
@@ -14,9 +14,13 @@ pub record IsChain (size : ℕ) (Pair : ℕ → ℕ → ℕ → Type 0) (base ch
   pub reached : (i : ℕ) → i < size → (chain i ≡ base i) ⊎ ((j : ℕ) × (d : ℕ) × Pair i j d × (chain i ≡ d + value j))
   pub whole : (i : ℕ) → i < size → chain i ≤ value i
 
--- chains from latencies over the pairs out of operations, and chains from 0 over the pairs into them
-abbrev pub IsChainOut : Latencies → List Op → (ℕ → ℕ) → (ℕ → ℕ) → Type 0
-IsChainOut lat ops = IsChain (length ops) (IsDelayPair lat ops) (λ i. latency lat (op_at ops i))
+-- chains from latencies over the pairs out of operations, and chains from 0 over the pairs into them, where these count
+abbrev pub IsChainOutWhere : Counts → Latencies → List Op → (ℕ → ℕ) → (ℕ → ℕ) → Type 0
+IsChainOutWhere counts lat ops = IsChain (length ops) (IsDelayPairWhere counts lat ops) (λ i. latency lat (op_at ops i))
 
-abbrev pub IsChainInto : Latencies → List Op → (ℕ → ℕ) → Type 0
-IsChainInto lat ops at = IsChain (length ops) (λ j i d. IsDelayPair lat ops i j d) (λ j. 0) at at
+abbrev pub IsChainIntoWhere : Counts → Latencies → List Op → (ℕ → ℕ) → Type 0
+IsChainIntoWhere counts lat ops at = IsChain (length ops) (λ j i d. IsDelayPairWhere counts lat ops i j d) (λ j. 0) at at
+
+-- the same where all count
+abbrev pub IsChainOut : Latencies → List Op → (ℕ → ℕ) → (ℕ → ℕ) → Type 0
+IsChainOut = IsChainOutWhere all_count
