@@ -7,3 +7,4 @@ pub mod EdgesInto
 pub mod ListedKinds
 pub mod LastsNoted
 pub mod OneMoreInTables
+pub mod BookGraphs

@@ -9,20 +9,29 @@ use Rattle.iloc_timed.specs.Latency.{latency}
 use Rattle.iloc_timed.specs.Rows.{issue_cycle}
 use Rattle.iloc_timed.specs.Schedule.{Table}
 use Rattle.iloc_timed.specs.Timed.{timed_outcome}
-use Rattle.iloc_rules.specs.Priority.{priority}
-use Rattle.iloc_rules.specs.Lawful.{IsLawful}
-use Rattle.iloc_rules.specs.Greedy.{IsGreedyBy}
+use Rattle.iloc_rules.specs.declared.memory_rule.MemoryRule.{MemoryRule}
+use Rattle.iloc_rules.specs.declared.memory_rule.MemoryRule.TheVariants.{Book}
+use Rattle.iloc_rules.specs.Lawful.{IsLawfulWhere}
+use Rattle.iloc_rules.specs.Greedy.{IsGreedyWhere}
+use Rattle.iloc_rules.specs.Rule.{counts_by, priority_under}
 
--- This is the schedule of the block by priorities, one for each renamed operation, that those may determine.
-pub record IsTheSchedule (by : List Op → List ℕ) (lat : Latencies) (block : List Op) (s : Table) : Type 0 where
+-- This is the schedule of the block by a rule of memory and by priorities, one for each renamed operation, that those may
+-- determine.
+pub record IsTheScheduleBy (rule : MemoryRule) (by : List Op → List ℕ) (lat : Latencies) (block : List Op) (s : Table) : Type 0 where
   -- It is lawful, and greedy by these priorities.
-  pub greedy : IsGreedyBy (by s.ops) lat block s.ops s.rows
+  pub greedy : IsGreedyWhere (counts_by rule s.ops) (by s.ops) lat block s.ops s.rows
   -- No other schedule of the block is.
-  pub only : (ops : List Op) (rows : List Row) → IsGreedyBy (by ops) lat block ops rows → (ops ≡ s.ops) × (rows ≡ s.rows)
+  pub only : (ops : List Op) (rows : List Row) → IsGreedyWhere (counts_by rule ops) (by ops) lat block ops rows
+      → (ops ≡ s.ops) × (rows ≡ s.rows)
   -- As every lawful schedule of the block does, it has the block's outcome on every memory.
-  pub outcome : (ops : List Op) (rows : List Row) (memory : List ℤ) → IsLawful lat block ops rows
+  pub outcome : (ops : List Op) (rows : List Row) (memory : List ℤ)
+      → IsLawfulWhere (counts_by rule ops) lat block ops rows
       → timed_outcome lat ops rows memory ≡ outcome block memory
   -- It takes at least as many cycles as an operation's issue and the longest chain of delays from there together,
-  pub least : (i : ℕ) → i < length s.ops → issue_cycle s.rows i + priority lat s.ops i ≤ cycles lat s.ops s.rows
+  pub least : (i : ℕ) → i < length s.ops → issue_cycle s.rows i + priority_under rule lat s.ops i ≤ cycles lat s.ops s.rows
   -- and at most as many as the latencies of all operations together.
   pub most : cycles lat s.ops s.rows ≤ sum_by (latency lat) s.ops
+
+-- the same by the book
+abbrev pub IsTheSchedule : (List Op → List ℕ) → Latencies → List Op → Table → Type 0
+IsTheSchedule = IsTheScheduleBy Book

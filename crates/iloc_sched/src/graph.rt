@@ -3,12 +3,15 @@ ghost use Rattle.std.specs.Prelude.{ℕ, ◌≡◌, ◌≤◌, ◌<◌, ◌+◌,
 ghost use Rattle.iloc_ops.specs.declared.op.Op.{Op};
 ghost use Rattle.iloc_timed.specs.Kinds.{kind};
 ghost use Rattle.iloc_rules.specs.Delays.{IsDelayPair};
-ghost use Rattle.iloc_sched.specs.Graph.GraphOf.{GraphOf, of_block};
-ghost use Rattle.iloc_rules.specs.Heuristics.{priorities_by};
+ghost use Rattle.iloc_sched.specs.Graph.GraphOf.{GraphOf, RuledGraphOf, of_block, of_block_by};
+ghost use Rattle.iloc_rules.specs.declared.heuristic.Heuristic.TheVariants.{Successors};
+ghost use Rattle.iloc_rules.specs.declared.memory_rule.MemoryRule.TheVariants.{Book};
+ghost use Rattle.iloc_rules.specs.Heuristics.{priorities_by, priorities_by_where};
 ghost use Rattle.iloc_sched.specs.Graph.Near.{IsNearPair};
-ghost use Rattle.iloc_rules.specs.Priority.{priorities};
+ghost use Rattle.iloc_rules.specs.Priority.{priorities, priorities_where};
 ghost use Rattle.iloc_rules.specs.Renaming.{renamed};
-ghost use Rattle.iloc_rules.specs.Starts.{starts};
+ghost use Rattle.iloc_rules.specs.Rule.{counts_by};
+ghost use Rattle.iloc_rules.specs.Starts.{starts, starts_where};
 ghost use Rattle.iloc_sched.specs.declared.edges.Edge.{Edge as edge_value};
 ghost use Rattle.iloc_sched.specs.Steps.Edges.SoundGraph.{IsSound};
 
@@ -20,39 +23,40 @@ use crate::ranking::starts::fill_starts;
 use crate::renaming::Names;
 use crate::tables::Tables;
 use iloc_ops::{Block, MAX_OPS, NoMemory, Op};
-use iloc_rules::Heuristic;
+use iloc_rules::{Heuristic, MemoryRule};
 use iloc_timed::{Kind, Latencies};
 use std::alloc::Global;
 use std::marker::Model;
 
-/// The dependence graph of a block: its renamed operations, their latencies, and the delay pairs that are kept as edges,
-/// from which every other follows. Its buffers are kept from block to block.
+/// The dependence graph of a block by a rule of memory: its renamed operations, their latencies, and delay pairs that are
+/// kept as edges, from which every other follows. Its buffers are kept from block to block.
 #[derive(Drop)]
-pub struct Graph {
+pub struct RuledGraph {
     alloc: Global,
     names: Names,
     lasts: Lasts,
     tables: Tables,
 }
 
-impl Model for Graph {
-    ghost use Rattle.iloc_sched.specs.Graph.GraphOf.{GraphOf};
+impl Model for RuledGraph {
+    ghost use Rattle.iloc_sched.specs.Graph.GraphOf.{RuledGraphOf};
 
-    ghost Value = { GraphOf };
+    ghost Value = { RuledGraphOf };
 
     ghost use Rattle.iloc_sched.specs.Steps.Edges.SoundGraph.{IsOfBlock};
 
-    ghost view = { λ g. record { ops = g.tables.ops.items; latencies = g.tables.latencies } };
+    ghost view = { λ g. record { rule = g.tables.rule; ops = g.tables.ops.items; latencies = g.tables.latencies } };
 
     ghost invariant = { λ g. IsOfBlock g.tables };
 }
 
-impl Graph {
+impl RuledGraph {
     /// The graph of a block without operations.
-    pub fn new(alloc: Global) -> Graph
-        ensures { result.ops ≡ [] }
+    pub fn new(alloc: Global) -> RuledGraph
+        ensures ops { result.ops ≡ [] }
+        ensures rule { result.rule ≡ Book }
     {
-        Graph {
+        RuledGraph {
             alloc,
             names: Names::new(alloc),
             lasts: Lasts::new(alloc),
@@ -60,11 +64,12 @@ impl Graph {
         }
     }
 
-    /// Becomes the graph of a block, of at most `MAX_OPS` operations. After a refusal it is that of a block without any.
-    pub fn refill(&mut self, block: &Block, latencies: &Latencies) -> Result<(), NoMemory>
+    /// Becomes the graph of a block by the book, as `Graph::refill` says.
+    fn refill_by_the_book(&mut self, block: &Block, latencies: &Latencies) -> Result<(), NoMemory>
         requires { length block.now.ops ≤ MAX_OPS }
-        ensures graph { OnOk result (self.new ≡ of_block latencies.now block.now.ops) }
+        ensures graph { OnOk result (self.new ≡ of_block_by Book latencies.now block.now.ops) }
         ensures empty { IfErr result (λ _. self.new.ops ≡ []) }
+        ensures rule { self.new.rule ≡ Book }
     {
         match self
             .tables
@@ -86,11 +91,95 @@ impl Graph {
         self.tables.ops.as_slice()
     }
 
+    /// Fills a list with the longest chain of delays from each operation, up to the end of the block.
+    pub fn chains(&self, found: &mut Vec<u32>) -> Result<(), NoMemory>
+        ensures { OnOk result (found.new.items
+            ≡ priorities_where (counts_by self.now.rule self.now.ops) self.now.latencies self.now.ops) }
+    {
+        fill_chains(found, &self.tables)
+    }
+
+    /// Fills a list with the longest chain of delays to each operation: the first cycle at which it can be issued.
+    pub fn starts(&self, found: &mut Vec<u32>) -> Result<(), NoMemory>
+        ensures { OnOk result (found.new.items
+            ≡ starts_where (counts_by self.now.rule self.now.ops) self.now.latencies self.now.ops) }
+    {
+        fill_starts(found, &self.tables)
+    }
+
+    /// Fills a list with the priorities of the operations by a heuristic.
+    #[inline(always)]
+    pub fn rank(&self, heuristic: Heuristic, found: &mut Vec<u32>) -> Result<(), NoMemory>
+        requires { heuristic ≡ Successors → self.now.rule ≡ Book }
+        ensures { OnOk result (found.new.items
+            ≡ priorities_by_where (counts_by self.now.rule self.now.ops) heuristic self.now.latencies self.now.ops) }
+    {
+        fill_ranks(found, heuristic, self.alloc, &self.tables)
+    }
+
+    /// The tables.
+    pub(crate) fn tables(&self) -> &Tables
+        ensures sound { IsSound result.now }
+        ensures named { (block : List Op) × (result.now.ops.items ≡ renamed block) }
+        ensures graph { self.now
+            ≡ record { rule = result.now.rule; ops = result.now.ops.items; latencies = result.now.latencies } }
+    {
+        &self.tables
+    }
+}
+
+/// The dependence graph of a block: its renamed operations, their latencies, and the delay pairs that are kept as edges,
+/// from which every other follows. Its buffers are kept from block to block.
+#[derive(Drop)]
+pub struct Graph {
+    ruled: RuledGraph,
+}
+
+impl Model for Graph {
+    ghost use Rattle.iloc_sched.specs.Graph.GraphOf.{GraphOf};
+
+    ghost Value = { GraphOf };
+
+    ghost use Rattle.std.specs.Prelude.{◌≡◌};
+    ghost use Rattle.iloc_rules.specs.declared.memory_rule.MemoryRule.TheVariants.{Book};
+
+    ghost view = { λ g. record { ops = g.ruled.ops; latencies = g.ruled.latencies } };
+
+    ghost invariant = { λ g. g.ruled.rule ≡ Book };
+}
+
+impl Graph {
+    /// The graph of a block without operations.
+    pub fn new(alloc: Global) -> Graph
+        ensures { result.ops ≡ [] }
+    {
+        Graph {
+            ruled: RuledGraph::new(alloc),
+        }
+    }
+
+    /// Becomes the graph of a block, of at most `MAX_OPS` operations. After a refusal it is that of a block without any.
+    pub fn refill(&mut self, block: &Block, latencies: &Latencies) -> Result<(), NoMemory>
+        requires { length block.now.ops ≤ MAX_OPS }
+        ensures graph { OnOk result (self.new ≡ of_block latencies.now block.now.ops) }
+        ensures empty { IfErr result (λ _. self.new.ops ≡ []) }
+    {
+        self.ruled.refill_by_the_book(block, latencies)
+    }
+
+    /// The renamed operations, at most `MAX_OPS`.
+    pub fn ops(&self) -> &[Op]
+        ensures ops { result.now ≡ self.now.ops }
+        ensures few { length self.now.ops ≤ MAX_OPS }
+    {
+        self.ruled.ops()
+    }
+
     /// The latencies.
     pub fn latencies(&self) -> &Latencies
         ensures { result.now ≡ self.now.latencies }
     {
-        &self.tables.latencies
+        &self.ruled.tables().latencies
     }
 
     /// By operation its kind.
@@ -98,7 +187,7 @@ impl Graph {
         ensures kinds { result.now ≡ map kind self.now.ops }
         ensures few { length self.now.ops ≤ MAX_OPS }
     {
-        self.tables.kinds.as_slice()
+        self.ruled.tables().kinds.as_slice()
     }
 
     /// The kept edges, those into an operation side by side and before those into later ones.
@@ -109,7 +198,7 @@ impl Graph {
         ensures all { (i j d : ℕ) → IsNearPair self.now.latencies self.now.ops i j d
             → Any (λ (e : edge_value). (e.from ≡ i) × (e.to ≡ j) × (d ≤ e.delay)) result.now }
     {
-        self.tables.edges.as_slice()
+        self.ruled.tables().edges.as_slice()
     }
 
     /// The kept edges into operation j.
@@ -122,7 +211,7 @@ impl Graph {
         ensures all { (i d : ℕ) → IsNearPair self.now.latencies self.now.ops i j d
             → Any (λ (e : edge_value). (e.from ≡ i) × (d ≤ e.delay)) result.now }
     {
-        let edges = &self.tables.edges;
+        let edges = &self.ruled.tables().edges;
         &edges.as_slice()[edges.start(j) as usize..edges.start(j + 1) as usize]
     }
 
@@ -130,14 +219,14 @@ impl Graph {
     pub fn chains(&self, found: &mut Vec<u32>) -> Result<(), NoMemory>
         ensures { OnOk result (found.new.items ≡ priorities self.now.latencies self.now.ops) }
     {
-        fill_chains(found, &self.tables)
+        self.ruled.chains(found)
     }
 
     /// Fills a list with the longest chain of delays to each operation: the first cycle at which it can be issued.
     pub fn starts(&self, found: &mut Vec<u32>) -> Result<(), NoMemory>
         ensures { OnOk result (found.new.items ≡ starts self.now.latencies self.now.ops) }
     {
-        fill_starts(found, &self.tables)
+        self.ruled.starts(found)
     }
 
     /// Fills a list with the priorities of the operations by a heuristic.
@@ -145,15 +234,13 @@ impl Graph {
     pub fn rank(&self, heuristic: Heuristic, found: &mut Vec<u32>) -> Result<(), NoMemory>
         ensures { OnOk result (found.new.items ≡ priorities_by heuristic self.now.latencies self.now.ops) }
     {
-        fill_ranks(found, heuristic, self.alloc, &self.tables)
+        self.ruled.rank(heuristic, found)
     }
 
-    /// The tables.
-    pub(crate) fn tables(&self) -> &Tables
-        ensures sound { IsSound result.now }
-        ensures named { (block : List Op) × (result.now.ops.items ≡ renamed block) }
-        ensures graph { self.now ≡ record { ops = result.now.ops.items; latencies = result.now.latencies } }
+    /// The same, with its rule.
+    pub(crate) fn ruled(&self) -> &RuledGraph
+        ensures { result.now ≡ record { rule = Book; ops = self.now.ops; latencies = self.now.latencies } }
     {
-        &self.tables
+        &self.ruled
     }
 }

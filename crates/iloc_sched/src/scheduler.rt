@@ -2,19 +2,20 @@
 ghost use Rattle.std.specs.Prelude.{◌≡◌, ◌≤◌, ◌+◌, ◌*◌, List, length, IfOk, OnOk};
 ghost use Rattle.iloc_ops.specs.declared.op.Op.{Op};
 ghost use Rattle.iloc_timed.specs.declared.latencies.Latencies.{Latencies as latencies_value};
-ghost use Rattle.iloc_sched.specs.Graph.GraphOf.{of_block};
-ghost use Rattle.iloc_rules.specs.Greedy.{IsGreedyBy};
+ghost use Rattle.iloc_rules.specs.declared.memory_rule.MemoryRule.{MemoryRule as rule_value};
+ghost use Rattle.iloc_sched.specs.Graph.GraphOf.{of_block, of_block_by};
+ghost use Rattle.iloc_rules.specs.Greedy.{IsGreedyWhere};
 ghost use Rattle.iloc_rules.specs.Heuristics.{priorities_by};
 ghost use Rattle.iloc_rules.specs.Priority.{priorities};
 ghost use Rattle.iloc_rules.specs.Renaming.{renamed};
-ghost use Rattle.iloc_sched.specs.Scheduled.{IsTheSchedule};
-ghost use Rattle.iloc_sched.specs.Steps.Cycle.SoFar.{IsPlan};
+ghost use Rattle.iloc_sched.specs.Scheduled.{IsTheSchedule, IsTheScheduleBy};
+ghost use Rattle.iloc_sched.specs.Steps.Cycle.SoFar.{IsPlan, counts_of};
 
 use crate::cycle::calendar::SHORT;
 use crate::cycle::order::Order;
 use crate::cycle::plan::Plan;
 use crate::cycle::waiting::Waiting;
-use crate::graph::Graph;
+use crate::graph::{Graph, RuledGraph};
 use iloc_ops::{Block, MAX_OPS, NoMemory, Op};
 use iloc_rules::{Heuristic, LONGEST_DELAY};
 use iloc_timed::{Latencies, Row, Schedule};
@@ -56,6 +57,18 @@ impl Scheduler {
         requires { length ranks.now ≡ length graph.now.ops }
         ensures { IfOk result (λ s. (lat : latencies_value) (block : List Op) → graph.now ≡ of_block lat block
             → IsTheSchedule (λ _. ranks.now) lat block s) }
+    {
+        self.lend_ruled(graph.ruled(), ranks)
+    }
+
+    /// The same by a graph's rule of memory.
+    ///
+    /// Promise: It is the only schedule of the block that is greedy by these priorities and by the graph's rule, with the block's
+    /// outcome, whatever graphs came before.
+    pub fn lend_ruled(&mut self, graph: &RuledGraph, ranks: &[u32]) -> Result<Schedule, NoMemory>
+        requires { length ranks.now ≡ length graph.now.ops }
+        ensures { IfOk result (λ s. (rule : rule_value) (lat : latencies_value) (block : List Op) →
+            graph.now ≡ of_block_by rule lat block → IsTheScheduleBy rule (λ _. ranks.now) lat block s) }
     {
         let tables = graph.tables();
         self.order.fill(ranks)?;
@@ -99,7 +112,8 @@ impl Scheduler {
 fn fill_rows(plan: &Plan, waiting: &mut Waiting, rows: &mut Vec<Row>) -> Result<(), NoMemory>
     requires { IsPlan plan.now }
     ensures greedy { OnOk result ((block : List Op) → plan.now.tables.now.ops.items ≡ renamed block
-        → IsGreedyBy plan.now.priorities.now plan.now.tables.now.latencies block plan.now.tables.now.ops.items rows.new.items) }
+        → IsGreedyWhere (counts_of plan.now) plan.now.priorities.now plan.now.tables.now.latencies block
+        plan.now.tables.now.ops.items rows.new.items) }
     ensures few { OnOk result (length rows.new.items ≤ LONGEST_DELAY * MAX_OPS + 1) }
 {
     waiting.open(plan)?;

@@ -10,6 +10,7 @@ use crate::ranking::priority::fill_latencies;
 use crate::registers::OperandRegisters;
 use crate::renaming::{Names, is_nop};
 use iloc_ops::{Block, MAX_OPS, NoMemory, Op};
+use iloc_rules::MemoryRule;
 use iloc_timed::{Kind, Latencies};
 use std::alloc::Global;
 
@@ -19,44 +20,51 @@ pub struct Tables {
     pub ops: Vec<Op>,
     pub kinds: Vec<Kind>,
     pub latencies: Latencies,
+    /// By what the operations wait for each other by memory.
+    pub rule: MemoryRule,
     pub edges: Edges,
     /// By operation its latency.
     pub own: Vec<u32>,
 }
 
 impl Tables {
+    ghost use Rattle.iloc_rules.specs.declared.memory_rule.MemoryRule.TheVariants.{Book};
     ghost use Rattle.iloc_sched.specs.Steps.Edges.Filling.{CanHold, IsFilling, IsGathered};
     ghost use Rattle.iloc_sched.specs.Steps.Renaming.Registers.{AreRegistersOf};
-    ghost use Rattle.iloc_sched.specs.Steps.Edges.SoundGraph.{IsSound};
+    ghost use Rattle.iloc_sched.specs.Steps.Edges.SoundGraph.{IsByTheBook, IsSound};
     ghost use Rattle.iloc_sched.specs.Steps.Views.{IsEmptied};
 
-    /// The tables of no operation.
+    /// The tables of no operation, by the book.
     pub fn new(alloc: Global) -> Tables
         ensures ops { result.ops.items ≡ [] }
         ensures kinds { result.kinds.items ≡ [] }
         ensures own { result.own.items ≡ [] }
         ensures edges { IsEmptied result.edges }
+        ensures rule { result.rule ≡ Book }
     {
         Tables {
             ops: Vec::new(alloc),
             kinds: Vec::new(alloc),
             latencies: Latencies::usual(),
+            rule: MemoryRule::Book,
             edges: Edges::new(alloc),
             own: Vec::new(alloc),
         }
     }
 
-    /// No operation.
+    /// No operation, by the book.
     pub fn forget(&mut self)
         ensures ops { self.new.ops.items ≡ [] }
         ensures kinds { self.new.kinds.items ≡ [] }
         ensures own { self.new.own.items ≡ [] }
         ensures edges { IsEmptied self.new.edges }
+        ensures rule { self.new.rule ≡ Book }
     {
         self.ops.clear();
         self.kinds.clear();
         self.own.clear();
         self.edges.forget();
+        self.rule = MemoryRule::Book;
     }
 
     /// No operation, with capacity for `count` and the edges between them. Where each push tests whether it has to grow, `counts`
@@ -185,7 +193,7 @@ impl Tables {
         block: &Block,
     ) -> Result<(), NoMemory>
         requires { length block.now.ops ≤ MAX_OPS }
-        ensures sound { OnOk result (IsSound self.new) }
+        ensures book { OnOk result (IsByTheBook self.new) }
         ensures ops { OnOk result (self.new.ops.items ≡ renamed block.now.ops) }
         ensures latencies { OnOk result (self.new.latencies ≡ self.old.latencies) }
     {
@@ -199,7 +207,7 @@ impl Tables {
         Ok(())
     }
 
-    /// Takes the operations of a block, as `gather` does, for these latencies.
+    /// Takes the operations of a block, as `gather` does, for these latencies, by the book.
     pub fn open(
         &mut self,
         names: &mut Names,
@@ -209,11 +217,14 @@ impl Tables {
     ) -> Result<(), NoMemory>
         requires { length block.now.ops ≤ MAX_OPS }
         ensures sound { OnOk result (IsSound self.new) }
+        ensures rule { OnOk result (self.new.rule ≡ Book) }
         ensures latencies { OnOk result (self.new.latencies ≡ latencies.now) }
         ensures ops { OnOk result (self.new.ops.items ≡ renamed block.now.ops) }
     {
         self.latencies = *latencies;
-        self.gather(names, lasts, block)
+        self.gather(names, lasts, block)?;
+        self.rule = MemoryRule::Book;
+        Ok(())
     }
 
     /// Takes renamed operations, as `open` does.
@@ -226,6 +237,7 @@ impl Tables {
         requires renamed { IsRenamed ops.now }
         requires few { length ops.now ≤ MAX_OPS }
         ensures sound { OnOk result (IsSound self.new) }
+        ensures rule { OnOk result (self.new.rule ≡ Book) }
         ensures latencies { OnOk result (self.new.latencies ≡ latencies.now) }
         ensures ops { OnOk result (self.new.ops.items ≡ ops.now) }
     {
@@ -240,6 +252,7 @@ impl Tables {
         };
         self.edges
             .fill(lasts, &operations, 3 * ops.len(), latencies)?;
+        self.rule = MemoryRule::Book;
         Ok(())
     }
 }

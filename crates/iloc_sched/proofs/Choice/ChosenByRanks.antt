@@ -8,22 +8,22 @@ use Rattle.iloc_timed.specs.declared.kind.Kind.{Kind}
 use Rattle.iloc_timed.specs.declared.row.Row.{Row}
 use Rattle.iloc_timed.specs.Kinds.{kind, is_memory}
 use Rattle.iloc_timed.specs.Rows.{is_some_kind, kind_in}
-use Rattle.iloc_rules.specs.Greedy.{ready, first_of_all, may_stand_beside, chosen}
+use Rattle.iloc_rules.specs.Greedy.{ready_where, first_of_all, may_stand_beside, chosen}
 use Rattle.iloc_sched.specs.declared.cycle.Choice.{Choice}
 use Rattle.iloc_sched.specs.declared.cycle.class.Class.{Class}
 use Rattle.iloc_sched.specs.declared.cycle.class.Class.TheVariants as C
 use Rattle.iloc_sched.specs.declared.cycle.plan.Plan.{Plan}
 use Rattle.iloc_sched.specs.declared.cycle.waiting.Waiting.{Waiting}
 use Rattle.iloc_sched.specs.Steps.Cycle.Calendar.{has}
-use Rattle.iloc_rules.specs.Steps.Choosing.{GoesBefore, IsChosenSoFar}
+use Rattle.iloc_rules.specs.Steps.Choosing.{GoesBefore, IsChosenWhere}
 use Rattle.iloc_rules.specs.Steps.Members.{In}
 use Rattle.iloc_sched.specs.Steps.Cycle.Classes.{class_of, excludes}
 use Rattle.iloc_sched.specs.Steps.Cycle.Progress.{MatchesRows}
 use Rattle.iloc_sched.specs.Steps.Views.{graph_of, progress_of}
-use Rattle.iloc_sched.specs.Steps.Cycle.SoFar.{class_at, rank_of, IsPlan, IsUnderWay, IsOpen, IsBest, Issues, number_of, needs_zero_choice, row_with}
+use Rattle.iloc_sched.specs.Steps.Cycle.SoFar.{class_at, counts_of, rank_of, IsPlan, IsUnderWay, IsOpen, IsBest, Issues, number_of, needs_zero_choice, row_with}
 use Rattle.iloc_rules.proofs.Basics.Members.{in_filter, from_filter}
 use Rattle.iloc_rules.proofs.Basics.Ordered.{ordered_filter}
-use Rattle.iloc_rules.proofs.Choice.Ready.{ready_means, ready_rises}
+use Rattle.iloc_rules.proofs.Choice.Ready.{ready_means_where, ready_rises_where}
 use Rattle.iloc_rules.proofs.Choice.FirstOfAll.{first_is, first_none}
 use Rattle.iloc_sched.proofs.Choice.IssuableIsReady.{ready_when, when_ready}
 use Rattle.iloc_sched.proofs.Choice.IssuedChoice.{issued_at}
@@ -60,21 +60,21 @@ module _ (p : Plan) (w : Waiting) (f : ℕ) (under : IsUnderWay p w f) (k : Clas
 module _ (p : Plan) (w : Waiting) (rows : List Row) (plan : IsPlan p)
     (under : IsUnderWay p w (length rows + 1))
     (matches : MatchesRows (length p.tables.now.ops.items) rows (progress_of p.ranks.now w).issued)
-    (each : IsChosenSoFar p.priorities.now p.tables.now.latencies p.tables.now.ops.items rows) where
+    (each : IsChosenWhere (counts_of p) p.priorities.now p.tables.now.latencies p.tables.now.ops.items rows) where
   abbrev all_ready : List ℕ
-  all_ready = ready p.tables.now.latencies p.tables.now.ops.items rows (length rows)
+  all_ready = ready_where (counts_of p) p.tables.now.latencies p.tables.now.ops.items rows (length rows)
 
   ready_there : (j : ℕ) → In all_ready j → j < length p.tables.now.ops.items
-  ready_there j held = grind (arith, ready_means)
+  ready_there j held = grind (arith, ready_means_where)
 
   -- who is ready has its rank in the set
   ready_queued : (j : ℕ) → In all_ready j → has w.calendar 32 (rank_of p j) ≡ true
-  ready_queued j held = under.queued.ready j (when_ready p.tables.now.latencies p.tables.now.ops.items (graph_of p.tables.now.edges)
+  ready_queued j held = under.queued.ready j (when_ready (counts_of p) p.tables.now.latencies p.tables.now.ops.items (graph_of p.tables.now.edges)
       (progress_of p.ranks.now w) rows plan.graph under.waits matches j held)
 
   -- whose rank is in the set is ready
   queued_ready : (j : ℕ) → j < length p.tables.now.ops.items → has w.calendar 32 (rank_of p j) ≡ true → In all_ready j
-  queued_ready j there held = ready_when p.tables.now.latencies p.tables.now.ops.items (graph_of p.tables.now.edges)
+  queued_ready j there held = ready_when (counts_of p) p.tables.now.latencies p.tables.now.ops.items (graph_of p.tables.now.edges)
       (progress_of p.ranks.now w) rows plan.graph under.waits matches p.priorities.now each j
       (under.queued.only j (subst (λ n. j < n) (sym plan.graph.size) there) held)
 
@@ -92,7 +92,7 @@ module _ (p : Plan) (w : Waiting) (rows : List Row) (plan : IsPlan p)
   pub chosen_first : (a : Choice) → IsBest p w C.Rest (Some a) → first_of_all p.priorities.now all_ready ≡ Some a.number
   chosen_first a best =
       first_is p.priorities.now all_ready a.number
-      (ready_rises p.tables.now.latencies p.tables.now.ops.items rows (length rows))
+      (ready_rises_where (counts_of p) p.tables.now.latencies p.tables.now.ops.items rows (length rows))
       (queued_ready a.number best.0.0 (open_ready p w (length rows + 1) under C.Rest a.number best.0.0 best.0))
       (λ j held. goes_before a.number j best.0.0 (ready_there j held) (best.2 j (open_all j held)))
 
@@ -138,7 +138,7 @@ module _ (p : Plan) (w : Waiting) (rows : List Row) (plan : IsPlan p)
     chosen_second (Some b) best =
         first_is p.priorities.now (filter beside all_ready) b.number
         (ordered_filter (λ (x y : ℕ). x < y) beside all_ready
-        (ready_rises p.tables.now.latencies p.tables.now.ops.items rows (length rows)))
+        (ready_rises_where (counts_of p) p.tables.now.latencies p.tables.now.ops.items rows (length rows)))
         (open_left b.number best.0)
         (λ j held. let is : IsOpen p w1 (class_of a.kind) j = left_open j held in goes_before b.number j best.0.0 is.0 (best.2 j is))
 

@@ -4,43 +4,40 @@ use Rattle.iloc_ops.specs.declared.op.Op.{Op}
 use Rattle.iloc_timed.specs.declared.latencies.Latencies.{Latencies}
 use Rattle.iloc_timed.specs.declared.row.Row.{Row}
 use Rattle.iloc_timed.specs.Rows.{slots, issue_cycle}
-use Rattle.iloc_rules.specs.Delays.{IsDelayPair}
-use Rattle.iloc_rules.specs.Greedy.{ready}
-use Rattle.iloc_rules.specs.Steps.Choosing.{IsChosenSoFar}
+use Rattle.iloc_rules.specs.Delays.{Counts, IsDelayPairWhere}
+use Rattle.iloc_rules.specs.Greedy.{ready_where}
+use Rattle.iloc_rules.specs.Steps.Choosing.{IsChosenWhere}
 use Rattle.iloc_rules.specs.Steps.Members.{In}
-use Rattle.iloc_sched.specs.Graph.Near.{IsNear}
-use Rattle.iloc_sched.specs.Steps.Graph.{Graph, IsGraphOf}
+use Rattle.iloc_sched.specs.Steps.Graph.{Graph, LeadsTo, IsGraphWhere}
 use Rattle.iloc_sched.specs.Steps.Cycle.Progress.{Progress, Waits, CanIssue, MatchesRows, count_from}
-use Rattle.iloc_rules.proofs.Choice.Ready.{IsReady, ready_means, ready_from}
+use Rattle.iloc_rules.proofs.Choice.Ready.{IsReadyWhere, ready_means_where, ready_from_where}
 use Rattle.iloc_rules.proofs.Basics.Slots.{stands_there}
 use Rattle.iloc_rules.proofs.Choice.ChosenRows.{chosen_in}
 use Rattle.iloc_sched.proofs.Basics.Cases.{by_lt, none_of}
 use Rattle.iloc_sched.proofs.Walking.EdgeWalk.{within_count}
 use Rattle.iloc_sched.proofs.Walking.UnmetEdges.{count_none, count_some}
-use Rattle.iloc_sched.proofs.KeptEdges.FarPairs.{near_is_over}
+use Rattle.iloc_sched.proofs.KeptEdges.FarPairs.{kept_is_over}
 
 -- what was issued had waited for its delays
-pub waited : (prios : List ℕ) (lat : Latencies) (ops : List Op) (rows : List Row) → IsChosenSoFar prios lat ops rows → (i h d : ℕ)
-    → IsDelayPair lat ops i h d → issue_cycle rows h < length rows → issue_cycle rows i + d ≤ issue_cycle rows h
-waited prios lat ops rows each i h d pair below =
+pub waited : (counts : Counts) (prios : List ℕ) (lat : Latencies) (ops : List Op) (rows : List Row) → IsChosenWhere counts prios lat ops rows → (i h d : ℕ)
+    → IsDelayPairWhere counts lat ops i h d → issue_cycle rows h < length rows → issue_cycle rows i + d ≤ issue_cycle rows h
+waited counts prios lat ops rows each i h d pair below =
     let c : ℕ = issue_cycle rows h in
-    let there : In (ready lat ops rows c) h =
-    chosen_in ops prios (ready lat ops rows c) h
+    let there : In (ready_where counts lat ops rows c) h =
+    chosen_in ops prios (ready_where counts lat ops rows c) h
     (subst (λ row. In (slots row) h) (each c below) (stands_there rows h below)) in
-    (ready_means lat ops rows c h there).over i d pair
+    (ready_means_where counts lat ops rows c h there).over i d pair
 
-module _ (lat : Latencies) (ops : List Op) (graph : Graph) (w : Progress) (rows : List Row)
-    (is : IsGraphOf lat ops graph) (waits : Waits graph w (length rows + 1) 0 None)
+module _ (counts : Counts) (lat : Latencies) (ops : List Op) (graph : Graph) (w : Progress) (rows : List Row)
+    (is : IsGraphWhere counts lat ops graph) (waits : Waits graph w (length rows + 1) 0 None)
     (matches : MatchesRows (length ops) rows w.issued) where
   -- by size: who is an operation of the graph is one of the list
   within_ops : (j : ℕ) → j < graph.ops → j < length ops
   within_ops j there = subst (λ n. j < n) is.size there
 
-  near_over : (j : ℕ) → CanIssue graph w (length rows + 1) j → (h d : ℕ) → IsDelayPair lat ops h j d
-      → IsNear lat ops h j d → issue_cycle rows h + d ≤ length rows
-  near_over j can h d pair near =
-      let edge : (x : ℕ) × (x < graph.count) × (graph.to x ≡ j) × (graph.from x ≡ h) × (d ≤ graph.delay x) =
-      is.all h j d pair near in
+  edge_over : (j : ℕ) → CanIssue graph w (length rows + 1) j → (h d : ℕ) → IsDelayPairWhere counts lat ops h j d
+      → LeadsTo graph h j d → issue_cycle rows h + d ≤ length rows
+  edge_over j can h d pair edge =
       let x : ℕ = edge.0 in
       let place : (graph.to x < graph.ops) × (graph.start (graph.to x) ≤ x) × (x < graph.start (graph.to x + 1)) =
       is.is_graph.to_there x edge.1 in
@@ -60,18 +57,19 @@ module _ (lat : Latencies) (ops : List Op) (graph : Graph) (w : Progress) (rows 
       let soon : w.earliest j < length rows + 1 = can.soon in
       omega arith
 
-  pub ready_when : (prios : List ℕ) → IsChosenSoFar prios lat ops rows → (j : ℕ) → CanIssue graph w (length rows + 1) j
-      → In (ready lat ops rows (length rows)) j
+  pub ready_when : (prios : List ℕ) → IsChosenWhere counts prios lat ops rows → (j : ℕ) → CanIssue graph w (length rows + 1) j
+      → In (ready_where counts lat ops rows (length rows)) j
   ready_when prios each j can =
-      ready_from lat ops rows (length rows) j (record {
+      ready_from_where counts lat ops rows (length rows) j (record {
         within = within_ops j can.there;
         waiting = matches.waiting j (within_ops j can.there) can.waiting;
-        over = near_is_over lat ops (issue_cycle rows) (length rows) j (waited prios lat ops rows each) (near_over j can);
+        over = kept_is_over counts lat ops (LeadsTo graph) is.ways (issue_cycle rows) (length rows) j
+            (waited counts prios lat ops rows each) (edge_over j can);
       })
 
-  pub when_ready : (j : ℕ) → In (ready lat ops rows (length rows)) j → CanIssue graph w (length rows + 1) j
+  pub when_ready : (j : ℕ) → In (ready_where counts lat ops rows (length rows)) j → CanIssue graph w (length rows + 1) j
   when_ready j held =
-      let means : IsReady lat ops rows (length rows) j = ready_means lat ops rows (length rows) j held in
+      let means : IsReadyWhere counts lat ops rows (length rows) j = ready_means_where counts lat ops rows (length rows) j held in
       let there : j < graph.ops = subst (λ n. j < n) (sym is.size) means.within in
       let over : (x : ℕ) → graph.start j ≤ x → x < graph.start (j + 1)
       → (issue_cycle rows (graph.from x) + graph.delay x ≤ length rows) × (1 ≤ graph.delay x)
@@ -82,7 +80,7 @@ module _ (lat : Latencies) (ops : List Op) (graph : Graph) (w : Progress) (rows 
       let earlier : graph.from x < graph.to x = is.is_graph.earlier x count in
       let within : j < length ops = means.within in (
         means.over (graph.from x) (graph.delay x)
-            (subst (λ k. IsDelayPair lat ops (graph.from x) k (graph.delay x)) target (is.sound x count)),
+            (subst (λ k. IsDelayPairWhere counts lat ops (graph.from x) k (graph.delay x)) target (is.sound x count)),
         (is.is_graph.delays x count).0,
         omega arith,
       )) in

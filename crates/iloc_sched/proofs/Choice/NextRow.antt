@@ -9,7 +9,7 @@ use Rattle.iloc_timed.specs.Latency.{latency}
 use Rattle.iloc_timed.specs.declared.row.Row.{Row}
 use Rattle.iloc_timed.specs.Rows.{empty_row, row_at, slots, holds}
 use Rattle.iloc_rules.specs.Renaming.{renamed}
-use Rattle.iloc_rules.specs.Greedy.{IsGreedyBy}
+use Rattle.iloc_rules.specs.Greedy.{IsGreedyWhere}
 use Rattle.iloc_sched.specs.declared.cycle.plan.Plan.{Plan}
 use Rattle.iloc_sched.specs.declared.cycle.Choice.{Choice}
 use Rattle.iloc_sched.specs.declared.cycle.class.Class.TheVariants as C
@@ -18,12 +18,12 @@ use Rattle.iloc_rules.specs.Steps.Members.{In}
 use Rattle.iloc_sched.specs.Steps.Cycle.Classes.{class_of}
 use Rattle.iloc_sched.specs.Steps.Cycle.Progress.{MatchesRows}
 use Rattle.iloc_sched.specs.Steps.Views.{issued_list, progress_of}
-use Rattle.iloc_sched.specs.Steps.Cycle.SoFar.{IsPlan, IsUnderWay, IsSoFar, IsBest, Issues, IssuesAny, number_of, row_with, slot_count, waiting_count}
+use Rattle.iloc_sched.specs.Steps.Cycle.SoFar.{counts_of, IsPlan, IsUnderWay, IsSoFar, IsBest, Issues, IssuesAny, number_of, row_with, slot_count, waiting_count}
 use Rattle.iloc_rules.proofs.Basics.IssueCycles.{issue_cycle_more, issue_cycle_last, issue_cycle_beyond}
 use Rattle.iloc_rules.proofs.Basics.Slots.{holds_from, from_holds}
 use Rattle.iloc_rules.proofs.Choice.ChosenRows.{in_option}
-use Rattle.iloc_rules.proofs.Choice.RowAfterRow.{chosen_more, chosen_is_greedy}
-use Rattle.iloc_rules.proofs.Bounds.BusyCycles.{rows_bound}
+use Rattle.iloc_rules.proofs.Choice.RowAfterRow.{chosen_more_where, chosen_is_greedy_where}
+use Rattle.iloc_rules.proofs.Bounds.BusyCycles.{rows_bound_where}
 use Rattle.iloc_sched.proofs.Choice.IssuedChoice.{issued_at, issued_other}
 use Rattle.iloc_sched.proofs.Walking.TableReads.{issued_size}
 use Rattle.iloc_sched.proofs.Choice.ChosenByRanks.{chosen_none, chosen_row}
@@ -68,7 +68,7 @@ so_far_none p w w1 w2 rows rows' row plan so_far same under best issues is_row i
     let matches : MatchesRows (length p.tables.now.ops.items) rows (progress_of p.ranks.now w1).issued =
     subst (λ xs. MatchesRows (length p.tables.now.ops.items) rows (λ j. get_or xs j None))
     (sym same) so_far.matches in
-    grind (arith, chosen_more, chosen_none, matches_more)
+    grind (arith, chosen_more_where, chosen_none, matches_more)
 
 -- the choices of a cycle in the tables
 module _ (p : Plan) (w1 w2 w3 : Waiting) (c : ℕ) (a : Choice) (first : Issues p w1 w2 c a)
@@ -132,7 +132,7 @@ so_far_row p w w1 w2 w3 rows rows' row a b plan so_far same under best_a issues_
           (λ e. misses (subst (λ k. In (slots (row_with a b)) k) (sym e) (in_first a b)))
           (λ x some e. misses (subst (λ k. In (slots (row_with a b)) k) (sym e)
           (subst (λ o. In (slots (row_with a o)) x.number) (sym some) (in_second a x)))));
-      each = chosen_more p.priorities.now p.tables.now.latencies p.tables.now.ops.items rows (row_with a b) so_far.each
+      each = chosen_more_where (counts_of p) p.priorities.now p.tables.now.latencies p.tables.now.ops.items rows (row_with a b) so_far.each
           (chosen_row p w1 rows plan under matches so_far.each w2 a best_a issues_a b best_b);
     })
 
@@ -189,7 +189,7 @@ few_rows p w rows plan so_far some =
     let size : length p.tables.now.edges.heads.items ≡ length p.tables.now.ops.items = plan.graph.size in
     let short : length p.tables.now.edges.heads.items ≤ 10000 = p.tables.now.edges.short in
     let bound : length rows ≤ sum_by (latency p.tables.now.latencies) p.tables.now.ops.items =
-    rows_bound p.priorities.now p.tables.now.latencies p.tables.now.ops.items rows found.0 so_far.each (omega arith)
+    rows_bound_where (counts_of p) p.priorities.now p.tables.now.latencies p.tables.now.ops.items rows found.0 so_far.each (omega arith)
     (so_far.matches.waiting found.0 (omega arith) found.2) in
     let sum : sum_by (latency p.tables.now.latencies) p.tables.now.ops.items ≤ length p.tables.now.ops.items * 16 = short_sum p.tables.now.latencies p.tables.now.ops.items in
     omega arith
@@ -205,11 +205,11 @@ none_waits xs none j below = grind (arith, waits_count xs j below)
 pub greedy_at_end : (p : Plan) (w : Waiting) (rows : List Row) (block : List Op) → IsPlan p
     → IsSoFar p w rows → waiting_count w ≡ 0
     → ((c : ℕ) → length rows ≡ c + 1 → slots (row_at rows c) ≡ [] → ⊥) → p.tables.now.ops.items ≡ renamed block
-    → IsGreedyBy p.priorities.now p.tables.now.latencies block p.tables.now.ops.items rows
+    → IsGreedyWhere (counts_of p) p.priorities.now p.tables.now.latencies block p.tables.now.ops.items rows
 greedy_at_end p w rows block plan so_far none last is =
     let table : length (issued_list w) ≡ length p.tables.now.edges.heads.items = issued_size p.tables.now.edges w so_far.under_way.sized in
     let size : length p.tables.now.edges.heads.items ≡ length p.tables.now.ops.items = plan.graph.size in
-    chosen_is_greedy p.priorities.now p.tables.now.latencies block p.tables.now.ops.items rows is so_far.each
+    chosen_is_greedy_where (counts_of p) p.priorities.now p.tables.now.latencies block p.tables.now.ops.items rows is so_far.each
     (λ i below.
     let found : (t : ℕ) × (get_or (issued_list w) i None ≡ Some t) = none_waits (issued_list w) none i (omega arith) in
     grind arith)

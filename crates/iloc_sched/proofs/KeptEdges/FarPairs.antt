@@ -7,12 +7,13 @@ use Rattle.iloc_timed.specs.declared.kind.Kind.TheVariants as K
 use Rattle.iloc_timed.specs.declared.latencies.Latencies.{Latencies}
 use Rattle.iloc_timed.specs.Kinds.{kind, is_output, is_store}
 use Rattle.iloc_timed.specs.Latency.{latency}
-use Rattle.iloc_rules.specs.Delays.{uses_result, when, memory_delays, IsDelayPair}
+use Rattle.iloc_rules.specs.Delays.{Counts, all_count, uses_result, when, memory_delays, delays_where, IsDelayPair, IsDelayPairWhere}
 use Rattle.iloc_rules.specs.Steps.Members.{In}
+use Rattle.iloc_rules.specs.Steps.Ways.{GoesBy}
 use Rattle.iloc_sched.specs.Graph.Near.{takes_over, IsNear}
 use Rattle.std.proofs.lemmas.Bool.{cases_lt}
 use Rattle.iloc_rules.proofs.Basics.Members.{contains_from, in_from, in_right, from_append}
-use Rattle.iloc_rules.proofs.DelayPairs.DelayBounds.{delay_at_least, kind_delays}
+use Rattle.iloc_rules.proofs.DelayPairs.DelayBounds.{delay_at_least_where, kind_delays}
 use Rattle.iloc_meaning.proofs.Cases.{by_bool}
 use Rattle.iloc_sched.proofs.Basics.Cases.{by_eq}
 
@@ -54,20 +55,12 @@ passes_between test a (suc b) = elim (passes_between test a b) [
       (λ fails. inr (λ k after before. by_eq k b (λ same. ap test same ∙ fails) (λ apart. none k after (omega arith))))
 ]
 
-pub record GoesBy (lat : Latencies) (ops : List Op) (i j d : ℕ) : Type 0 where
-  pub way : ℕ
-  pub first_delay : ℕ
-  pub second_delay : ℕ
-  pub first : IsDelayPair lat ops i way first_delay
-  pub second : IsDelayPair lat ops way j second_delay
-  pub enough : d ≤ first_delay + second_delay
-
 in_when : (b : Bool) (x d : ℕ) → In (when b x) d → (b ≡ true) × (d ≡ x)
 in_when b x d held = grind arith
 
 goes_by : (lat : Latencies) (ops : List Op) (i j k d : ℕ) → i < k → k < j → j < length ops
     → takes_over (op_at ops i) (op_at ops k) ≡ true → In (memory_delays lat (op_at ops i) (op_at ops j)) d
-    → GoesBy lat ops i j d
+    → GoesBy all_count lat ops i j d
 goes_by lat ops i j k d after before within takes held =
     let way : In (kind_delays lat (kind (op_at ops i)) (kind (op_at ops k))) 1
     × Follows lat (kind (op_at ops k)) (kind (op_at ops j)) d =
@@ -83,7 +76,7 @@ goes_by lat ops i j k d after before within takes held =
     }
 
 pub near_or_by_way : (lat : Latencies) (ops : List Op) (i j d : ℕ) → IsDelayPair lat ops i j d → IsNear lat ops i j d
-    ⊎ GoesBy lat ops i j d
+    ⊎ GoesBy all_count lat ops i j d
 near_or_by_way lat ops i j d pair =
     elim (from_append (when (uses_result (op_at ops i) (op_at ops j)) (latency lat (op_at ops i)))
     (memory_delays lat (op_at ops i) (op_at ops j)) d (in_from _ _ pair.delay)) [
@@ -94,36 +87,52 @@ near_or_by_way lat ops i j d pair =
       ]
     ]
 
--- Numbers that keep the near pairs out of the operations from `low` on keep all delay pairs out of these.
-module _ (lat : Latencies) (ops : List Op) (a b : ℕ → ℕ) (low : ℕ)
-    (near : (i j d : ℕ) → low ≤ i → IsDelayPair lat ops i j d → IsNear lat ops i j d → d + a i + b j ≤ a j + b i) where
-  kept_within : (n i j d : ℕ) → j ≤ i + n → low ≤ i → IsDelayPair lat ops i j d → d + a i + b j ≤ a j + b i
-  kept_within zero i j d few high pair = let order : i < j = pair.order in absurd (omega arith)
-  kept_within (suc n) i j d few high pair = elim (near_or_by_way lat ops i j d pair) [
-    | inl is ↦ near i j d high pair is
-    | inr by ↦
-        grind (arith, kept_within n i by.way by.first_delay, kept_within n by.way j by.second_delay)
-  ]
+-- where these count, each delay pair is kept, or goes by way of an operation between
+module _ (counts : Counts) (lat : Latencies) (ops : List Op) (Kept : ℕ → ℕ → ℕ → Type 0)
+    (ways : (i j d : ℕ) → IsDelayPairWhere counts lat ops i j d → Kept i j d ⊎ GoesBy counts lat ops i j d) where
+  -- Numbers that keep those kept out of the operations from `low` on keep all delay pairs out of these.
+  module _ (a b : ℕ → ℕ) (low : ℕ)
+      (kept : (i j d : ℕ) → low ≤ i → IsDelayPairWhere counts lat ops i j d → Kept i j d → d + a i + b j ≤ a j + b i) where
+    kept_within : (n i j d : ℕ) → j ≤ i + n → low ≤ i → IsDelayPairWhere counts lat ops i j d → d + a i + b j ≤ a j + b i
+    kept_within zero i j d few high pair = let order : i < j = pair.order in absurd (omega arith)
+    kept_within (suc n) i j d few high pair = elim (ways i j d pair) [
+      | inl is ↦ kept i j d high pair is
+      | inr by ↦
+          let first_order : i < by.way = by.first.order in
+          let second_order : by.way < j = by.second.order in
+          let first = kept_within n i by.way by.first_delay (omega arith) high by.first in
+          let second = kept_within n by.way j by.second_delay (omega arith) (omega arith) by.second in
+          let enough : d ≤ by.first_delay + by.second_delay = by.enough in
+          omega arith
+    ]
 
-  pub all_are_kept : (i j d : ℕ) → low ≤ i → IsDelayPair lat ops i j d → d + a i + b j ≤ a j + b i
-  all_are_kept i j d high pair = kept_within j i j d (omega arith) high pair
+    pub all_kept : (i j d : ℕ) → low ≤ i → IsDelayPairWhere counts lat ops i j d → d + a i + b j ≤ a j + b i
+    all_kept i j d high pair = kept_within j i j d (omega arith) high pair
 
-module _ (lat : Latencies) (ops : List Op) (t : ℕ → ℕ) (c j : ℕ)
-    (waited : (i h d : ℕ) → IsDelayPair lat ops i h d → t h < c → t i + d ≤ t h)
-    (near : (i d : ℕ) → IsDelayPair lat ops i j d → IsNear lat ops i j d → t i + d ≤ c) where
-  over_within : (n i d : ℕ) → j ≤ i + n → IsDelayPair lat ops i j d → t i + d ≤ c
-  over_within zero i d few pair = let order : i < j = pair.order in absurd (omega arith)
-  over_within (suc n) i d few pair = elim (near_or_by_way lat ops i j d pair) [
-    | inl is ↦ near i d pair is
-    | inr by ↦
-        let rest : t by.way + by.second_delay ≤ c = over_within n by.way by.second_delay (omega arith) by.second in
-        let long : 1 ≤ by.second_delay = delay_at_least lat (op_at ops by.way) (op_at ops j) by.second_delay
-        by.second.delay in
-        let start : t i + by.first_delay ≤ t by.way = waited i by.way by.first_delay by.first (omega arith) in
-        let enough : d ≤ by.first_delay + by.second_delay = by.enough in
-        omega arith
-  ]
+  module _ (t : ℕ → ℕ) (c j : ℕ)
+      (waited : (i h d : ℕ) → IsDelayPairWhere counts lat ops i h d → t h < c → t i + d ≤ t h)
+      (kept : (i d : ℕ) → IsDelayPairWhere counts lat ops i j d → Kept i j d → t i + d ≤ c) where
+    over_within : (n i d : ℕ) → j ≤ i + n → IsDelayPairWhere counts lat ops i j d → t i + d ≤ c
+    over_within zero i d few pair = let order : i < j = pair.order in absurd (omega arith)
+    over_within (suc n) i d few pair = elim (ways i j d pair) [
+      | inl is ↦ kept i d pair is
+      | inr by ↦
+          let first_order : i < by.way = by.first.order in
+          let second_order : by.way < j = by.second.order in
+          let rest : t by.way + by.second_delay ≤ c = over_within n by.way by.second_delay (omega arith) by.second in
+          let long : 1 ≤ by.second_delay = delay_at_least_where (counts by.way j) lat (op_at ops by.way) (op_at ops j)
+          by.second_delay by.second.delay in
+          let start : t i + by.first_delay ≤ t by.way = waited i by.way by.first_delay by.first (omega arith) in
+          let enough : d ≤ by.first_delay + by.second_delay = by.enough in
+          omega arith
+    ]
 
-  -- where all that was issued had waited for its delays, near pairs alone say what is over at cycle c
-  pub near_is_over : (i d : ℕ) → IsDelayPair lat ops i j d → t i + d ≤ c
-  near_is_over i d pair = over_within j i d (omega arith) pair
+    -- where all that was issued had waited for its delays, those kept alone say what is over at cycle c
+    pub kept_is_over : (i d : ℕ) → IsDelayPairWhere counts lat ops i j d → t i + d ≤ c
+    kept_is_over i d pair = over_within j i d (omega arith) pair
+
+-- the near pairs are kept
+pub all_are_kept : (lat : Latencies) (ops : List Op) (a b : ℕ → ℕ) (low : ℕ)
+    → ((i j d : ℕ) → low ≤ i → IsDelayPair lat ops i j d → IsNear lat ops i j d → d + a i + b j ≤ a j + b i)
+    → (i j d : ℕ) → low ≤ i → IsDelayPair lat ops i j d → d + a i + b j ≤ a j + b i
+all_are_kept lat ops = all_kept all_count lat ops (IsNear lat ops) (near_or_by_way lat ops)

@@ -3,11 +3,11 @@ use Rattle.std.proofs.Common.{◌≡◌, ◌≢◌, ℕ, zero, suc, ◌+◌, ◌
 use Rattle.std.proofs.lemmas.List.{get_or-set_same, get_or-set_other, length-set}
 use Rattle.iloc_ops.specs.declared.op.Op.{Op}
 use Rattle.iloc_timed.specs.declared.latencies.Latencies.{Latencies}
-use Rattle.iloc_rules.specs.Delays.{IsDelayPair}
+use Rattle.iloc_rules.specs.Delays.{Counts, IsDelayPairWhere}
 use Rattle.iloc_sched.specs.Steps.Chains.{IsRaised, IsFrom, IsBefore}
 use Rattle.iloc_rules.specs.Steps.Chains.{IsChain}
-use Rattle.iloc_sched.specs.Steps.Graph.{Graph, IsGraphOf}
-use Rattle.iloc_sched.proofs.KeptEdges.FarPairs.{all_are_kept}
+use Rattle.iloc_sched.specs.Steps.Graph.{Graph, LeadsTo, IsGraphWhere}
+use Rattle.iloc_sched.proofs.KeptEdges.FarPairs.{all_kept}
 
 -- the number of `at` is put to v, which is no less
 module _ (found : List ℕ) (at v : ℕ) (there : at < length found) (up : get_or found at 0 ≤ v) where
@@ -40,7 +40,7 @@ module _ (size : ℕ) (base chain value place other delay : ℕ → ℕ) (Pair :
       → IsRaised size base chain value place other delay Done (set found j v) j
   settle j v raised below v_is up apart = grind (arith, away, grown, here, length-set)
 
-module _ (lat : Latencies) (ops : List Op) (graph : Graph) (is : IsGraphOf lat ops graph) where
+module _ (counts : Counts) (lat : Latencies) (ops : List Op) (graph : Graph) (is : IsGraphWhere counts lat ops graph) where
   pub ends_within : (x : ℕ) → x < graph.count → (graph.from x < graph.to x) × (graph.to x < length ops)
   ends_within x below = grind arith
 
@@ -49,24 +49,24 @@ module _ (lat : Latencies) (ops : List Op) (graph : Graph) (is : IsGraphOf lat o
   to_rises y x low y_below x_below = grind arith
 
   module _ (base chain value : ℕ → ℕ) (found : List ℕ) (j x : ℕ) (below : x < graph.count) where
-    pub raise_from : IsChain (length ops) (IsDelayPair lat ops) base chain value
+    pub raise_from : IsChain (length ops) (IsDelayPairWhere counts lat ops) base chain value
         → IsRaised (length ops) base chain value graph.from graph.to graph.delay (IsFrom graph (x + 1)) found j
         → graph.from x < j → IsRaised (length ops) base chain value graph.from graph.to graph.delay (IsFrom graph x)
         (set found (graph.from x) (max (get_or found (graph.from x) 0) (graph.delay x + get_or found (graph.to x) 0))) j
     raise_from chains raised early =
         let ends = ends_within x below in
-        raise (length ops) base chain value graph.from graph.to graph.delay (IsDelayPair lat ops) chains
+        raise (length ops) base chain value graph.from graph.to graph.delay (IsDelayPairWhere counts lat ops) chains
         (IsFrom graph (x + 1)) found (IsFrom graph x) j x raised (is.sound x below) early (omega arith) ends.1
         (λ y more same. let up = to_rises x y more.0 below more.1 in absurd (omega arith))
         (λ y more away. (omega arith, more.1))
 
-    pub raise_to : IsChain (length ops) (λ k i d. IsDelayPair lat ops i k d) base chain value
+    pub raise_to : IsChain (length ops) (λ k i d. IsDelayPairWhere counts lat ops i k d) base chain value
         → IsRaised (length ops) base chain value graph.to graph.from graph.delay (IsBefore graph x) found j
         → graph.to x < j → IsRaised (length ops) base chain value graph.to graph.from graph.delay (IsBefore graph (x + 1))
         (set found (graph.to x) (max (get_or found (graph.to x) 0) (graph.delay x + get_or found (graph.from x) 0))) j
     raise_to chains raised early =
         let ends = ends_within x below in
-        raise (length ops) base chain value graph.to graph.from graph.delay (λ k i d. IsDelayPair lat ops i k d) chains
+        raise (length ops) base chain value graph.to graph.from graph.delay (λ k i d. IsDelayPairWhere counts lat ops i k d) chains
         (IsBefore graph x) found (IsBefore graph (x + 1)) j x raised (is.sound x below) early ends.1 (omega arith)
         (grind (arith, ends_within, to_rises))
         (λ y more away. let low = more.0 in (omega arith, more.1))
@@ -74,7 +74,5 @@ module _ (lat : Latencies) (ops : List Op) (graph : Graph) (is : IsGraphOf lat o
   -- where all edges out of the operations from `low` on are kept, so are all delay pairs out of these
   module _ (a b : ℕ → ℕ) (low : ℕ) (over : (y : ℕ) → y < graph.count → low ≤ graph.from y
       → graph.delay y + a (graph.from y) + b (graph.to y) ≤ a (graph.to y) + b (graph.from y)) where
-    pub over_pairs : (i j d : ℕ) → low ≤ i → IsDelayPair lat ops i j d → d + a i + b j ≤ a j + b i
-    over_pairs = all_are_kept lat ops a b low (λ i j d high pair near.
-        let edge = is.all i j d pair near in
-        grind arith)
+    pub over_pairs : (i j d : ℕ) → low ≤ i → IsDelayPairWhere counts lat ops i j d → d + a i + b j ≤ a j + b i
+    over_pairs = all_kept counts lat ops (LeadsTo graph) is.ways a b low (λ i j d high pair edge. grind arith)

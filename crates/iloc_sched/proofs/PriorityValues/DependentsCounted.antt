@@ -12,7 +12,8 @@ use Rattle.std.proofs.lemmas.List.FromFn.{length-map-range_with_len, get_or-map-
 use Rattle.iloc_ops.specs.declared.op.Op.{Op}
 use Rattle.iloc_timed.specs.declared.latencies.Latencies.{Latencies}
 use Rattle.iloc_meaning.proofs.Cases.{by_bool}
-use Rattle.iloc_rules.specs.Heuristics.{depends_on, descendants}
+use Rattle.iloc_rules.specs.Delays.{Counts}
+use Rattle.iloc_rules.specs.Heuristics.{depends_on_where, descendants_where}
 use Rattle.iloc_sched.specs.Steps.Ranking.Dependents.{AreMarked}
 use Rattle.iloc_sched.proofs.Basics.CountedRanges.{count_range, none_in_range}
 use Rattle.iloc_sched.proofs.PriorityValues.Dependents.{depends_within}
@@ -47,23 +48,23 @@ mask_is p base m small only all = same_from_bits m (mask_l (map p (range_with_le
                   true≢false (sym is ∙ f))
             ]
 
-pub counted_more : (lat : Latencies) (ops : List Op) (base i : ℕ) (masks : List ℕ) → AreMarked lat ops base masks
+pub counted_more : (counts : Counts) (lat : Latencies) (ops : List Op) (base i : ℕ) (masks : List ℕ) → AreMarked counts lat ops base masks
     → i < length ops → get_or masks i 0 < 2 ^ 64
-    → count_by (depends_on lat ops i) (range_with_len 0 base) + count_ones (get_or masks i 0)
-    ≡ count_by (depends_on lat ops i) (range_with_len 0 (base + 64))
-counted_more lat ops base i masks marked within small =
-    let ones : count_ones (get_or masks i 0) ≡ count_by (depends_on lat ops i) (range_with_len base 64) =
-    ap count_ones (mask_is (depends_on lat ops i) base (get_or masks i 0) small
+    → count_by (depends_on_where counts lat ops i) (range_with_len 0 base) + count_ones (get_or masks i 0)
+    ≡ count_by (depends_on_where counts lat ops i) (range_with_len 0 (base + 64))
+counted_more counts lat ops base i masks marked within small =
+    let ones : count_ones (get_or masks i 0) ≡ count_by (depends_on_where counts lat ops i) (range_with_len base 64) =
+    ap count_ones (mask_is (depends_on_where counts lat ops i) base (get_or masks i 0) small
     (λ b below. marked.only i b within below) (λ b below. marked.all i b within below))
-    ∙ ones-mask_l (depends_on lat ops i) (range_with_len base 64) in
+    ∙ ones-mask_l (depends_on_where counts lat ops i) (range_with_len base 64) in
     grind (arith, count_range)
 
-pub counted_all : (lat : Latencies) (ops : List Op) (i n : ℕ) → length ops ≤ n
-    → count_by (depends_on lat ops i) (range_with_len 0 n) ≡ descendants lat ops i
-counted_all lat ops i n enough =
+pub counted_all : (counts : Counts) (lat : Latencies) (ops : List Op) (i n : ℕ) → length ops ≤ n
+    → count_by (depends_on_where counts lat ops i) (range_with_len 0 n) ≡ descendants_where counts lat ops i
+counted_all counts lat ops i n enough =
     let rest : ℕ = n - length ops in
-    let all : count_by (depends_on lat ops i) (range_with_len 0 (length ops + rest))
-    ≡ count_by (depends_on lat ops i) (range_with_len 0 (length ops))
-    + count_by (depends_on lat ops i) (range_with_len (length ops) rest) =
-    count_range (depends_on lat ops i) 0 (length ops) rest (length ops) (omega arith) in
+    let all : count_by (depends_on_where counts lat ops i) (range_with_len 0 (length ops + rest))
+    ≡ count_by (depends_on_where counts lat ops i) (range_with_len 0 (length ops))
+    + count_by (depends_on_where counts lat ops i) (range_with_len (length ops) rest) =
+    count_range (depends_on_where counts lat ops i) 0 (length ops) rest (length ops) (omega arith) in
     grind (arith, depends_within, none_in_range)

@@ -9,13 +9,12 @@ use Rattle.std.proofs.lemmas.Nat.Bits.{bit_at_or, bit_at-lt, bit_at-zero}
 use Rattle.std.proofs.lemmas.Bool.{cases_lt}
 use Rattle.iloc_ops.specs.declared.op.Op.{Op}
 use Rattle.iloc_timed.specs.declared.latencies.Latencies.{Latencies}
-use Rattle.iloc_rules.specs.Delays.{IsDelayPair}
-use Rattle.iloc_rules.specs.Heuristics.{depends_on}
-use Rattle.iloc_sched.specs.Steps.Graph.{Graph, IsGraphOf}
+use Rattle.iloc_rules.specs.Delays.{Counts, IsDelayPairWhere}
+use Rattle.iloc_rules.specs.Heuristics.{depends_on_where}
+use Rattle.iloc_sched.specs.Steps.Graph.{Graph, LeadsTo, IsGraphWhere}
 use Rattle.iloc_sched.specs.Steps.Ranking.Dependents.{Reaches, IsMarked, AreMarked}
 use Rattle.iloc_sched.proofs.PriorityValues.Dependents.{by_pair, first_pair, later}
 use Rattle.iloc_sched.proofs.Basics.Cases.{by_eq}
-use Rattle.iloc_sched.proofs.KeptEdges.FarPairs.{near_or_by_way}
 
 in_left_set : (a b i : ℕ) → bit_at a i ≡ 1 → bit_at (bit_or a b) i ≡ 1
 in_left_set a b i is = grind (arith, bit_at-lt, bit_at_or)
@@ -26,7 +25,7 @@ in_right_set a b i is = grind (arith, bit_at-lt, bit_at_or)
 from_sets : (a b i : ℕ) → bit_at (bit_or a b) i ≡ 1 → (bit_at a i ≡ 1) ⊎ (bit_at b i ≡ 1)
 from_sets a b i is = grind (arith, bit_at-lt, bit_at_or, cases_lt)
 
-module _ (lat : Latencies) (ops : List Op) (graph : Graph) (is : IsGraphOf lat ops graph) (base : ℕ) where
+module _ (counts : Counts) (lat : Latencies) (ops : List Op) (graph : Graph) (is : IsGraphWhere counts lat ops graph) (base : ℕ) where
   -- an edge leads to an operation before the last of the 64 where it lies before the edges into those after them
   pub early_target : (end x : ℕ) → end ≡ min graph.ops (base + 64) → x < graph.start end
       → (x < graph.count) × (graph.to x < base + 64)
@@ -34,37 +33,36 @@ module _ (lat : Latencies) (ops : List Op) (graph : Graph) (is : IsGraphOf lat o
 
   -- and all others lead to none of the 64, nor from there to one of them
   pub marked_none : (masks : List ℕ) (end : ℕ) → masks ≡ replicate graph.ops 0 → end ≡ min graph.ops (base + 64)
-      → IsMarked lat ops graph base masks (graph.start end)
+      → IsMarked counts lat ops graph base masks (graph.start end)
   marked_none masks end are end_is = grind (arith, bit_at-zero, get_or-replicate, later, length-replicate)
 
   -- what a delay pair leads to is in the set of its source
-  pair_marked : (masks : List ℕ) (x i b : ℕ) → IsMarked lat ops graph base masks x → x ≤ graph.start (i + 1) → b < 64
-      → (n k d : ℕ) → k ≤ i + n → IsDelayPair lat ops i k d → Reaches lat ops k (base + b)
+  pair_marked : (masks : List ℕ) (x i b : ℕ) → IsMarked counts lat ops graph base masks x → x ≤ graph.start (i + 1) → b < 64
+      → (n k d : ℕ) → k ≤ i + n → IsDelayPairWhere counts lat ops i k d → Reaches counts lat ops k (base + b)
       → bit_at (get_or masks i 0) b ≡ 1
   pair_marked masks x i b marked after small zero k d few pair reaches = grind arith
-  pair_marked masks x i b marked after small (suc n) k d few pair reaches = elim (near_or_by_way lat ops i k d pair) [
-    | inl near ↦
-        let edge : (y : ℕ) × (y < graph.count) × (graph.to y ≡ k) × (graph.from y ≡ i) × (d ≤ graph.delay y) =
-        is.all i k d pair near in
+  pair_marked masks x i b marked after small (suc n) k d few pair reaches = elim (is.ways i k d pair) [
+    | inl edge ↦
+        let there : LeadsTo graph i k d = edge in
         grind arith
     | inr by ↦
         pair_marked masks x i b marked after small n by.way by.first_delay (omega arith) by.first
-        (inr (by_pair lat ops by.way k (base + b) by.second_delay by.second reaches))
+        (inr (by_pair counts lat ops by.way k (base + b) by.second_delay by.second reaches))
   ]
 
   -- the set of i is whole once all edges out of it are done
-  pub marked_from : (masks : List ℕ) (x i b : ℕ) → IsMarked lat ops graph base masks x → x ≤ graph.start (i + 1)
-      → b < 64 → depends_on lat ops i (base + b) ≡ true → bit_at (get_or masks i 0) b ≡ 1
+  pub marked_from : (masks : List ℕ) (x i b : ℕ) → IsMarked counts lat ops graph base masks x → x ≤ graph.start (i + 1)
+      → b < 64 → depends_on_where counts lat ops i (base + b) ≡ true → bit_at (get_or masks i 0) b ≡ 1
   marked_from masks x i b marked after small depends =
-      let first = first_pair lat ops i (base + b) depends in
+      let first = first_pair counts lat ops i (base + b) depends in
       pair_marked masks x i b marked after small first.to first.to first.delay (omega arith) first.pair first.rest
 
   -- edge x is done
-  pub marked_more : (masks masks' : List ℕ) (x from to own : ℕ) → IsMarked lat ops graph base masks (x + 1)
+  pub marked_more : (masks masks' : List ℕ) (x from to own : ℕ) → IsMarked counts lat ops graph base masks (x + 1)
       → x < graph.count → from ≡ graph.from x → to ≡ graph.to x
       → ((b : ℕ) → b < 64 → bit_at own b ≡ 1 → to ≡ base + b) → ((b : ℕ) → b < 64 → to ≡ base + b → bit_at own b ≡ 1)
       → masks' ≡ set masks from (bit_or (get_or masks from 0) (bit_or (get_or masks to 0) own))
-      → IsMarked lat ops graph base masks' x
+      → IsMarked counts lat ops graph base masks' x
   marked_more masks masks' x from to own marked below from_is to_is own_only own_all are =
       let place : (graph.to x < graph.ops) × (graph.start (graph.to x) ≤ x) × (x < graph.start (graph.to x + 1)) =
       is.is_graph.to_there x below in
@@ -78,9 +76,9 @@ module _ (lat : Latencies) (ops : List Op) (graph : Graph) (is : IsGraphOf lat o
       (λ k apart. ap (λ xs. get_or xs k 0) are ∙ get_or-set_other masks from k _ 0 apart) in
       let grown : (k b : ℕ) → bit_at (get_or masks k 0) b ≡ 1 → bit_at (get_or masks' k 0) b ≡ 1 =
       grind (arith, in_left_set) in
-      let pair : IsDelayPair lat ops from to (graph.delay x) =
-      subst (λ f. IsDelayPair lat ops f to (graph.delay x)) (sym from_is)
-      (subst (λ t. IsDelayPair lat ops (graph.from x) t (graph.delay x)) (sym to_is) (is.sound x below)) in
+      let pair : IsDelayPairWhere counts lat ops from to (graph.delay x) =
+      subst (λ f. IsDelayPairWhere counts lat ops f to (graph.delay x)) (sym from_is)
+      (subst (λ t. IsDelayPairWhere counts lat ops (graph.from x) t (graph.delay x)) (sym to_is) (is.sound x below)) in
       record {
         size = ap length are ∙ length-set masks from _ ∙ size;
         only = λ i b within small one. by_eq i from
@@ -89,8 +87,8 @@ module _ (lat : Latencies) (ops : List Op) (graph : Graph) (is : IsGraphOf lat o
             (sym (ap (λ m. bit_at m b) value) ∙ ap (λ n. bit_at (get_or masks' n 0) b) (sym same) ∙ one)) [
               | inl old ↦ marked.only i b within small (ap (λ n. bit_at (get_or masks n 0) b) same ∙ old)
               | inr new ↦
-                  ap (λ n. depends_on lat ops n (base + b)) same
-                  ∙ by_pair lat ops from to (base + b) (graph.delay x) pair
+                  ap (λ n. depends_on_where counts lat ops n (base + b)) same
+                  ∙ by_pair counts lat ops from to (base + b) (graph.delay x) pair
                   (elim (from_sets (get_or masks to 0) own b new) [
                     | inl behind ↦ inr (marked.only to b (omega arith) small behind)
                     | inr itself ↦ inl (own_only b small itself)
@@ -103,5 +101,5 @@ module _ (lat : Latencies) (ops : List Op) (graph : Graph) (is : IsGraphOf lat o
       }
 
   -- all edges are done
-  pub marked_all : (masks : List ℕ) → IsMarked lat ops graph base masks 0 → AreMarked lat ops base masks
+  pub marked_all : (masks : List ℕ) → IsMarked counts lat ops graph base masks 0 → AreMarked counts lat ops base masks
   marked_all masks marked = grind (arith, marked_from)

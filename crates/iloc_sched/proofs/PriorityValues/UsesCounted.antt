@@ -9,7 +9,7 @@ use Rattle.iloc_timed.specs.declared.latencies.Latencies.{Latencies}
 use Rattle.iloc_timed.specs.Kinds.{kind}
 use Rattle.iloc_timed.specs.Latency.{latency}
 use Rattle.iloc_meaning.proofs.Cases.{by_bool}
-use Rattle.iloc_rules.specs.Delays.{IsDelayPair}
+use Rattle.iloc_rules.specs.Delays.{all_count, IsDelayPair}
 use Rattle.iloc_rules.specs.Heuristics.{waits_for}
 use Rattle.iloc_sched.specs.Steps.Graph.{Graph, IsGraphOf}
 use Rattle.iloc_sched.specs.Steps.Ranking.Successors.{waits_by_kind, waits_by_use, leads_into, adds_one, IsCounting}
@@ -124,7 +124,7 @@ module _ (lat : Latencies) (ops : List Op) (graph : Graph) (is : IsGraphOf lat o
       let pair : IsDelayPair lat ops i j (graph.delay y) =
       subst (λ s. IsDelayPair lat ops s j (graph.delay y)) source
       (subst (λ t. IsDelayPair lat ops (graph.from y) t (graph.delay y)) known.1 (is.sound y known.0)) in
-      true≢false (sym (pair_waits lat ops i j (graph.delay y) pair) ∙ w)) in
+      true≢false (sym (pair_waits all_count lat ops i j (graph.delay y) pair) ∙ w)) in
       grind arith))
     where
       size_there : j < length ops

@@ -5,8 +5,9 @@ use Rattle.iloc_ops.specs.declared.op.Op.{Op}
 use Rattle.iloc_meaning.specs.Trace.{op_at}
 use Rattle.iloc_timed.specs.declared.latencies.Latencies.{Latencies}
 use Rattle.iloc_timed.specs.Latency.{latency}
-use Rattle.iloc_rules.specs.Priority.{priority}
-use Rattle.iloc_rules.specs.Starts.{start}
+use Rattle.iloc_rules.specs.Delays.{Counts}
+use Rattle.iloc_rules.specs.Priority.{priority_where}
+use Rattle.iloc_rules.specs.Starts.{start_where}
 use Rattle.iloc_sched.specs.Steps.Graph.{Graph}
 
 -- Numbers while edges raise them, each edge the number at its place by that at its other end: those of the operations from
@@ -30,12 +31,13 @@ abbrev pub AreRaised : Latencies → List Op → Graph → (ℕ → ℕ) → (�
 AreRaised lat ops graph chain value found j x =
     IsRaised (length ops) (λ i. latency lat (op_at ops i)) chain value graph.from graph.to graph.delay (IsFrom graph x) found j
 
--- the priorities while the edges are gone through from the last: those from x on are done
-abbrev pub ArePrioritiesFrom : Latencies → List Op → Graph → List ℕ → ℕ → Type 0
-ArePrioritiesFrom lat ops graph found x = AreRaised lat ops graph (priority lat ops) (priority lat ops) found (length ops) x
+-- the priorities where these count, while the edges are gone through from the last: those from x on are done
+abbrev pub ArePrioritiesFrom : Counts → Latencies → List Op → Graph → List ℕ → ℕ → Type 0
+ArePrioritiesFrom counts lat ops graph found x =
+    AreRaised lat ops graph (priority_where counts lat ops) (priority_where counts lat ops) found (length ops) x
 
 -- the starts while the edges are gone through from the first: those before x are done
-abbrev pub AreStartsBefore : Latencies → List Op → Graph → List ℕ → ℕ → Type 0
-AreStartsBefore lat ops graph found x =
-    IsRaised (length ops) (λ j. 0) (start lat ops) (start lat ops) graph.to graph.from graph.delay (IsBefore graph x) found
+abbrev pub AreStartsBefore : Counts → Latencies → List Op → Graph → List ℕ → ℕ → Type 0
+AreStartsBefore counts lat ops graph found x =
+    IsRaised (length ops) (λ j. 0) (start_where counts lat ops) (start_where counts lat ops) graph.to graph.from graph.delay (IsBefore graph x) found
     (length ops)

@@ -1,8 +1,9 @@
 -- The kept edges between operations.
-use Rattle.std.specs.Prelude.{ℕ, ◌+◌, ◌≡◌, ◌<◌, ◌≤◌, List, length, Option, Some, None}
+use Rattle.std.specs.Prelude.{ℕ, ◌+◌, ◌≡◌, ◌<◌, ◌≤◌, ◌⊎◌, List, length, Option, Some, None}
 use Rattle.iloc_ops.specs.declared.op.Op.{Op}
 use Rattle.iloc_timed.specs.declared.latencies.Latencies.{Latencies}
-use Rattle.iloc_rules.specs.Delays.{IsDelayPair}
+use Rattle.iloc_rules.specs.Delays.{Counts, IsDelayPair, IsDelayPairWhere}
+use Rattle.iloc_rules.specs.Steps.Ways.{GoesBy}
 use Rattle.iloc_rules.specs.declared.delay_pairs.TheConstants.{LONGEST_DELAY}
 use Rattle.iloc_sched.specs.Graph.Near.{IsNear}
 
@@ -33,10 +34,21 @@ pub record IsGraph (graph : Graph) : Type 0 where
   pub heads : (i : ℕ) → i < graph.ops → IsLast (λ x. graph.from x ≡ i) graph.count (graph.head i)
   pub previous_edges : (x : ℕ) → x < graph.count → IsLast (λ y. graph.from y ≡ graph.from x) x (graph.previous x)
 
--- each edge is a delay pair, and near, and each near pair has its edge
+-- an edge from operation i to operation j with at least the delay d
+abbrev pub LeadsTo : Graph → ℕ → ℕ → ℕ → Type 0
+LeadsTo graph i j d = (x : ℕ) × (x < graph.count) × (graph.to x ≡ j) × (graph.from x ≡ i) × (d ≤ graph.delay x)
+
+-- where these count, each edge is a delay pair, and each delay pair has its edge or goes by way of an operation between
+pub record IsGraphWhere (counts : Counts) (lat : Latencies) (ops : List Op) (graph : Graph) : Type 0 where
+  pub is_graph : IsGraph graph
+  pub size : graph.ops ≡ length ops
+  pub sound : (x : ℕ) → x < graph.count → IsDelayPairWhere counts lat ops (graph.from x) (graph.to x) (graph.delay x)
+  pub ways : (i j d : ℕ) → IsDelayPairWhere counts lat ops i j d → LeadsTo graph i j d ⊎ GoesBy counts lat ops i j d
+
+-- where all count, each edge is a delay pair, and near, and each near pair has its edge
 pub record IsGraphOf (lat : Latencies) (ops : List Op) (graph : Graph) : Type 0 where
   pub is_graph : IsGraph graph
   pub size : graph.ops ≡ length ops
   pub sound : (x : ℕ) → x < graph.count → IsDelayPair lat ops (graph.from x) (graph.to x) (graph.delay x)
   pub near : (x : ℕ) → x < graph.count → IsNear lat ops (graph.from x) (graph.to x) (graph.delay x)
-  pub all : (i j d : ℕ) → IsDelayPair lat ops i j d → IsNear lat ops i j d → (x : ℕ) × (x < graph.count) × (graph.to x ≡ j) × (graph.from x ≡ i) × (d ≤ graph.delay x)
+  pub all : (i j d : ℕ) → IsDelayPair lat ops i j d → IsNear lat ops i j d → LeadsTo graph i j d

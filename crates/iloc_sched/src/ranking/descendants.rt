@@ -2,7 +2,8 @@
 ghost use Rattle.std.specs.Prelude.{ℕ, ◌≡◌, ◌<◌, ◌+◌, ◌^◌, length, map, slice_index, replicate, count_ones, OnOk};
 ghost use Rattle.std.specs.Int.{bit_at};
 ghost use Rattle.std.specs.List.{range_with_len};
-ghost use Rattle.iloc_rules.specs.Heuristics.{descendants};
+ghost use Rattle.iloc_rules.specs.Heuristics.{descendants_where};
+ghost use Rattle.iloc_rules.specs.Rule.{counts_by};
 ghost use Rattle.iloc_sched.specs.Steps.Ranking.Dependents.{AreMarked};
 ghost use Rattle.iloc_sched.specs.Steps.Edges.SoundGraph.{IsSound};
 
@@ -23,7 +24,7 @@ fn own(to: u32, base: u32) -> u64
 fn mark(masks: &mut Vec<u64>, tables: &Tables, base: u32)
     requires sound { IsSound tables.now }
     requires zeros { masks.old.items ≡ replicate (length tables.now.edges.heads.items) 0 }
-    ensures { AreMarked tables.now.latencies tables.now.ops.items base masks.new.items }
+    ensures { AreMarked (counts_by tables.now.rule tables.now.ops.items) tables.now.latencies tables.now.ops.items base masks.new.items }
 {
     let edges = &tables.edges;
     // No operation after them depends on one of them.
@@ -58,7 +59,8 @@ pub(crate) fn count_descendants(
 ) -> Result<(), NoMemory>
     requires { IsSound tables.now }
     ensures { OnOk result (found.new.items
-        ≡ map (descendants tables.now.latencies tables.now.ops.items) (range_with_len 0 (length tables.now.ops.items))) }
+        ≡ map (descendants_where (counts_by tables.now.rule tables.now.ops.items) tables.now.latencies tables.now.ops.items)
+        (range_with_len 0 (length tables.now.ops.items))) }
 {
     let count = tables.edges.op_count();
     found.clear();

@@ -1,6 +1,9 @@
 //! The priorities of a graph by each heuristic.
 ghost use Rattle.std.specs.Prelude.{◌≡◌, replicate, OnOk};
-ghost use Rattle.iloc_rules.specs.Heuristics.{priorities_by};
+ghost use Rattle.iloc_rules.specs.declared.heuristic.Heuristic.TheVariants.{Successors};
+ghost use Rattle.iloc_rules.specs.declared.memory_rule.MemoryRule.TheVariants.{Book};
+ghost use Rattle.iloc_rules.specs.Heuristics.{priorities_by_where};
+ghost use Rattle.iloc_rules.specs.Rule.{counts_by};
 ghost use Rattle.iloc_sched.specs.Steps.Edges.SoundGraph.{IsSound};
 
 use crate::ranking::descendants::count_descendants;
@@ -29,9 +32,10 @@ pub(crate) fn fill_ranks(
     alloc: Global,
     tables: &Tables,
 ) -> Result<(), NoMemory>
-    requires { IsSound tables.now }
-    ensures { OnOk result
-        (found.new.items ≡ priorities_by heuristic tables.now.latencies tables.now.ops.items) }
+    requires sound { IsSound tables.now }
+    requires book { heuristic ≡ Successors → tables.now.rule ≡ Book }
+    ensures { OnOk result (found.new.items
+        ≡ priorities_by_where (counts_by tables.now.rule tables.now.ops.items) heuristic tables.now.latencies tables.now.ops.items) }
 {
     match heuristic {
         Heuristic::Chain => fill_chains(found, tables),

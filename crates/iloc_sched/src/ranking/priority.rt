@@ -1,7 +1,8 @@
 //! The longest chains of delays from operations.
 ghost use Rattle.std.specs.Prelude.{◌≡◌, map, OnOk};
 ghost use Rattle.iloc_timed.specs.Latency.{latency, latency_of};
-ghost use Rattle.iloc_rules.specs.Priority.{priorities};
+ghost use Rattle.iloc_rules.specs.Priority.{priorities_where};
+ghost use Rattle.iloc_rules.specs.Rule.{counts_by};
 ghost use Rattle.iloc_sched.specs.Steps.Edges.SoundGraph.{IsSound};
 
 use crate::tables::Tables;
@@ -38,7 +39,8 @@ pub(crate) fn copy_latencies(found: &mut Vec<u32>, tables: &Tables) -> Result<()
 #[inline(always)]
 pub(crate) fn fill_chains(found: &mut Vec<u32>, tables: &Tables) -> Result<(), NoMemory>
     requires { IsSound tables.now }
-    ensures { OnOk result (found.new.items ≡ priorities tables.now.latencies tables.now.ops.items) }
+    ensures { OnOk result (found.new.items
+        ≡ priorities_where (counts_by tables.now.rule tables.now.ops.items) tables.now.latencies tables.now.ops.items) }
 {
     copy_latencies(found, tables)?;
     let edges = &tables.edges;

@@ -1,7 +1,8 @@
 //! The longest chain of delays through each operation: what is left to the longest of all is the operation's slack.
 ghost use Rattle.std.specs.Prelude.{ℕ, ◌≡◌, ◌<◌, ◌+◌, ◌^◌, length, map, slice_index, OnOk};
 ghost use Rattle.std.specs.List.{range_with_len};
-ghost use Rattle.iloc_rules.specs.Heuristics.{through};
+ghost use Rattle.iloc_rules.specs.Heuristics.{through_where};
+ghost use Rattle.iloc_rules.specs.Rule.{counts_by};
 ghost use Rattle.iloc_sched.specs.Steps.Edges.SoundGraph.{IsSound};
 
 use crate::ranking::priority::fill_chains;
@@ -32,7 +33,8 @@ pub(crate) fn fill_through(
 ) -> Result<(), NoMemory>
     requires { IsSound tables.now }
     ensures { OnOk result (found.new.items
-        ≡ map (through tables.now.latencies tables.now.ops.items) (range_with_len 0 (length tables.now.ops.items))) }
+        ≡ map (through_where (counts_by tables.now.rule tables.now.ops.items) tables.now.latencies tables.now.ops.items)
+        (range_with_len 0 (length tables.now.ops.items))) }
 {
     let mut starts = Vec::new(alloc);
     fill_starts(&mut starts, tables)?;

@@ -1,6 +1,7 @@
 //! The starts of operations.
 ghost use Rattle.std.specs.Prelude.{◌≡◌, OnOk};
-ghost use Rattle.iloc_rules.specs.Starts.{starts};
+ghost use Rattle.iloc_rules.specs.Rule.{counts_by};
+ghost use Rattle.iloc_rules.specs.Starts.{starts_where};
 ghost use Rattle.iloc_sched.specs.Steps.Edges.SoundGraph.{IsSound};
 
 use crate::ranking::heuristic::fill_zeros;
@@ -11,7 +12,8 @@ use iloc_ops::NoMemory;
 /// the operation are gone through, which all lie before those out of it.
 pub(crate) fn fill_starts(found: &mut Vec<u32>, tables: &Tables) -> Result<(), NoMemory>
     requires { IsSound tables.now }
-    ensures { OnOk result (found.new.items ≡ starts tables.now.latencies tables.now.ops.items) }
+    ensures { OnOk result (found.new.items
+        ≡ starts_where (counts_by tables.now.rule tables.now.ops.items) tables.now.latencies tables.now.ops.items) }
 {
     let edges = &tables.edges;
     fill_zeros(found, edges.op_count())?;

@@ -2,7 +2,7 @@
 ghost use Rattle.std.specs.Prelude.{ℕ, ◌≡◌, ◌≤◌, ◌<◌, ◌+◌, ◌*◌, if◌then◌else◌, length, map, slice_index, replicate};
 ghost use Rattle.std.specs.List.{range_with_len};
 ghost use Rattle.iloc_rules.specs.Heuristics.{successors};
-ghost use Rattle.iloc_sched.specs.Steps.Edges.SoundGraph.{IsSound};
+ghost use Rattle.iloc_sched.specs.Steps.Edges.SoundGraph.{IsByTheBook};
 ghost use Rattle.iloc_sched.specs.Steps.Ranking.Successors.{waits_by_kind, waits_by_use, adds_one};
 ghost use Rattle.iloc_sched.specs.Steps.Views.{graph_of};
 
@@ -23,7 +23,7 @@ fn waits_by_kind(first: Kind, second: Kind) -> bool
 /// it leads from there to the same target.
 fn adds_one(tables: &Tables, x: usize) -> bool
     requires there { x < length tables.now.edges.edges.items }
-    requires sound { IsSound tables.now }
+    requires sound { IsByTheBook tables.now }
     ensures { result ≡ adds_one tables.now.ops.items (graph_of tables.now.edges) x }
 {
     let (kinds, edges) = (&tables.kinds, &tables.edges);
@@ -35,7 +35,7 @@ fn adds_one(tables: &Tables, x: usize) -> bool
 /// Counts the edges into operation j, each source once.
 fn count_uses(found: &mut Vec<u32>, tables: &Tables, j: usize)
     requires there { j < length tables.now.edges.heads.items }
-    requires sound { IsSound tables.now }
+    requires sound { IsByTheBook tables.now }
     requires size { length found.old.items ≡ length tables.now.edges.heads.items }
     requires small { (i : ℕ) → slice_index found.old.items i ≤ 2 * MAX_OPS }
     ensures each { (i : ℕ) → slice_index found.new.items i ≡ slice_index found.old.items i
@@ -54,7 +54,7 @@ fn count_uses(found: &mut Vec<u32>, tables: &Tables, j: usize)
 /// Turns zeros into the numbers of operations that wait for each directly, in one pass from the last operation: those that
 /// wait by their kinds are counted by kind, the others by the edges.
 pub(crate) fn count_successors(found: &mut Vec<u32>, tables: &Tables)
-    requires sound { IsSound tables.now }
+    requires sound { IsByTheBook tables.now }
     requires zeros { found.old.items ≡ replicate (length tables.now.edges.heads.items) 0 }
     ensures { found.new.items ≡ map (successors tables.now.latencies tables.now.ops.items)
         (range_with_len 0 (length tables.now.ops.items)) }

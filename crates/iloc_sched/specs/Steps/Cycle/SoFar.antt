@@ -11,9 +11,11 @@ use Rattle.iloc_sched.specs.declared.cycle.class.Class.{Class}
 use Rattle.iloc_sched.specs.declared.cycle.plan.Plan.{Plan}
 use Rattle.iloc_sched.specs.declared.cycle.waiting.Waiting.{Waiting}
 use Rattle.iloc_sched.specs.Steps.Cycle.Calendar.{has, offers, HasRoom}
-use Rattle.iloc_rules.specs.Steps.Choosing.{IsChosenSoFar}
+use Rattle.iloc_rules.specs.Rule.{counts_by}
+use Rattle.iloc_rules.specs.Delays.{Counts}
+use Rattle.iloc_rules.specs.Steps.Choosing.{IsChosenWhere}
 use Rattle.iloc_sched.specs.Steps.Cycle.Classes.{class_of, excludes, place_of}
-use Rattle.iloc_sched.specs.Steps.Graph.{Graph, IsGraphOf}
+use Rattle.iloc_sched.specs.Steps.Graph.{Graph, IsGraphWhere}
 use Rattle.iloc_sched.specs.Steps.Cycle.Order.{AreRanks}
 use Rattle.iloc_sched.specs.Steps.Cycle.Progress.{Progress, Waits, CanIssue, MatchesRows}
 use Rattle.iloc_sched.specs.Steps.Views.{graph_of, issued_list, progress_of, IsSized}
@@ -22,10 +24,14 @@ use Rattle.iloc_sched.specs.Steps.Views.{graph_of, issued_list, progress_of, IsS
 abbrev pub class_at : List Op → ℕ → Class
 class_at ops i = class_of (kind (op_at ops i))
 
+-- the pairs that count in a plan
+abbrev pub counts_of : Plan → Counts
+counts_of p = counts_by p.tables.now.rule p.tables.now.ops.items
+
 -- a plan has the kinds and the edges of its operations, and by a priority for each their ranks; it knows whether they are few
 pub record IsPlan (p : Plan) : Type 0 where
   pub kinds : p.tables.now.kinds.items ≡ map kind p.tables.now.ops.items
-  pub graph : IsGraphOf p.tables.now.latencies p.tables.now.ops.items (graph_of p.tables.now.edges)
+  pub graph : IsGraphWhere (counts_of p) p.tables.now.latencies p.tables.now.ops.items (graph_of p.tables.now.edges)
   pub priorities : length p.priorities.now ≡ length p.tables.now.ops.items
   pub ranked : AreRanks p.priorities.now p.order.now p.ranks.now
   pub short : p.short ≡ nat_lt (length p.tables.now.ops.items) 64
@@ -67,7 +73,7 @@ pub record IsUnderWay (p : Plan) (w : Waiting) (f : ℕ) : Type 0 where
 pub record IsSoFar (p : Plan) (w : Waiting) (rows : List Row) : Type 0 where
   pub under_way : IsUnderWay p w (length rows)
   pub matches : MatchesRows (length p.tables.now.ops.items) rows (progress_of p.ranks.now w).issued
-  pub each : IsChosenSoFar p.priorities.now p.tables.now.latencies p.tables.now.ops.items rows
+  pub each : IsChosenWhere (counts_of p) p.priorities.now p.tables.now.latencies p.tables.now.ops.items rows
 
 -- operation j can be issued beside an operation of a class
 abbrev pub IsOpen : Plan → Waiting → Class → ℕ → Type 0

@@ -3,18 +3,19 @@ use Rattle.std.specs.Prelude.{All}
 use Rattle.std.proofs.lemmas.List.Elements.{All-from_get_or}
 use Rattle.iloc_sched.specs.declared.edges.Edge.{Edge}
 use Rattle.iloc_rules.specs.Delays.{IsDelayPair}
-use Rattle.iloc_sched.specs.Graph.GraphOf.{GraphOf}
 use Rattle.iloc_sched.specs.Steps.Graph.{IsGraphOf}
 use Rattle.iloc_sched.specs.Steps.Views.{graph_of, no_edge}
+use Rattle.iloc_sched.proofs.KeptEdges.BookGraphs.{book_graph}
 use Rattle.iloc_sched.proofs.KeptEdges.EdgesInto.{all_edges}
 use Rattle.iloc_sched.proofs.graph.Graph.edges.Goals as goal
 
 pub returns-clause-each : goal.returns-clause-each
 returns-clause-each c =
     let v = c.args.self.now in
-    let e = c.self.inside.tables.edges in
+    let t = c.tables.result.now in
+    let e = t.edges in
     let kept : IsGraphOf v.latencies v.ops (graph_of e) =
-    subst (λ (g : GraphOf). IsGraphOf g.latencies g.ops (graph_of e)) c.self.view_is c.self.invariant.sound.graph in
+    book_graph t c.self.inside.ruled v c.tables.ensures.sound c.tables.ensures.graph c.self.invariant c.self.view_is in
     subst (All (λ (edge : Edge). IsDelayPair v.latencies v.ops edge.from edge.to edge.delay)) (sym c.as_slice.ensures)
     (All-from_get_or (λ (edge : Edge). IsDelayPair v.latencies v.ops edge.from edge.to edge.delay) e.edges.items no_edge
     kept.sound)
@@ -22,7 +23,8 @@ returns-clause-each c =
 pub returns-clause-all : goal.returns-clause-all
 returns-clause-all c =
     let v = c.args.self.now in
-    let e = c.self.inside.tables.edges in
+    let t = c.tables.result.now in
+    let e = t.edges in
     let kept : IsGraphOf v.latencies v.ops (graph_of e) =
-    subst (λ (g : GraphOf). IsGraphOf g.latencies g.ops (graph_of e)) c.self.view_is c.self.invariant.sound.graph in
+    book_graph t c.self.inside.ruled v c.tables.ensures.sound c.tables.ensures.graph c.self.invariant c.self.view_is in
     rw c.as_slice.ensures (all_edges v.latencies v.ops e kept)

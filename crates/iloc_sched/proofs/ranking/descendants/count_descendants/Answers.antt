@@ -5,7 +5,8 @@ use Rattle.std.proofs.lemmas.List.{ext_get_or}
 use Rattle.std.proofs.lemmas.List.Sums.{count_by-le-length}
 use Rattle.std.proofs.lemmas.List.FromFn.{length-range_with_len, length-map-range_with_len, get_or-map-range_with_len}
 use Rattle.std.proofs.lemmas.Grind.{div_ceil_times}
-use Rattle.iloc_rules.specs.Heuristics.{depends_on, descendants}
+use Rattle.iloc_rules.specs.Heuristics.{depends_on_where, descendants_where}
+use Rattle.iloc_rules.specs.Rule.{counts_by}
 use Rattle.iloc_sched.specs.Steps.Ranking.Dependents.{AreMarked}
 use Rattle.iloc_sched.proofs.PriorityValues.DependentsCounted.{counted_more, counted_all}
 use Rattle.iloc_sched.proofs.ranking.descendants.count_descendants.Goals as goal
@@ -17,32 +18,34 @@ pub loop-chunk-preserved : goal.loop-chunk-preserved
 loop-chunk-preserved c =
     let lat = c.args.tables.now.latencies in
     let ops = c.args.tables.now.ops.items in
+    let counts = counts_by c.args.tables.now.rule ops in
     let marks : List ℕ = c.deref.result.now in
     let base : ℕ = 64 * c.loop-chunk.chunk in
     record {
       size = c.add_counts.ensures.size ∙ c.loop-chunk.invariant.size;
       counted = λ i within.
-          let marked : AreMarked lat ops base marks =
-          subst (λ ms. AreMarked lat ops base ms) (sym c.deref.ensures.value) c.mark.ensures in
+          let marked : AreMarked counts lat ops base marks =
+          subst (λ ms. AreMarked counts lat ops base ms) (sym c.deref.ensures.value) c.mark.ensures in
           let marked_size : length marks ≡ length ops = marked.size in
           let each = c.add_counts.ensures.each i (omega arith) in
-          let old : get_or c.loop-chunk.found.items i 0 ≡ count_by (depends_on lat ops i) (range_with_len 0 base) =
+          let old : get_or c.loop-chunk.found.items i 0 ≡ count_by (depends_on_where counts lat ops i) (range_with_len 0 base) =
           c.loop-chunk.invariant.counted i within in
-          let more : count_by (depends_on lat ops i) (range_with_len 0 base) + count_ones (get_or marks i 0)
-          ≡ count_by (depends_on lat ops i) (range_with_len 0 (base + 64)) =
-          counted_more lat ops base i marks marked within each.0 in
+          let more : count_by (depends_on_where counts lat ops i) (range_with_len 0 base) + count_ones (get_or marks i 0)
+          ≡ count_by (depends_on_where counts lat ops i) (range_with_len 0 (base + 64)) =
+          counted_more counts lat ops base i marks marked within each.0 in
           let next : base + 64 ≡ 64 * (c.loop-chunk.chunk + 1) = omega arith in
           each.1 ∙ ap (λ n. n + count_ones (get_or marks i 0)) old ∙ more
-          ∙ ap (λ n. count_by (depends_on lat ops i) (range_with_len 0 n)) next;
+          ∙ ap (λ n. count_by (depends_on_where counts lat ops i) (range_with_len 0 n)) next;
     }
 
 pub returns : goal.returns
 returns c =
     let lat = c.args.tables.now.latencies in
     let ops = c.args.tables.now.ops.items in
+    let counts = counts_by c.args.tables.now.rule ops in
     let heads : length c.args.tables.now.edges.heads.items ≡ length ops = c.requires.graph.size in
-    let goal_size : length (map (descendants lat ops) (range_with_len 0 (length ops))) ≡ length ops =
-    length-map-range_with_len (descendants lat ops) 0 (length ops) in
+    let goal_size : length (map (descendants_where counts lat ops) (range_with_len 0 (length ops))) ≡ length ops =
+    length-map-range_with_len (descendants_where counts lat ops) 0 (length ops) in
     let chunks : c.div_ceil-chunk-end.result ≡ c.op_count-count.result / 64 + min 1 (c.op_count-count.result % 64) =
     c.div_ceil-chunk-end.ensures in
     let enough : c.op_count-count.result
@@ -50,9 +53,9 @@ returns c =
     (div_ceil_times c.op_count-count.result 64 (omega arith)).0 in
     let count : c.op_count-count.result ≡ length c.args.tables.now.edges.heads.items = c.op_count-count.ensures in
     let end : c.div_ceil-chunk-end.result ≤ c.loop-chunk.chunk = omega arith in
-    ext_get_or 0 c.loop-chunk.found.items (map (descendants lat ops) (range_with_len 0 (length ops)))
+    ext_get_or 0 c.loop-chunk.found.items (map (descendants_where counts lat ops) (range_with_len 0 (length ops)))
     (c.loop-chunk.invariant.size ∙ sym goal_size)
     (λ i below.
     c.loop-chunk.invariant.counted i (omega arith)
-    ∙ counted_all lat ops i (64 * c.loop-chunk.chunk) (omega arith)
-    ∙ sym (get_or-map-range_with_len (descendants lat ops) 0 (length ops) i i 0 (omega arith) (omega arith)))
+    ∙ counted_all counts lat ops i (64 * c.loop-chunk.chunk) (omega arith)
+    ∙ sym (get_or-map-range_with_len (descendants_where counts lat ops) 0 (length ops) i i 0 (omega arith) (omega arith)))

@@ -1,7 +1,8 @@
 use Rattle.std.proofs.Common.{ℕ, ◌*◌, ◌≡◌, ◌<◌, length, get_or}
 use Rattle.std.specs.Prelude.{count_by}
 use Rattle.std.specs.List.{range_with_len}
-use Rattle.iloc_rules.specs.Heuristics.{depends_on}
+use Rattle.iloc_rules.specs.Heuristics.{depends_on_where}
+use Rattle.iloc_rules.specs.Rule.{counts_by}
 use Rattle.iloc_sched.proofs.ranking.descendants.count_descendants.Given as goal
 
 abbrev pub invariant-loop-chunk : goal.invariant-loop-chunk
@@ -9,5 +10,5 @@ invariant-loop-chunk l = record {
   size : length l.found.items ≡ length l.tables.ops.items;
   counted : (i : ℕ) → i < length l.tables.ops.items
       → get_or l.found.items i 0
-      ≡ count_by (depends_on l.tables.latencies l.tables.ops.items i) (range_with_len 0 (64 * l.chunk));
+      ≡ count_by (depends_on_where (counts_by l.tables.rule l.tables.ops.items) l.tables.latencies l.tables.ops.items i) (range_with_len 0 (64 * l.chunk));
 }

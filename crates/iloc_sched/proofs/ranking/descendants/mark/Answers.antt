@@ -1,6 +1,7 @@
 use Rattle.std.proofs.Common.{ℕ, ◌≡◌, ◌+◌, ◌-◌, ◌<◌, min, List, length, set, ap, ap₂, subst, arith}
 use Rattle.std.specs.Int.Bits.{bit_or}
 use Rattle.std.proofs.lemmas.List.{get_or_read}
+use Rattle.iloc_rules.specs.Rule.{counts_by}
 use Rattle.iloc_sched.specs.declared.edges.Edge.{Edge}
 use Rattle.iloc_sched.specs.declared.tables.Tables.{Tables}
 use Rattle.iloc_sched.specs.Steps.Ranking.Dependents.{IsMarked}
@@ -13,7 +14,7 @@ use Rattle.iloc_sched.proofs.ranking.descendants.mark.Goals as goal
 pub loop-x-init : goal.loop-x-init
 loop-x-init c =
     let t = c.args.tables.now in
-    rw c.start-x.ensures (marked_none t.latencies t.ops.items (graph_of t.edges) c.requires.sound.graph c.args.base
+    rw c.start-x.ensures (marked_none (counts_by t.rule t.ops.items) t.latencies t.ops.items (graph_of t.edges) c.requires.sound.graph c.args.base
     c.args.masks.now.items c.min-end.result c.requires.zeros (rw c.op_count.ensures at c.min-end.ensures))
 
 -- an edge before the first of those into later operations leads to one before them
@@ -21,7 +22,7 @@ target : (t : Tables) → IsSound t → (base end start x : ℕ) → end ≡ min
     → start ≡ (graph_of t.edges).start end → x < start
     → (x < length t.edges.edges.items) × ((edge_at t.edges x).to < base + 64)
 target t sound base end start x end_is start_is early =
-    early_target t.latencies t.ops.items (graph_of t.edges) sound.graph base end x end_is (omega arith)
+    early_target (counts_by t.rule t.ops.items) t.latencies t.ops.items (graph_of t.edges) sound.graph base end x end_is (omega arith)
 
 pub get-edge-requires : goal.get-edge-requires
 get-edge-requires c = (target c.args.tables.now c.requires.sound c.args.base c.min-end.result c.start-x.result
@@ -43,14 +44,14 @@ loop-x-preserved c =
     let masks : List ℕ = c.loop-x.masks.items in
     let early = target t c.requires.sound c.args.base c.min-end.result c.start-x.result x
     (rw c.op_count.ensures at c.min-end.ensures) c.start-x.ensures (omega arith) in
-    let known = read_edge t c.requires.sound x edge early.0 c.get-edge.ensures in
+    let known = read_edge t c.requires.sound.graph.is_graph c.requires.sound.graph.size x edge early.0 c.get-edge.ensures in
     let size : length masks ≡ length t.ops.items = c.loop-x.invariant.size in
     let to = get_or_read masks edge.to c.index.result.now (omega arith) c.index.ensures 0 in
     let from = get_or_read masks edge.from c.index-in-loop-x.result.now (omega arith) c.index-in-loop-x.ensures 0 in
     let before : c.loop-x.x ≡ x + 1 = omega arith in
-    marked_more t.latencies t.ops.items graph c.requires.sound.graph c.args.base masks
+    marked_more (counts_by t.rule t.ops.items) t.latencies t.ops.items graph c.requires.sound.graph c.args.base masks
     (set masks edge.from (bit_or c.index-in-loop-x.result.now (bit_or c.index.result.now c.own.result))) x edge.from edge.to
-    c.own.result (subst (IsMarked t.latencies t.ops.items graph c.args.base masks) before c.loop-x.invariant) early.0
+    c.own.result (subst (IsMarked (counts_by t.rule t.ops.items) t.latencies t.ops.items graph c.args.base masks) before c.loop-x.invariant) early.0
     (ap (λ (d : Edge). d.from) c.get-edge.ensures) (ap (λ (d : Edge). d.to) c.get-edge.ensures) c.own.ensures.only
     c.own.ensures.all (ap₂ (λ m n. set masks edge.from (bit_or m (bit_or n c.own.result))) from to)
 
@@ -58,5 +59,5 @@ pub returns : goal.returns
 returns c =
     let t = c.args.tables.now in
     let done : c.loop-x.x ≡ 0 = omega arith in
-    marked_all t.latencies t.ops.items (graph_of t.edges) c.requires.sound.graph c.args.base c.loop-x.masks.items
-    (subst (IsMarked t.latencies t.ops.items (graph_of t.edges) c.args.base c.loop-x.masks.items) done c.loop-x.invariant)
+    marked_all (counts_by t.rule t.ops.items) t.latencies t.ops.items (graph_of t.edges) c.requires.sound.graph c.args.base c.loop-x.masks.items
+    (subst (IsMarked (counts_by t.rule t.ops.items) t.latencies t.ops.items (graph_of t.edges) c.args.base c.loop-x.masks.items) done c.loop-x.invariant)

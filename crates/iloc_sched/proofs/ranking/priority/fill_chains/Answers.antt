@@ -1,30 +1,33 @@
 use Rattle.std.proofs.Common.{ℕ, ◌≡◌, ◌-◌, length, subst, arith}
 use Rattle.std.proofs.lemmas.List.{get_or_read}
-use Rattle.iloc_rules.specs.Priority.{priority}
+use Rattle.iloc_rules.specs.Priority.{priority_where}
+use Rattle.iloc_rules.specs.Rule.{counts_by}
 use Rattle.iloc_sched.specs.Steps.Chains.{ArePrioritiesFrom, AreRaised}
 use Rattle.iloc_sched.specs.Steps.Views.{graph_of}
 use Rattle.iloc_sched.proofs.PriorityValues.Found.{read_edge, raise_read, none_raised, priorities_found}
-use Rattle.iloc_rules.proofs.PriorityValues.Longest.{is_priority, priority_most}
+use Rattle.iloc_rules.proofs.PriorityValues.LongestWhere.{is_priority, priority_most_where}
 use Rattle.iloc_sched.proofs.ranking.priority.fill_chains.Goals as goal
 
 pub loop-x-init : goal.loop-x-init
 loop-x-init c =
     let t = c.args.tables.now in
-    let prio : ℕ → ℕ = priority t.latencies t.ops.items in
+    let counts = counts_by t.rule t.ops.items in
+    let prio : ℕ → ℕ = priority_where counts t.latencies t.ops.items in
     rw (c.edge_count-x.ensures) (subst (λ n. AreRaised t.latencies t.ops.items (graph_of t.edges) prio prio
     c.copy_latencies.new.found.items n (length t.edges.edges.items)) c.requires.graph.size
-    (none_raised t.latencies t.ops.items (graph_of t.edges) c.requires.graph prio prio
-    (is_priority t.latencies t.ops.items) c.copy_latencies.new.found.items c.in_ok-copy_latencies.ensures))
+    (none_raised counts t.latencies t.ops.items (graph_of t.edges) c.requires.graph prio prio
+    (is_priority counts t.latencies t.ops.items) c.copy_latencies.new.found.items c.in_ok-copy_latencies.ensures))
 
 pub overflow_add-through : goal.overflow_add-through
-overflow_add-through c = grind (arith, get_or_read, priority_most, read_edge)
+overflow_add-through c = grind (arith, get_or_read, priority_most_where, read_edge)
 
 pub loop-x-preserved : goal.loop-x-preserved
 loop-x-preserved c =
     let t = c.args.tables.now in
-    let prio : ℕ → ℕ = priority t.latencies t.ops.items in
-    let known = read_edge t c.requires (c.loop-x.x - 1) c.get-edge.result (omega arith) c.get-edge.ensures in
-    raise_read t c.requires prio prio (is_priority t.latencies t.ops.items) c.loop-x.found.items (length t.ops.items)
+    let counts = counts_by t.rule t.ops.items in
+    let prio : ℕ → ℕ = priority_where counts t.latencies t.ops.items in
+    let known = read_edge t c.requires.graph.is_graph c.requires.graph.size (c.loop-x.x - 1) c.get-edge.result (omega arith) c.get-edge.ensures in
+    raise_read t c.requires prio prio (is_priority counts t.latencies t.ops.items) c.loop-x.found.items (length t.ops.items)
     (c.loop-x.x - 1) c.loop-x.x c.get-edge.result c.index-in-loop-x.result.now c.index.result.now c.max.result
     c.loop-x.invariant (omega arith) (omega arith) c.get-edge.ensures (omega arith) c.index.ensures
     c.index-in-loop-x.ensures c.max.ensures
@@ -34,5 +37,5 @@ returns c =
     let t = c.args.tables.now in
     let graph = graph_of t.edges in
     let done : c.loop-x.x ≡ 0 = omega arith in
-    priorities_found t.latencies t.ops.items graph c.requires.graph c.loop-x.found.items
-    (subst (ArePrioritiesFrom t.latencies t.ops.items graph c.loop-x.found.items) done c.loop-x.invariant)
+    priorities_found (counts_by t.rule t.ops.items) t.latencies t.ops.items graph c.requires.graph c.loop-x.found.items
+    (subst (ArePrioritiesFrom (counts_by t.rule t.ops.items) t.latencies t.ops.items graph c.loop-x.found.items) done c.loop-x.invariant)

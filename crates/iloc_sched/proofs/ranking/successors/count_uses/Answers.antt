@@ -24,7 +24,7 @@ overflow_add-index_mut c =
     let high : x < graph.start (c.args.j + 1) = omega (arith, c.start-x-end.ensures) in
     let into = into_j t.latencies t.ops.items graph c.requires.sound.graph c.args.j c.requires.there x
     c.loop-x.invariant.low high in
-    let known = read_edge t c.requires.sound x c.get-source.result into.0 c.get-source.ensures in
+    let known = read_edge t c.requires.sound.graph.is_graph c.requires.sound.graph.size x c.get-source.result into.0 c.get-source.ensures in
     let source : ℕ = c.get-source.result.from in
     let from_is : source ≡ graph.from x = ap (λ (d : Edge). d.from) c.get-source.ensures in
     let size : length found ≡ length c.args.found.now.items = c.loop-x.invariant.counting.size in
@@ -54,7 +54,7 @@ loop-x-preserved c =
       counting = elim c.if-adds_one.branch [
         | then-adds_one w ↦
             let source : ℕ = w.get-source.result.from in
-            let known = read_edge t c.requires.sound x w.get-source.result into.0 w.get-source.ensures in
+            let known = read_edge t c.requires.sound.graph.is_graph c.requires.sound.graph.size x w.get-source.result into.0 w.get-source.ensures in
             let size : length found ≡ length old = c.loop-x.invariant.counting.size in
             let within : source < length found = omega (arith, c.requires.size, kept.size) in
             let read = get_or_read found source w.index_mut.result.now within w.index_mut.ensures.value 0 in

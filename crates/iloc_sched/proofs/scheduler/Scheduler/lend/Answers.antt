@@ -1,27 +1,13 @@
-use Rattle.std.proofs.Common.{arith, ◌≡◌, ◌++◌, ap, subst, sym, ◌∙◌}
-use Rattle.std.specs.Global.{Vec}
-use Rattle.iloc_ops.specs.declared.op.Op.{Op}
-use Rattle.iloc_timed.specs.declared.row.Row.{Row}
-use Rattle.iloc_sched.specs.Graph.GraphOf.{GraphOf}
-use Rattle.iloc_rules.specs.Greedy.{IsGreedyBy}
-use Rattle.iloc_sched.proofs.Choice.Scheduled.{handed_out, the_schedule}
+use Rattle.std.proofs.Common.{ap, ◌∙◌}
+use Rattle.std.proofs.lemmas.Result.{IfOk-weaker}
+use Rattle.iloc_rules.specs.declared.memory_rule.MemoryRule.TheVariants.{Book}
+use Rattle.iloc_sched.specs.Graph.GraphOf.{GraphOf, RuledGraphOf}
 use Rattle.iloc_sched.proofs.scheduler.Scheduler.lend.Goals as goal
 
-pub of_table-requires-clause-table : goal.of_table-requires-clause-table
-of_table-requires-clause-table c = grind (arith, handed_out)
+by_the_book : GraphOf → RuledGraphOf
+by_the_book g = record { rule = Book; ops = g.ops; latencies = g.latencies }
 
 pub returns : goal.returns
-returns c = λ lat block is.
-    let p = c.tables-tables.result.now in
-    let s = c.of_table.result in
-    let rows = c.fill_rows.new.rows.items in
-    let same = sym c.tables-tables.ensures.graph ∙ is in
-    let copied : s.ops ≡ p.ops.items =
-    c.of_table.ensures.ops ∙ (ap (λ (v : Vec Op). v.items) c.replace-ops.ensures.value
-    ∙ (c.in_ok-extend_from_slice.ensures.items ∙ (ap (λ xs. xs ++ c.ops.result.now) c.clear.ensures.items
-    ∙ (c.ops.ensures.ops ∙ ap (λ (g : GraphOf). g.ops) c.tables-tables.ensures.graph)))) in
-    the_schedule (λ _. c.args.ranks.now) lat block s
-    (handed_out c.args.ranks.now lat block p.ops.items s.ops rows s.rows copied
-    (c.of_table.ensures.rows ∙ ap (λ (v : Vec Row). v.items) c.replace-rows.ensures.value)
-    (subst (λ l. IsGreedyBy c.args.ranks.now l block p.ops.items rows) (ap (λ (g : GraphOf). g.latencies) same)
-    (c.in_ok-fill_rows.ensures.greedy block (ap (λ (g : GraphOf). g.ops) same))))
+unfolding by_the_book
+returns c = IfOk-weaker c.lend_ruled.result _ _
+    (λ s lent lat block is. lent Book lat block (c.ruled.ensures ∙ ap by_the_book is)) c.lend_ruled.ensures

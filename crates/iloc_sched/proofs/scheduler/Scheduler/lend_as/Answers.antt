@@ -1,5 +1,6 @@
 use Rattle.std.proofs.Common.{ap, length, subst, sym, ◌∙◌}
 use Rattle.std.proofs.lemmas.Result.{IfOk-weaker}
+use Rattle.iloc_rules.specs.declared.memory_rule.MemoryRule.TheVariants.{Book}
 use Rattle.iloc_sched.specs.Graph.GraphOf.{GraphOf}
 use Rattle.iloc_rules.specs.Greedy.{IsGreedyBy}
 use Rattle.iloc_rules.specs.Heuristics.{priorities_by}
@@ -17,7 +18,7 @@ returns c =
     IfOk-weaker c.lend-lent.result _ _
     (λ s lent lat block is.
     let greedy = (lent lat block is).greedy in
-    the_schedule (by lat) lat block s (subst (λ ranks. IsGreedyBy ranks lat block s.ops s.rows)
+    the_schedule Book (by lat) lat block s (subst (λ ranks. IsGreedyBy ranks lat block s.ops s.rows)
     (c.deref.ensures.value ∙ (c.in_ok-rank.ensures ∙ (ap (λ (g : GraphOf). by g.latencies g.ops) is
     ∙ ap (by lat) (sym greedy.lawful.names)))) greedy))
     c.lend-lent.ensures

@@ -41,8 +41,8 @@ loop-op-preserved c = elim c.if-not-is_nop.branch [
       })
 ]
 
-pub returns-clause-sound : goal.returns-clause-sound
-returns-clause-sound c = record {
+pub returns-clause-book : goal.returns-clause-book
+returns-clause-book c = record {
   kinds = c.loop-op.invariant.gathered.filling.kinds;
   own = c.loop-op.invariant.gathered.filling.own;
   graph = kept_at_end c.loop-op.self.latencies c.loop-op.self.ops.items (graph_of c.loop-op.self.edges)

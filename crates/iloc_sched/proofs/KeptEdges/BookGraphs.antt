@@ -1,0 +1,85 @@
+-- The tables of a graph by the book are sound; for `Tables::open` and the calls of `Graph`.
+use Rattle.std.proofs.Common.{◌≡◌, ℕ, ◌<◌, List, [], length, map, inl, inr, sym, ◌∙◌, ap, subst, arith}
+use Rattle.std.proofs.lemmas.List.{get_or_past}
+use Rattle.iloc_ops.specs.declared.op.Op.{Op}
+use Rattle.iloc_timed.specs.declared.latencies.Latencies.{Latencies}
+use Rattle.iloc_timed.specs.Kinds.{kind}
+use Rattle.iloc_timed.specs.Latency.{latency}
+use Rattle.iloc_rules.specs.declared.memory_rule.MemoryRule.TheVariants.{Book}
+use Rattle.iloc_rules.specs.Delays.{all_count}
+use Rattle.iloc_rules.specs.Rule.{counts_by}
+use Rattle.iloc_sched.specs.declared.tables.Tables.{Tables}
+use Rattle.iloc_sched.specs.Graph.GraphOf.{GraphOf, RuledGraphOf}
+use Rattle.iloc_sched.specs.Steps.Graph.{Graph, IsGraphOf, IsGraphWhere}
+use Rattle.iloc_sched.specs.Steps.Edges.SoundGraph.{IsByTheBook, IsSound, IsOfBlock}
+use Rattle.iloc_sched.specs.Steps.Views.{graph_of, IsEmptied}
+use Rattle.iloc_sched.proofs.KeptEdges.FarPairs.{near_or_by_way}
+
+-- what isn't near goes by way of an operation between
+pub by_ways : (lat : Latencies) (ops : List Op) (graph : Graph) → IsGraphOf lat ops graph
+    → IsGraphWhere all_count lat ops graph
+by_ways lat ops graph is = record {
+  is_graph = is.is_graph;
+  size = is.size;
+  sound = is.sound;
+  ways = λ i j d pair. elim (near_or_by_way lat ops i j d pair) [
+    | inl near ↦ inl (is.all i j d pair near)
+    | inr by ↦ inr by
+  ];
+}
+
+pub book_is_sound : (t : Tables) → t.rule ≡ Book → IsByTheBook t → IsSound t
+book_is_sound t book is = record {
+  kinds = is.kinds;
+  own = is.own;
+  graph = subst (λ rule. IsGraphWhere (counts_by rule t.ops.items) t.latencies t.ops.items (graph_of t.edges)) (sym book)
+      (by_ways t.latencies t.ops.items (graph_of t.edges) is.graph);
+  book = λ _. is.graph;
+}
+
+none_by_the_book : (t : Tables) → t.ops.items ≡ [] → t.kinds.items ≡ [] → t.own.items ≡ [] → IsEmptied t.edges
+    → IsByTheBook t
+none_by_the_book t ops kinds own edges =
+    let start : (k : ℕ) → (graph_of t.edges).start k ≡ 0 =
+    λ k. get_or_past t.edges.starts.items k 0 (omega (arith, edges.starts)) in
+    record {
+      kinds = kinds ∙ ap (map kind) (sym ops);
+      own = own ∙ ap (map (latency t.latencies)) (sym ops);
+      graph = record {
+        is_graph = record {
+          rises = λ i j low high. omega (arith, start i, start j);
+          last = start (graph_of t.edges).ops ∙ sym edges.edges;
+          into = λ j x below low high. absurd (omega (arith, edges.heads));
+          to_there = λ x below. absurd (omega (arith, edges.edges));
+          earlier = λ x below. absurd (omega (arith, edges.edges));
+          delays = λ x below. absurd (omega (arith, edges.edges));
+          heads = λ i below. absurd (omega (arith, edges.heads));
+          previous_edges = λ x below. absurd (omega (arith, edges.edges));
+        };
+        size = edges.heads ∙ sym (ap length ops);
+        sound = λ x below. absurd (omega (arith, edges.edges));
+        near = λ x below. absurd (omega (arith, edges.edges));
+        all = λ i j d pair near. absurd (none j (subst (λ xs. j < length xs) ops pair.within));
+      };
+    }
+  where
+    none : (j : ℕ) → j < 0 → ⊥
+    none j below = omega arith
+
+-- no operation
+pub none_is_of_block : (t : Tables) → t.ops.items ≡ [] → t.kinds.items ≡ [] → t.own.items ≡ [] → IsEmptied t.edges
+    → t.rule ≡ Book → IsOfBlock t
+none_is_of_block t ops kinds own edges book = record {
+  sound = book_is_sound t book (none_by_the_book t ops kinds own edges);
+  block = [];
+  named = ops;
+}
+
+-- a graph by the book has the edges of its near pairs
+pub book_graph : (t : Tables) (g : RuledGraphOf) (v : GraphOf) → IsSound t
+    → g ≡ record { rule = t.rule; ops = t.ops.items; latencies = t.latencies } → g.rule ≡ Book
+    → record { ops = g.ops; latencies = g.latencies } ≡ v → IsGraphOf v.latencies v.ops (graph_of t.edges)
+book_graph t g v sound is book v_is =
+    let without : RuledGraphOf → GraphOf = λ x. record { ops = x.ops; latencies = x.latencies } in
+    subst (λ (x : GraphOf). IsGraphOf x.latencies x.ops (graph_of t.edges)) (sym (ap without is) ∙ v_is)
+    (sound.book (sym (ap (λ (x : RuledGraphOf). x.rule) is) ∙ book))
