@@ -192,7 +192,12 @@ def add_latencies(made):
                           help=f"cycles that a {option} takes, 1 to {LONGEST_LATENCY} [{usual}]")
 
 
+def lines_of(data):
+    """Only a newline ends a line, as it does for the program."""
+    return data.decode("utf-8", "replace").removesuffix("\n").split("\n")
+
+
 def lines():
-    """Those of standard input. Only a newline ends one, as it does for the program."""
+    """Those of standard input."""
     with open(0, "rb", closefd=False) as given:
-        return given.read().decode("utf-8", "replace").removesuffix("\n").split("\n")
+        return lines_of(given.read())

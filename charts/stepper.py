@@ -9,7 +9,6 @@ from pathlib import Path
 from lanes import HEIGHT, TOP, Chart
 from language import kind_of
 from layers import Drawing
-from traced import read_traces
 
 MOST = 60           # operations of a graph that is drawn
 PARTS = os.path.join(os.path.dirname(os.path.realpath(__file__)), "steps")
@@ -81,8 +80,8 @@ def ready_of(block):
 
 
 def said_of(block):
-    """What `check` says, in which a row leads to its cycle."""
-    lines = (re.sub(r"\brow (\d+)", rf'<a href="#{block.number}.\1">\g<0></a>', escape(line)) for line in block.said)
+    """What is said of the rows, in which a row leads to its cycle."""
+    lines = (re.sub(r"\b[Rr]ow (\d+)", rf'<a href="#{block.number}.\1">\g<0></a>', escape(line)) for line in block.said)
     return "".join(f"<li>{line}</li>" for line in lines)
 
 
@@ -94,8 +93,8 @@ def section(block):
         ready=ready_of(block), graph=graph_of(block), trace=escape("\n".join(block.trace)))
 
 
-def drawn(lines):
-    blocks, script = read_traces(lines), part("script.js")
+def drawn(blocks):
+    script = part("script.js")
     links = " ".join(f'<a href="#{block.number}.0">{block.number} {escape(block.name)}</a>' for block in blocks)
     digest = base64.b64encode(hashlib.sha256(script.encode()).digest()).decode()
     return part("page.html").format(digest=digest, style=part("style.css"), script=script,

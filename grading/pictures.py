@@ -1,13 +1,16 @@
 """Pictures of hand-ins, and pages of what they do on the machine, by the charts beside this folder."""
 import threading
+from contextlib import suppress
+from functools import cache
 
 import judge
 import lanes
 import listing
 import stepper
 import svg
-import words
 from language import USUAL
+from traced import read_traces
+from words import faults, reason
 
 MOST = 200_000      # bytes of rows that are drawn
 MOST_STEPPED = 50_000       # of those that have a page
@@ -17,9 +20,12 @@ class Pictures:
     """Draws into the folder of a class's feedback."""
 
     def __init__(self, asked, folder_of):
-        self.which, self.check, self.folder_of = asked.pictures, asked.check, folder_of
-        given = dict(option.removeprefix("--").split("=") for option in asked.check if "=" in option)
+        self.which, self.folder_of = asked.pictures, folder_of
+        timed = [option for option in asked.check if "=" in option]
+        given = dict(option.removeprefix("--").split("=") for option in timed)
         self.latencies = {kind: int(given.get(kind, usual)) for kind, usual in USUAL.items()}
+        self.traced = ["trace", *timed, *{"--either-slot"}.intersection(asked.check)]
+        self.graph = cache(lambda path: judge.call(["graph", *timed], path.read_bytes())[1])
         self.turn = threading.Lock()        # one is drawn at a time, for memory's sake
 
     def draw(self, student, mark, said, rows):
@@ -28,35 +34,32 @@ class Pictures:
         if not is_wanted or said["verdict"] in ("unread", "void") or len(rows.data) > MOST:
             return
         for ending, drawn in (("svg", self.picture), ("html", self.page)):
-            try:
-                with self.turn:
-                    made = drawn(mark, said, rows)
-            except (judge.NoAnswer, svg.Unread):
-                made = None
-            if made:
-                folder = self.folder_of(student.name)
+            with suppress(judge.NoAnswer, svg.Unread), self.turn:
+                made, folder = drawn(mark, said, rows), self.folder_of(student.name)
                 folder.mkdir(parents=True, exist_ok=True)
                 (folder / f"{mark.task.name}.{ending}").write_bytes(made)
                 mark.pictures.append(f"{mark.task.name}.{ending}")
 
     def picture(self, mark, said, rows):
         """The timeline of the rows, with what is wrong at its row."""
-        block = listing.read_block(rows.data.decode("utf-8", "replace").split("\n"), 1)
-        block.judge(said["name"] or "-", mark.verdict, str(said["least"]))
-        for found in [] if mark.passes() else said["reasons"]:
-            if "row" in found:
-                block.wrong.setdefault(found["row"], []).append(words.reason(found, rows))
+        block = listing.read_block(listing.lines_of(rows.data), 1)
         block.cycles = block.end(self.latencies)
-        return lanes.Chart(block, self.latencies).picture().encode()
+        return lanes.Chart(judged(block, mark, said, rows), self.latencies).picture().encode()
 
-    def page(self, mark, _, rows):
+    def page(self, mark, said, rows):
         """The page on which a reader steps through what the rows do."""
         if len(rows.data) > MOST_STEPPED:
-            return None
-        latencies = [option for option in self.check if "=" in option]
-        traced = [*latencies, *(option for option in self.check if option == "--either-slot")]
-        of_rows = ["--task", str(mark.task.path), *mark.task.words]
-        listings = [judge.call(asked, given)[1] for asked, given in (
-            (["graph", *latencies], mark.task.path.read_bytes()),
-            (["trace", *traced, *of_rows], rows.data), (["check", *self.check, *of_rows], rows.data))]
-        return stepper.drawn(b"".join(listings).decode("utf-8", "replace").removesuffix("\n").split("\n")).encode()
+            raise svg.Unread("too many rows")
+        trace = judge.call([*self.traced, "--task", f"{mark.task.path}", *mark.task.words], rows.data)[1]
+        block, = read_traces(listing.lines_of(self.graph(mark.task.path) + trace))
+        block.said += faults(said, rows)
+        return stepper.drawn([judged(block, mark, said, rows)]).encode()
+
+
+def judged(block, mark, said, rows):
+    """A block with its verdict, and with what is said of each row that is wrong."""
+    block.judge(said["name"] or "-", mark.verdict, f"{said['least']}")
+    for found in [] if mark.passes() else said["reasons"]:
+        if "row" in found:
+            block.wrong.setdefault(found["row"], []).append(reason(found, rows))
+    return block

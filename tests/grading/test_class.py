@@ -1,6 +1,9 @@
 """A class made anew, of which the oracle knows the points; and how policies give them."""
 import csv
 import os
+import re
+from functools import partial
+from html import unescape
 
 from grading import classes
 from harness.place import Place
@@ -87,7 +90,8 @@ class Class(Graded):
                         (0, 11, "missing", "10"))
 
     def test_pages(self):
-        """Each drawn hand-in that is traced has the page that charts/page makes of its listings, and a link to it."""
+        """A link leads to the page that charts/page makes of a hand-in's listings, which says what the feedback does."""
+        plain = partial(re.sub, "(?s)<title>.*?</title>|<ul class=.said.*?</ul>", "")
         for words in (), ("--load=6",):
             self.call("ilocgrade", BOTH, CLASS, *(f"--check={word}" for word in words))
             task, of_rows = f"{BOTH}/both.iloc", (*words, "--task", f"{BOTH}/both.iloc", "3", "4")
@@ -95,7 +99,11 @@ class Class(Graded):
                 listings = self.listings(("graph", *words), given=self.read(task))
                 listings += self.listings(("trace", *of_rows), ("check", *of_rows), given=self.rows(name))
                 page = f"feedback/{name}/both.html"
-                self.expect(f"{name}'s page", self.read(f"grades/{page}"), self.printed("charts/page", given=listings))
+                made, due = self.text(f"grades/{page}"), self.printed("charts/page", given=listings).decode()
+                self.expect(f"{name}'s page", plain(made), plain(due))
+                said = unescape(re.sub("<.*?>", "", made[made.index("<ul class=\"said wrong"):]))
+                for line in self.feedback(name)[3:-2]:
+                    self.expect(f"{name}'s page says {line}", line.strip() in said, True)
                 self.expect(f"{name}'s link", f'href="{page}"' in self.text("grades/report.html"), True)
             for name in ("cem", "gus") if words else ("ada", "cem", "gus"):     # with --load=6 hers is wrong too
                 self.expect(f"{name}'s page", os.path.exists(self.path(f"grades/feedback/{name}/both.html")), False)
