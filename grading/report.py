@@ -12,10 +12,11 @@ from html import escape
 from pathlib import Path
 from urllib.parse import quote
 
+from language import PASSING
 from words import count, number, shown, told
 
-COLOURS = {"lawful": "right", "same": "right", "prints": "right", "agrees": "ask", "changed": "ask", "unlawful": "ask",
-           "undecided": "ask", "void": "ask", "unjudged": "ask", "missing": "none"}      # the others are wrong
+ASK = ("agrees", "changed", "unlawful", "undecided", "void", "unjudged")
+COLOURS = {**dict.fromkeys(PASSING, "right"), **dict.fromkeys(ASK, "ask"), "missing": "none"}    # the others are wrong
 LONGEST = 120           # bytes of a folder's name
 PLAIN = " -_.@,'()"     # in it, beside letters, marks and digits
 PAGE = Path(__file__).resolve().with_name("report.html")

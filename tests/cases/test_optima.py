@@ -8,7 +8,7 @@ import time
 from cases.test_drawn import comparison, comparison_table, unsearched
 from harness.program import TESTED, ending, unlike
 from harness.suite import Check, table
-from language import MOST_OPERATIONS, USUAL
+from language import LONGEST_LATENCY, MOST_OPERATIONS, USUAL
 from oracle.drawn import lab_block
 from oracle.operations import Op, text_of, words_for
 from oracle.optimum import fewest, odd_latencies, small_block
@@ -18,7 +18,7 @@ from oracle.scheduler import ORDERS, Schedule
 ENTRY = re.compile(rb"^cycles ([0-9]+)\n// bound ([0-9]+)( optimal)?$", re.MULTILINE)
 TOGETHER = 20       # blocks of a run
 MOST_SEARCHED = 300
-SLOWEST = {"load": 16, "store": 16, "mult": 16}
+SLOWEST = dict.fromkeys(USUAL, LONGEST_LATENCY)
 
 
 def listing_of(blocks, latencies, nodes=1000, *words):

@@ -9,7 +9,7 @@ from bench import inputs, measure
 from bench.measure import contents
 from harness.program import COMMANDS, TESTED, ending, folder, stored, told, unlike
 from harness.suite import Check, table
-from language import MOST_BLOCKS, MOST_BYTES, MOST_OPERATIONS
+from language import LONGEST_LATENCY, MOST_BLOCKS, MOST_BYTES, MOST_OPERATIONS
 from oracle.judge import NOT_SAME
 from oracle.printed import printed
 from oracle.reader import NO_SUCH_BLOCK
@@ -20,9 +20,7 @@ MOST_MS = 10_000
 MOST_MIB = 286    # 300 MB
 # By how much a check of operations that are all alike may take longer than to simulate them.
 ALIKE_MS = 100
-# The greatest latency, and an address space that the listing of its longest schedules doesn't fit into, though their
-# rows are counted there.
-SLOWEST = 16
+# An address space that the listing of the longest schedules doesn't fit into, though their rows are counted there.
 LITTLE = 80 * 1024 * 1024
 
 
@@ -297,7 +295,7 @@ def slow_loads():
     text = blocks_of(b"load r0=>r0\n")
     path = stored("given", text)
     for command in (*COMMANDS[1:], "explain"):
-        got, wrong = measured("chained loads", [command, "--load", str(SLOWEST)], path)
+        got, wrong = measured("chained loads", [command, "--load", str(LONGEST_LATENCY)], path)
         if got.status != 0 or not is_made_of(got.output, slow_listing(command, text.count(b":"))):
             yield f"{command}: status {got.status}, or another listing"
         yield from wrong
@@ -305,15 +303,15 @@ def slow_loads():
 
 def slow_listing(command, blocks):
     """What is listed of `slow_loads`, in parts."""
-    cycles = SLOWEST * MOST_OPERATIONS
-    empty = b"[ nop ; nop ]\n" * (SLOWEST - 1)
+    cycles = LONGEST_LATENCY * MOST_OPERATIONS
+    empty = b"[ nop ; nop ]\n" * (LONGEST_LATENCY - 1)
     rows = empty.join(b"[ load r%d => r%d ; nop ]\n" % (k, k + 1) for k in range(MOST_OPERATIONS))
     entry = {"simulate": b"\n", "counts": b" cycles %d\n" % cycles,
              "schedule": b"\n" + rows + b"cycles %d\n" % cycles,
              "explain": b"\n" + b"".join(map(slow_reason, range(MOST_OPERATIONS)))
              + b"cycles %d least %d optimal\nchain " % (cycles, cycles)
              + b" ".join(b"%d" % k for k in range(MOST_OPERATIONS)) + b"\npath "
-             + b" ".join(b"%d +%d" % (k, SLOWEST) for k in range(MOST_OPERATIONS)) + b"\n"}[command]
+             + b" ".join(b"%d +%d" % (k, LONGEST_LATENCY) for k in range(MOST_OPERATIONS)) + b"\n"}[command]
     for number in range(1, blocks + 1):
         yield b"block %d A" % number + entry
     if command != "simulate":
@@ -322,15 +320,15 @@ def slow_listing(command, blocks):
 
 def slow_reason(number):
     """The line of one of `slow_loads`, which waits for the one before it."""
-    cycle, before = SLOWEST * number, b"%d" % (number - 1) if number else b"-"
+    cycle, before = LONGEST_LATENCY * number, b"%d" % (number - 1) if number else b"-"
     return (b"%d cycle %d unit 0 ready %d after %s priority %d earliest %d slack 0 held - load r0 => r0 ; "
-            b"load r%d => r%d\n" % (number, cycle, cycle, before, SLOWEST * MOST_OPERATIONS - cycle, cycle,
+            b"load r%d => r%d\n" % (number, cycle, cycle, before, LONGEST_LATENCY * MOST_OPERATIONS - cycle, cycle,
                                     number, number + 1))
 
 
 def in_little_memory():
     """The longest schedules are refused where they find no room, with nothing written."""
-    words = ["schedule", "--workers", "1", "--load", str(SLOWEST)]
+    words = ["schedule", "--workers", "1", "--load", str(LONGEST_LATENCY)]
     got = ending(words, blocks_of(b"load r0=>r0\n"),
                  preexec_fn=lambda: resource.setrlimit(resource.RLIMIT_AS, (LITTLE, LITTLE)))
     if got != NO_MEMORY:
