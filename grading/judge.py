@@ -11,9 +11,7 @@ from pathlib import Path
 
 SECONDS = 600       # no answer takes as long
 ENDINGS = (".i", ".iloc")
-INPUT = re.compile(rb"^[ \t]*//[ \t]*SIM INPUT:(.*)$", re.MULTILINE)
-POINTS = re.compile(rb"^[ \t]*//[ \t]*POINTS:[ \t]*(.*?)[ \t\r]*$", re.MULTILINE)
-WORDS = re.compile(r"-i (\d{1,10})((?: -?\d{1,10})*)")
+WORDS = r"(?:-i (\d{1,10})((?: -?\d{1,10})*))?"
 VOID = {"faults": "faults on its words", "shows_nothing": "shows nothing"}
 program = "ilocfarm"
 
@@ -23,24 +21,26 @@ class CannotGrade(Exception):
 
 
 class NoAnswer(CannotGrade):
-    """The program failed."""
+    """The program isn't there, or failed."""
 
 
 def found(name):
     """The path of a program that is beside the command that was started, or else on the PATH."""
     beside = os.path.dirname(os.path.abspath(sys.argv[0]))
-    return shutil.which(name, path=os.pathsep.join((beside, os.environ.get("PATH", os.defpath))))
+    path = shutil.which(name, path=os.pathsep.join((beside, os.environ.get("PATH", os.defpath))))
+    if not path:
+        raise NoAnswer(f"{name} is not on the PATH")
+    return path
 
 
 class Version(argparse.Action):
     """Prints what `ilocfarm --version` prints, since it is installed with the program."""
 
     def __call__(self, parser, asked, *_):
-        name = getattr(asked, "ilocfarm", program)
-        path = found(name)
-        if not path:
-            parser.exit(3, f"{parser.prog}: {name} is not on the PATH\n")
-        parser.exit(subprocess.call([path, "--version"]))
+        try:
+            parser.exit(subprocess.call([found(getattr(asked, "ilocfarm", program)), "--version"]))
+        except NoAnswer as why:
+            parser.exit(3, f"{parser.prog}: {why}\n")
 
 
 def call(words, given):
@@ -81,16 +81,20 @@ class Task:
     is_hidden: bool     # from students, but for the points
 
 
+def given(path, name, pattern, form):
+    """What the first line `//NAME: ..` of a task gives, by a pattern; nothing where there is no such line."""
+    line = re.search(rf"^[ \t]*//[ \t]*{name}:(.*)$".encode(), path.read_bytes(), re.MULTILINE)
+    text = " ".join(line[1].decode("ascii", "replace").split()) if line else ""
+    found = re.fullmatch(pattern, text)
+    if line and not found:
+        raise CannotGrade(f"{path}: expected `//{name}: {form}`, found `{text[:60]}`")
+    return line and found
+
+
 def words_of(path):
-    """The words that a line `//SIM INPUT: -i ADDRESS WORD ..` gives; a negative one by its pattern."""
-    found = INPUT.search(path.read_bytes())
-    given = " ".join(found[1].decode("ascii", "replace").split()) if found else ""
-    if not given:
-        return ()
-    read = WORDS.fullmatch(given)
-    if not read:
-        raise CannotGrade(f"{path}: expected `//SIM INPUT: -i ADDRESS WORD ..`, found `{given[:60]}`")
-    return "--at", read[1], *(str(int(word) % 2 ** 32) for word in read[2].split())
+    """The words of the program that memory starts with; a negative one by its pattern."""
+    read = given(path, "SIM INPUT", WORDS, "-i ADDRESS WORD ..")
+    return ("--at", read[1], *(str(int(word) % 2 ** 32) for word in read[2].split())) if read and read[1] else ()
 
 
 def read_task(path, asked):
@@ -102,11 +106,9 @@ def read_task(path, asked):
     said, = found
     if said["void"]:
         raise CannotGrade(f"{path}: the block {VOID[said['void']['kind']]}")
-    points = POINTS.search(path.read_bytes())
-    if points and not re.fullmatch(rb"\d{1,6}(\.\d{1,4})?", points[1]):
-        raise CannotGrade(f"{path}: expected `//POINTS: N`, found `{points[1].decode('ascii', 'replace')[:60]}`")
+    points = given(path, "POINTS", r"\d{1,6}(\.\d{1,4})?", "N")
     return Task(path.stem, path.resolve(), words, said["ours"], said["least"], f"block 1 {said['name'] or '-'}",
-                float(points[1]) if points else asked.points, path.stem in asked.hidden)
+                float(points[0]) if points else asked.points, path.stem in asked.hidden)
 
 
 def read_tasks(asked):

@@ -20,7 +20,7 @@ class NoRows(Exception):
 @dataclass
 class Mark:
     task: Task
-    verdict: str                # the program's, or one of words.VERDICTS
+    verdict: str                # the program's, or another of sentences.ini
     lines: list                 # why
     notes: list = field(default_factory=list)       # of what `--lenient` changed
     cycles: int = None
@@ -97,15 +97,14 @@ def unmarked(task, why):
 
 def give_points(students, asked, again):
     """Gives these students of a class points: fewer for cycles beyond a base, a share for what only prints right."""
-    best = {}
-    for mark in (mark for student in students for mark in student.row if mark.passes()):
-        best[mark.task.name] = min(best.get(mark.task.name, mark.cycles), mark.cycles)
+    columns = zip(*(student.row for student in students))
+    best = [min((mark.cycles for mark in column if mark.passes()), default=None) for column in columns]
     for student in again:
         student.less = student.days * asked.per_day
-        for mark in student.row:
+        for mark, least in zip(student.row, best):
             task, points = mark.task, 0
             if mark.passes():
-                base = {"ours": task.ours, "least": task.least, "best": best[task.name], "pass": mark.cycles}
+                base = {"ours": task.ours, "least": task.least, "best": least, "pass": mark.cycles}
                 late = max(0, mark.cycles - base[asked.policy])
                 lost = task.points * late / max(1, mark.cycles) if asked.per_cycle is None else asked.per_cycle * late
                 points = max(asked.floor * task.points, task.points - lost)

@@ -15,46 +15,40 @@ OPTION = re.compile(r"--(?:load|store|mult)=(?:[1-9]|1[0-6])|--either-slot|--out
 REQUIRED = {"outcome": [], "operations": ["--operations"], "lawful": ["--lawful"]}
 
 
-def between(least, most=math.inf, kind=float):
+def checked(kind, holds, what):
+    """Reads a value of a kind of which something holds, or says what it is."""
     def read(text):
         value = kind(text)
-        if not math.isfinite(value) or not least <= value <= most:
-            wanted = f"a number from {least} on" if most == math.inf else f"between {least} and {most}"
-            raise argparse.ArgumentTypeError(f"{text} is not {wanted}")
+        if not holds(value):
+            raise argparse.ArgumentTypeError(f"{text} is {what}")
         return value
     return read
 
 
-def option(text):
-    if not OPTION.fullmatch(text):
-        raise argparse.ArgumentTypeError(f"{text} is none of --load=N, --store=N, --mult=N, --either-slot, --outputs")
-    return text
-
-
-KINDS = {"text": str, "time": datetime.fromisoformat, "path": Path, "words": shlex.split, "option": option,
-         "whole": between(1, kind=int), "number": between(0), "share": between(0, 1)}
+KINDS = {"text": str, "time": datetime.fromisoformat, "path": Path, "words": shlex.split,
+         "option": checked(str, OPTION.fullmatch, "none of --load=N, --store=N, --mult=N, --either-slot, --outputs"),
+         "whole": checked(int, lambda value: value >= 1, "not a number from 1 on"),
+         "number": checked(float, lambda value: 0 <= value < math.inf, "not a number from 0 on"),
+         "share": checked(float, lambda value: 0 <= value <= 1, "not between 0 and 1")}
 ACTIONS = {"flag": {"action": "store_true"}, "version": {"action": judge.Version, "nargs": 0},
            "names": {"nargs": "+", "metavar": "NAME", "default": []}}
 
 
-def add_to(group, names, value, kind, default, about):
-    """Adds an option: a flag, one of several words, or a value of a kind, which may be given again."""
-    valued = {"type": KINDS.get(kind), "metavar": value} if value else {"choices": kind.split()}
-    again = {"action": "append", "default": []} if default == ".." else {"default": default} if default else {}
-    group.add_argument(*names.split(), **ACTIONS.get(kind) or {**valued, **again}, help=about)
-
-
 def parser(usage):
+    """Each option is a flag, one of several words, or a value of a kind, which may be given again."""
     made = group = argparse.ArgumentParser(prog="ilocgrade", description=usage,
                                            formatter_class=argparse.RawDescriptionHelpFormatter)
     made.add_argument("tasks", metavar="TASKS", type=Path)
     made.add_argument("submissions", metavar="SUBMISSIONS", type=Path)
     with open(TABLE, newline="", encoding="utf-8") as table:
-        for first, *more in csv.reader(table, delimiter="\t", quoting=csv.QUOTE_NONE):
-            if more:
-                add_to(group, first, *more)
-            else:
-                group = made.add_argument_group(first)
+        for names, *row in csv.reader(table, delimiter="\t", quoting=csv.QUOTE_NONE):
+            if not row:
+                group = made.add_argument_group(names)
+                continue
+            value, kind, default, about = row
+            valued = {"type": KINDS.get(kind), "metavar": value} if value else {"choices": kind.split()}
+            again = {"action": "append", "default": []} if default == ".." else {"default": default} if default else {}
+            group.add_argument(*names.split(), **ACTIONS.get(kind) or {**valued, **again}, help=about)
     made.set_defaults(jobs=len(os.sched_getaffinity(0)))
     return made
 

@@ -102,8 +102,7 @@ class Folder:
         return opened((self.given[path] if self.given else path).split("/"), flags, self.number)
 
     def has(self, name):
-        return (os.access(name, os.F_OK, dir_fd=self.number, follow_symlinks=False) if self.given is None
-                else name in self.given)
+        return name in self.given if self.given else os.access(name, os.F_OK, dir_fd=self.number, follow_symlinks=False)
 
     @cached_property
     def paths(self):

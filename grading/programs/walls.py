@@ -32,13 +32,6 @@ def covered(bound, hidden):
         yield f"{path}"
 
 
-def in_memory(data):
-    """An open file with these bytes, which is read from its start."""
-    file = open(os.memfd_create("ilocgrade"), "rb")
-    os.pwrite(file.fileno(), data, 0)
-    return file
-
-
 class Walls:
     """What all have in common. For root, who owns much of /proc, a user whom nobody else is, nor another grading."""
     sizes, warning = {}, ""     # in bytes, by path of a file system in memory; what is said beside the marks
@@ -79,10 +72,12 @@ class Bubblewrap(Walls):
     def start(self, command, task, script):
         """The words for a run, what else starts it, and what the student's folder is called there."""
         with ExitStack() as stack:
-            data = (b"student:x:1000:1000::/work:/bin/sh\n", task, self.filter)
-            passwd, given, calls = files = [stack.enter_context(in_memory(each)).fileno() for each in data]
-            words = [*self.words, "--ro-bind-data", f"{passwd}", "/etc/passwd", "--ro-bind-data", f"{given}", "/task",
-                     "--remount-ro", "/", "--chdir", "/work", *["--seccomp", f"{calls}"] * bool(self.filter), "--"]
+            files = [stack.enter_context(tempfile.TemporaryFile()).fileno() for _ in range(3)]
+            for number, data in zip(files, (b"student:x:1000:1000::/work:/bin/sh\n", task, self.filter)):
+                os.pwrite(number, data, 0)      # each is read from its start
+            passwd, given, calls = map(str, files)
+            words = [*self.words, "--ro-bind-data", passwd, "/etc/passwd", "--ro-bind-data", given, "/task",
+                     "--remount-ro", "/", "--chdir", "/work", *["--seccomp", calls] * bool(self.filter), "--"]
             yield [*words, *self.limited(0, "/task", command, script)], {"cwd": "/", "pass_fds": files}, "/work"
 
 

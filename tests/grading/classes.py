@@ -1,7 +1,7 @@
 """A class made anew: tasks, hand-ins of each kind of student, and what the oracle says of them."""
 import random
 from functools import cache
-from itertools import cycle
+from itertools import count, cycle
 
 from judged.labs import Given
 from judged.students import RIGHT, WRONG
@@ -23,11 +23,9 @@ class Made:
         self.name, chance = f"b{number:02}", random.Random(number)
         self.words = [] if number % 3 == 0 else [chance.choice([1028, 7, 2 ** 32 - 5, 1_000_000]) for _ in range(4)]
         self.start = words_from(AT, self.words)
-        while True:
-            ops = [op for _ in range(size) for op in lab_block(chance)][:size]
-            if not why_void(ops, self.start):
-                break
-        self.ops, self.given = ops, Given(Schedule(ops, USUAL))
+        drawn = ([op for _ in range(size) for op in lab_block(chance)][:size] for _ in count())
+        self.ops = next(ops for ops in drawn if not why_void(ops, self.start))
+        self.given = Given(Schedule(self.ops, USUAL))
 
     def text(self):
         words = "".join(f" {signed(word)}" for word in self.words)

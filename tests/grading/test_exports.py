@@ -109,17 +109,14 @@ class Exports(Graded):
                 self.expect(f"status: {said}", (status, len(book)), (0, len(STUDENTS)))
                 for line in "30 on the roster submitted nothing:", f"export is read by --layout {name}":
                     self.expect(line, line in said.decode(), True)
-                self.compare(name, book)
                 self.expect("merged", self.text("grades/merged.csv"), site.table(POINTS))
-
-    def compare(self, name, book):
-        by_id = {line["id"]: line for line in book.values()}
-        for student in STUDENTS:
-            line = by_id[student.id] if name != "github" else book.get(student.user) or by_id[student.user]
-            days = "1" if student.is_late and student.kind else ""
-            attempt = f"{student.attempt}" if student.kind and name in ("canvas", "gradescope") else ""
-            self.expect(f"{student.name}", (line["total"], line["days late"], line.get("attempt", "")),
-                        (POINTS[student.kind], days, attempt))
+                by_id = {line["id"]: line for line in book.values()}
+                for student in STUDENTS:
+                    line = by_id[student.id] if name != "github" else book.get(student.user) or by_id[student.user]
+                    days = "1" if student.is_late and student.kind else ""
+                    attempt = f"{student.attempt}" if student.kind and name in ("canvas", "gradescope") else ""
+                    self.expect(f"{student.name}", (line["total"], line["days late"], line.get("attempt", "")),
+                                (POINTS[student.kind], days, attempt))
 
     def test_tables(self):
         """Whom two lines name is filled nowhere, which is said; what a table lacks is said before anybody is graded."""

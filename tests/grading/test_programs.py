@@ -17,16 +17,12 @@ NOBODY = 65534
 TO_NOBODY = ["setpriv", "--reuid", f"{NOBODY}", "--regid", f"{NOBODY}", "--clear-groups"]
 
 
-def cases(text):
-    """By name the verdict and the lines of cases."""
-    found = re.findall(r"^= (.+?): (\S+): (.*\n(?:(?!= ).*\n)*)", text, re.MULTILINE)
-    return {name: case for names, *case in found for name in names.split(", ")}
-
-
 def groups(name):
-    """The words after each `##` in a file, with the cases below."""
-    parts = re.split("^## (.*)\n", Path(f"{TOP}/tests/grading/{name}.cases").read_text("utf-8"), flags=re.MULTILINE)
-    return [(shlex.split(words), cases(text)) for words, text in zip(parts[1::2], parts[2::2])]
+    """The words after each `##` in a file of cases, and by name the verdict and the lines of each case below."""
+    told = Path(f"{TOP}/tests/grading/{name}.cases").read_text("utf-8")
+    for words, text in re.findall(r"^## (.*)\n((?:(?!## ).*\n)*)", told, re.MULTILINE):
+        found = re.findall(r"^= (.+?): (\S+): (.*\n(?:(?!= ).*\n)*)", text, re.MULTILINE)
+        yield shlex.split(words), {name: case for names, *case in found for name in names.split(", ")}
 
 
 class Programs(Graded):
@@ -89,34 +85,29 @@ class ByRoot(Programs):
                 del line[name]
         self.expect("marks", (len(books[0]) > 9, books[1], books[2]), (True, books[0], books[0]))
 
-    def attacks(self, port):
-        """The attacks that reach what they are after outside of the walls; each other one isn't run."""
-        has_filter = self.call("/usr/bin/python3", "-c", "import seccomp")[0] == 0
-        values = {"FOLDER": self.folder, "TOP": TOP, "PROGRAM": TESTED.program, "PORT": port,
-                  "PROCESS": f"{os.getpid()}"}
-        for name, (kind, lines) in cases(self.text(f"{TOP}/tests/grading/attacks.cases")).items():
-            lines = re.sub("|".join(values), lambda word: values[word[0]], lines)
-            with self.subTest(name):
-                if not has_filter and kind == "call":
-                    self.skipTest("python3-seccomp isn't installed")
-                if self.call(*self.user, "sh", "-c", f"cd outside; {{ {lines}}} >../open/said")[0]:
-                    self.skipTest("it isn't possible on this machine")
-                yield name, lines
-
     def test_attacks(self):
-        """What can be reached outside of the walls can't within."""
+        """What can be reached outside of the walls can't within; an attack that fails there too isn't run."""
         self.hand_in_program("right", f"cat {self.folder}/tools/hello || exit 1; cat rows\n")
         self.shell("mkdir old tools outside; touch old/gradebook.csv tools/hello;"
                    f"cp {TESTED.program} tools/ilocfarm-2; cp {BOTH}/both.iloc outside/task.iloc;"
                    "ln -s ../submissions/right/rows outside/solution")
+        has_filter, due = self.call("/usr/bin/python3", "-c", "import seccomp")[0] == 0, {"right": "lawful"}
+        values = {"FOLDER": self.folder, "TOP": TOP, "PROGRAM": TESTED.program, "PROCESS": f"{os.getpid()}"}
         with socket.create_server(("127.0.0.1", 0)) as server:
-            tried = dict(self.attacks(f"{server.getsockname()[1]}"))
-            for name, lines in tried.items():
-                link = f"$ ln -s {self.folder}/submissions/right/rows solution\n"
-                self.hand_in_program(name, f"{link}{{ {lines}}} >&2 && cat rows\n")
+            values["PORT"] = f"{server.getsockname()[1]}"
+            (command, attacks), = groups("attacks")
+            for name, (kind, lines) in attacks.items():
+                lines = re.sub("|".join(values), lambda word: values[word[0]], lines)
+                with self.subTest(name):
+                    if not has_filter and kind == "call":
+                        self.skipTest("python3-seccomp isn't installed")
+                    if self.call(*self.user, "sh", "-c", f"cd outside; {{ {lines}}} >../open/said")[0]:
+                        self.skipTest("it isn't possible on this machine")
+                    link = f"$ ln -s {self.folder}/submissions/right/rows solution\n"
+                    self.hand_in_program(name, f"{link}{{ {lines}}} >&2 && cat rows\n")
+                    due[name] = "crashed"
             os.remove(self.path("open/reached"))
-            due = {"right": "lawful", **dict.fromkeys(tried, "crashed")}
-            self.graded(due, ("ilocgrade", "--bind", self.path("tools")))
+            self.graded(due, (*command, "--bind", self.path("tools")))
         self.expect("a file outside", os.path.exists(self.path("open/reached")), False)
 
     def test_changed(self):

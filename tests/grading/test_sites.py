@@ -86,8 +86,7 @@ class Sites(Graded):
             browser.seen_on("screen", scheme)
             browser.open(self.path("grades/report.html"))
             browser.value("document.querySelectorAll('details').forEach(it => { it.open = true; })")
-            self.expect("page as wide as the screen",
-                        browser.value("document.documentElement.scrollWidth <= innerWidth"), True)
+            self.expect("width", browser.value("document.documentElement.scrollWidth <= innerWidth"), True)
             colours = browser.value("[...document.querySelectorAll('td, th')].map(it => "
                                     "[getComputedStyle(it).color, getComputedStyle(it).backgroundColor].join('; '))")
             faint = [pair for pair in set(colours) if contrast(*pair.split("; ")) < LEAST_CONTRAST]
