@@ -1,18 +1,6 @@
 -- A worker's steps towards a job.
-use Rattle.std.proofs.Common.{◌≡◌, ℕ, ◌<◌, ◌≤◌, true, [], ◌++◌, refl, ap, sym, ◌∙◌, arith}
-use Rattle.std.proofs.lemmas.List.{append-nil, append_assoc, map-append}
-use Rattle.iloc_board.specs.declared.step.Step.{Step}
-use Rattle.iloc_board.specs.declared.step.Step.TheVariants.{Hand}
-use Rattle.iloc_board.specs.declared.step.Reply.{Reply}
-use Rattle.iloc_board.specs.declared.step.Reply.TheVariants.{Block, NoneLeft, Took, Stale, Handed}
-use Rattle.iloc_board.specs.declared.board.state.State.TheVariants.{Free, Looked, Holding}
-use Rattle.iloc_board.specs.declared.step.Journal.{Journal}
-use Rattle.iloc_board.specs.Core.{IsWithin}
-use Rattle.iloc_board.specs.History.{accepted}
-use Rattle.iloc_board.specs.Journal.{state_of, seen, noted, handed}
-use Rattle.iloc_board.specs.Views.{BoardView, PassView, state, stepped, with_answer, is_looking, job_of}
+use Rattle.iloc_board.proofs.Common.{◌≡◌, ℕ, ◌<◌, ◌≤◌, true, [], ◌++◌, sym, refl, ap, ◌∙◌, append_assoc, append-nil, arith, map-append, IsWithin, accepted, handed, noted, seen, state_of, Ended, Goes, HandsNothing, left, BoardView, PassView, is_looking, job_of, state, stepped, with_answer, Free, Holding, Looked, Journal, Reply, Block, Handed, NoneLeft, Stale, Took, Step, Hand}
 use Rattle.iloc_board.specs.Working.{Runs, HandsBack, IsDone}
-use Rattle.iloc_board.specs.Steps.Course.{left, Goes, Ended, HandsNothing}
 use Rattle.iloc_board.proofs.Parts.{state_from-snoc, handed_from-snoc}
 use Rattle.iloc_board.proofs.Passes.{all_fit-append}
 use Rattle.iloc_board.proofs.Works as works

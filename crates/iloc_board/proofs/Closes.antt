@@ -1,31 +1,11 @@
 -- What a closed board shows.
-use Rattle.std.proofs.Common.{◌≡◌, ◌≢◌, ℕ, zero, suc, ◌+◌, ◌<◌, ◌≤◌, ◌⊎◌, Bool, true, false, ◌||◌, ◌==◌, List, [], ◌∷◌, length, map, replicate, refl, ap, sym, ◌∙◌, subst, arith, inl, inr, Option, Some, None, length-set}
-use Rattle.std.specs.Prelude.{slice_get, slice_set, slice_index, slice_index_or}
-use Rattle.std.specs.List.{range_with_len, All, Contains, list_any}
-use Rattle.std.proofs.lemmas.Bool.{eqb-true, eq-eqb, cases_eq, cases_lt, or_cases, or_left, or_right, or_from, ne_eqb, and_parts, and_from}
-use Rattle.std.proofs.lemmas.List.{length-replicate, length-map, get_or_default}
-use Rattle.std.proofs.lemmas.List.Folds.{list_any-append}
-use Rattle.std.proofs.lemmas.List.Elements.{All-nil, All-cons, All-head, All-tail, Contains-append_left, Contains-append_right, Contains-append_cases}
+use Rattle.iloc_board.proofs.Common.{◌≡◌, ℕ, zero, suc, ◌+◌, ◌<◌, ◌≤◌, Bool, true, false, ◌||◌, ◌≢◌, ◌⊎◌, List, [], ◌∷◌, map, length, replicate, ◌==◌, slice_get, slice_index, slice_index_or, slice_set, Some, None, All, Contains, Option, sym, refl, ap, ◌∙◌, subst, inl, inr, arith, length-set, eq-eqb, ne_eqb, eqb-true, and_from, and_parts, cases_eq, cases_lt, or_cases, or_from, or_left, or_right, get_or_default, length-map, length-replicate, All-cons, All-head, All-nil, All-tail, Contains-append_cases, Contains-append_left, Contains-append_right, list_any-append, list_any, range_with_len, AllMade, AreTheAnswers, FitsHandedBack, IsFirstMissing, IsLegalWith, IsNoMemory, IsWhole, MissingOf, NoneTwice, handed_back_in, jobs_of, workers_of, Core, after, is_holding, opening, played, reply_to, worker_of, taken_by, takes, all_handed, entries_of, handed, saw_none, seen, state_of, final, is_out, is_pair, HoleOf, IsFirstHole, placed, Apart, FitsRoot, IsKept, Sat, TableState, Tells, AllFit, BoardView, RootView, priced, Holding, Entry, Journal, Reply, Step}
 use Rattle.std.proofs.lemmas.Option.{slice_get_within, get_or_from_slice_get}
 use mathlib.Core.Option.{some, some-injective, some-ne-none}
 use lib.ListN.{get_elem?}
-use Rattle.iloc_board.specs.declared.step.Step.{Step}
-use Rattle.iloc_board.specs.declared.step.Reply.{Reply}
-use Rattle.iloc_board.specs.declared.board.state.State.TheVariants.{Holding}
-use Rattle.iloc_board.specs.declared.step.Entry.{Entry}
-use Rattle.iloc_board.specs.declared.step.Journal.{Journal}
 use Rattle.iloc_board.specs.declared.board.seat_view.Role.TheVariants.{Root}
-use Rattle.iloc_board.specs.Core.{Core, opening, is_holding, worker_of, reply_to, after, played}
-use Rattle.iloc_board.specs.Sequential.{is_pair, is_out}
-use Rattle.iloc_board.specs.History.{taken_by, takes}
-use Rattle.iloc_board.specs.Journal.{entries_of, state_of, saw_none, seen, handed, all_handed}
-use Rattle.iloc_board.specs.Play.{final}
-use Rattle.iloc_board.specs.Steps.Rule.{TableState, Sat, Tells, Apart, FitsRoot, IsKept}
-use Rattle.iloc_board.specs.Views.{BoardView, RootView, AllFit, priced}
 use Rattle.iloc_board.specs.Steps.Inside.{IsRoot}
 use Rattle.iloc_board.specs.Steps.Closing.{IsClosed}
-use Rattle.iloc_board.specs.Steps.Row.{placed, IsFirstHole, HoleOf}
-use Rattle.iloc_board.specs.Collecting.{AllMade, handed_back_in, FitsHandedBack, IsLegalWith, NoneTwice, jobs_of, workers_of, AreTheAnswers, IsFirstMissing, IsWhole, MissingOf, IsNoMemory}
 use Rattle.iloc_board.specs.declared.collect.CollectFault.{CollectFault}
 use Rattle.iloc_board.specs.declared.collect.CollectFault.TheVariants.{Missing, NoMemory}
 use Rattle.iloc_board.proofs.Runs.{length-costs_final}

@@ -1,14 +1,5 @@
 -- What a step does, case by case.
-use Rattle.std.proofs.Common.{◌≡◌, ◌≢◌, ℕ, ◌<◌, ◌≤◌, Bool, true, false, ◌==◌, [], ◌∷◌, refl, arith}
-use Rattle.std.specs.Prelude.{nat_lt, slice_set}
-use Rattle.std.proofs.lemmas.Bool.{ltb-true, ltb-false, eqb-true, eq-eqb, ne_eqb}
-use Rattle.iloc_board.specs.declared.step.Step.{Step}
-use Rattle.iloc_board.specs.declared.step.Step.TheVariants.{Look, Try, Hand}
-use Rattle.iloc_board.specs.declared.step.Reply.TheVariants.{Block, NoneLeft, Took, Stale, Handed, NotNow}
-use Rattle.iloc_board.specs.declared.board.state.State.{State}
-use Rattle.iloc_board.specs.declared.board.state.State.TheVariants.{Free, Looked, Holding}
-use Rattle.iloc_board.specs.Core.{Core, worker_of, reply_to, state_after, costs_at, after, is_holding}
-use Rattle.iloc_board.specs.History.{handed_by}
+use Rattle.iloc_board.proofs.Common.{◌≡◌, ℕ, ◌<◌, ◌≤◌, Bool, true, false, ◌≢◌, [], ◌∷◌, nat_lt, ◌==◌, slice_set, refl, arith, ltb-false, ltb-true, eq-eqb, ne_eqb, eqb-true, Core, after, costs_at, is_holding, reply_to, state_after, worker_of, handed_by, State, Free, Holding, Looked, Block, Handed, NoneLeft, NotNow, Stale, Took, Step, Hand, Look, Try}
 
 -- a step leaves the costs
 abbrev pub SameCosts : Core → Step → Type 0

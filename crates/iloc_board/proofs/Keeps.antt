@@ -1,26 +1,13 @@
 -- The five atomic steps keep the rule.
-use Rattle.std.proofs.Common.{◌≡◌, ◌≢◌, ℕ, zero, suc, ◌+◌, ◌<◌, ◌≤◌, ◌⊎◌, Bool, true, false, cond, ◌==◌, List, [], ◌∷◌, ◌++◌, length, replicate, refl, ap, sym, ◌∙◌, subst, arith, inl, inr, set, length-set, length-append}
-use Rattle.std.specs.Prelude.{slice_set, slice_index}
-use Rattle.std.proofs.lemmas.Bool.{cases_eq}
+use Rattle.iloc_board.proofs.Common.{◌≡◌, ℕ, zero, suc, ◌+◌, ◌<◌, ◌≤◌, Bool, true, false, cond, ◌≢◌, ◌⊎◌, List, [], ◌∷◌, ◌++◌, length, set, replicate, ◌==◌, slice_index, slice_set, sym, refl, ap, ◌∙◌, subst, inl, inr, arith, length-append, length-set, cases_eq, Core, after, costs_at, found, hand_reply, is_holding, look_reply, missed, next_after, opening, played, reply_to, try_reply, worker_of, entries_of, noted, seen, state_of, final, Fits, FitsPass, FitsRoot, IsKept, Sat, TableState, Tells, gathers, hands, looks, made_pass, makes, pass_seat, root_seat, spent_seat, tells_all, tries, State, Holding, Looked, Journal, Reply, Handed, NotNow, Took, Step, Hand, Look, Try}
 use mathlib.Core.Option.{none, some, some-injective, some-ne-none}
 use lib.ListN.{get_elem?}
 use prog.Atomic.{either}
 use Rattle.atomic_table.specs.Table as table
 use Rattle.atomic_table.specs.Table.{keeps, step, Allows, Splits, Joins}
 use Rattle.atomic_table.proofs.Lists.{at_set, set_here, set_else, set_again, at_longer}
-use Rattle.iloc_board.specs.declared.step.Step.{Step}
-use Rattle.iloc_board.specs.declared.step.Step.TheVariants.{Look, Try, Hand}
-use Rattle.iloc_board.specs.declared.step.Reply.{Reply}
-use Rattle.iloc_board.specs.declared.step.Reply.TheVariants.{Took, Handed, NotNow}
-use Rattle.iloc_board.specs.declared.board.state.State.{State}
-use Rattle.iloc_board.specs.declared.board.state.State.TheVariants.{Looked, Holding}
-use Rattle.iloc_board.specs.declared.step.Journal.{Journal}
 use Rattle.iloc_board.specs.declared.board.seat_view.Role.TheVariants.{Root, Pass, Spent}
 use Rattle.iloc_board.specs.declared.board.seat_view.SeatView.{SeatView}
-use Rattle.iloc_board.specs.Core.{Core, opening, worker_of, is_holding, found, missed, reply_to, look_reply, try_reply, hand_reply, next_after, costs_at, after, played}
-use Rattle.iloc_board.specs.Journal.{entries_of, state_of, seen, noted}
-use Rattle.iloc_board.specs.Play.{final}
-use Rattle.iloc_board.specs.Steps.Rule.{TableState, root_seat, pass_seat, spent_seat, Tells, FitsPass, FitsRoot, Fits, IsKept, Sat, looks, tells_all, tries, hands, makes, made_pass, gathers}
 use Rattle.iloc_board.proofs.Runs.{played-snoc, final-snoc}
 use Rattle.iloc_board.proofs.Parts.{state_final, made-snoc, made_more, answered-snoc, none_yet, tells_here, tells_else, seen_in_low}
 

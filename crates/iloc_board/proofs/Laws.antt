@@ -1,19 +1,7 @@
 -- The history of any steps is legal at the board of one thread, which ends where the core does.
-use Rattle.std.proofs.Common.{◌≡◌, ℕ, suc, ◌-◌, ◌<◌, ◌≤◌, Bool, true, false, not, ◌&&◌, ◌||◌, ◌==◌, List, [], ◌∷◌, ◌++◌, map, drop, refl, ap, sym, ◌∙◌, subst, arith}
-use Rattle.std.specs.List.{range_with_len, filter}
-use Rattle.std.proofs.lemmas.Bool.{eqb-true, eq-eqb, ne_eqb, and_parts}
-use Rattle.std.proofs.lemmas.List.{map-append, append-nil, append_assoc, map-id}
-use Rattle.std.proofs.lemmas.List.Elements.{filter-append}
+use Rattle.iloc_board.proofs.Common.{◌≡◌, ℕ, suc, ◌-◌, ◌<◌, ◌≤◌, Bool, true, false, not, ◌&&◌, ◌||◌, List, [], ◌∷◌, ◌++◌, map, drop, ◌==◌, filter, sym, refl, ap, ◌∙◌, subst, append_assoc, append-nil, map-id, arith, eq-eqb, ne_eqb, eqb-true, and_parts, map-append, filter-append, range_with_len, Core, IsWithin, after, ends, is_holding, next_after, opening, played, reply_to, state_after, worker_of, IsExact, IsExactReply, StandsAt, accepted, calls_of, given, hand_backs, history, holds_job, is_held, taken_by, takes, Call, Legal, SequentialBoard, board_after, has_out, is_out, is_pair, moved, opened, without, State, Holding, Looked, Reply, Handed, Took, Step}
 use Rattle.std.proofs.lemmas.Map.Views.{any-filter_same}
-use Rattle.iloc_board.specs.declared.step.Step.{Step}
-use Rattle.iloc_board.specs.declared.step.Reply.{Reply}
-use Rattle.iloc_board.specs.declared.step.Reply.TheVariants.{Took, Handed}
-use Rattle.iloc_board.specs.declared.board.state.State.{State}
-use Rattle.iloc_board.specs.declared.board.state.State.TheVariants.{Looked, Holding}
-use Rattle.iloc_board.specs.Core.{Core, IsWithin, opening, is_holding, worker_of, reply_to, state_after, next_after, after, ends, played}
 use Rattle.iloc_board.specs.Sequential as sequential
-use Rattle.iloc_board.specs.Sequential.{Call, SequentialBoard, is_pair, is_out, has_out, without, opened, moved, board_after, Legal}
-use Rattle.iloc_board.specs.History.{accepted, hand_backs, taken_by, takes, holds_job, is_held, given, calls_of, history, StandsAt, IsExact, IsExactReply}
 use Rattle.iloc_board.specs.Play as play
 use Rattle.iloc_board.proofs.Effects.{finds, misses, none, wins, returns, waits, effect, state_here}
 use Rattle.iloc_board.proofs.Taking.{Stands, begins, stands, state_by, looked_within}

@@ -1,11 +1,5 @@
 -- What stands in lists.
-use Rattle.std.proofs.Common.{◌≡◌, ◌≢◌, ℕ, zero, suc, ◌<◌, ◌⊎◌, false, ◌==◌, List, [], ◌∷◌, ◌++◌, length, refl, ap, sym, ◌∙◌, arith, inl, inr, Some}
-use Rattle.std.specs.Prelude.{slice_get, slice_set}
-use Rattle.std.specs.List.{Contains, list_any}
-use Rattle.std.proofs.lemmas.Bool.{ne_eqb, or_from}
-use Rattle.std.proofs.lemmas.List.{map-append}
-use Rattle.std.proofs.lemmas.List.Folds.{list_any-append}
-use Rattle.iloc_board.specs.Collecting.{NoneTwice, jobs_of}
+use Rattle.iloc_board.proofs.Common.{◌≡◌, ℕ, zero, suc, ◌<◌, false, ◌≢◌, ◌⊎◌, List, [], ◌∷◌, ◌++◌, length, ◌==◌, slice_get, slice_set, Some, Contains, sym, refl, ap, ◌∙◌, inl, inr, arith, ne_eqb, or_from, map-append, list_any-append, list_any, NoneTwice, jobs_of}
 
 module _ {B : Type 0} where
   pub contains_none : (b : B) → Contains [] b → ⊥

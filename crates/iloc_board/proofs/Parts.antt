@@ -1,22 +1,7 @@
 -- Each worker's part of a list of steps.
-use Rattle.std.proofs.Common.{◌≡◌, ◌≢◌, ℕ, suc, ◌<◌, ◌≤◌, max, true, cond, List, [], ◌∷◌, ◌++◌, refl, ap, ◌∙◌, arith, inl, inr}
-use Rattle.std.proofs.lemmas.Bool.{eq-eqb, ne_eqb, or_cases}
-use Rattle.std.proofs.lemmas.List.{append-nil, append_assoc}
+use Rattle.iloc_board.proofs.Common.{◌≡◌, ℕ, suc, ◌<◌, ◌≤◌, max, true, cond, ◌≢◌, List, [], ◌∷◌, ◌++◌, refl, ap, ◌∙◌, inl, inr, append_assoc, append-nil, arith, eq-eqb, ne_eqb, or_cases, AllAnswered, AllMade, Core, after, ends, entry, opening, played, reply_to, state_after, worker_of, accepted, entries_of, handed_from, is_none_left, noted, saw_none, seen, seen_from, seen_in, shown, state_from, state_of, final, Tells, State, Free, Looked, Entry, Journal, Reply, NoneLeft, NotNow, Step}
 use mathlib.Core.Option.{some}
 use lib.ListN.{get_elem?}
-use Rattle.iloc_board.specs.declared.step.Step.{Step}
-use Rattle.iloc_board.specs.declared.step.Reply.{Reply}
-use Rattle.iloc_board.specs.declared.step.Reply.TheVariants.{NoneLeft, NotNow}
-use Rattle.iloc_board.specs.declared.step.Entry.{Entry}
-use Rattle.iloc_board.specs.declared.board.state.State.{State}
-use Rattle.iloc_board.specs.declared.board.state.State.TheVariants.{Free, Looked}
-use Rattle.iloc_board.specs.declared.step.Journal.{Journal}
-use Rattle.iloc_board.specs.Core.{Core, opening, worker_of, reply_to, state_after, after, ends, entry, played}
-use Rattle.iloc_board.specs.History.{accepted}
-use Rattle.iloc_board.specs.Journal.{entries_of, state_from, state_of, shown, seen_from, seen, seen_in, is_none_left, saw_none, handed_from, noted}
-use Rattle.iloc_board.specs.Play.{final}
-use Rattle.iloc_board.specs.Collecting.{AllMade, AllAnswered}
-use Rattle.iloc_board.specs.Steps.Rule.{Tells}
 use Rattle.iloc_board.proofs.Effects.{finds, misses, none, wins, returns, waits, effect}
 use Rattle.iloc_board.proofs.Runs.{played-snoc, final-snoc}
 

@@ -1,23 +1,8 @@
 -- From a value to what it keeps inside, and back.
-use Rattle.std.proofs.Common.{◌≡◌, ◌≢◌, ℕ, ◌<◌, ◌≤◌, true, false, cond, ◌==◌, List, [], ◌∷◌, ◌++◌, refl, ap, sym, ◌∙◌, arith}
-use Rattle.std.proofs.lemmas.Bool.{lt-ltb, le-ltb, eq-eqb, ne_eqb}
+use Rattle.iloc_board.proofs.Common.{◌≡◌, ℕ, ◌<◌, ◌≤◌, true, false, cond, ◌≢◌, List, [], ◌∷◌, ◌++◌, ◌==◌, sym, refl, ap, ◌∙◌, append_assoc, append-nil, arith, le-ltb, lt-ltb, eq-eqb, ne_eqb, map-append, IsWithin, entry, found, is_holding, missed, state_after, accepted, all_handed, handed, saw_none, seen, state_of, Sat, adds, gathers, AllFit, BoardView, PassView, RootView, job_of, state, State, Free, Holding, Looked, Entry, Journal, Reply, Block, Handed, NoneLeft, Stale, Took, Step, Hand, Look, Try}
 use Rattle.atomic_table.specs.Seated.{TableId}
-use Rattle.iloc_board.specs.declared.step.Step.{Step}
-use Rattle.iloc_board.specs.declared.step.Reply.{Reply}
-use Rattle.iloc_board.specs.declared.step.Reply.TheVariants.{Block, NoneLeft, Took, Stale, Handed}
-use Rattle.iloc_board.specs.declared.board.state.State.{State}
-use Rattle.iloc_board.specs.declared.board.state.State.TheVariants.{Free, Looked, Holding}
-use Rattle.iloc_board.specs.declared.step.Entry.{Entry}
-use Rattle.iloc_board.specs.declared.step.Journal.{Journal}
-use Rattle.iloc_board.specs.declared.step.Step.TheVariants.{Look, Try, Hand}
-use Rattle.iloc_board.specs.Core.{IsWithin, is_holding, found, missed, state_after, entry}
-use Rattle.iloc_board.specs.History.{accepted}
 use Rattle.iloc_board.specs.Steps.Inside.{IsPass, IsRoot}
-use Rattle.std.proofs.lemmas.List.{append-nil, append_assoc, map-append}
 use Rattle.iloc_board.proofs.Parts.{state_from-snoc, handed_from-snoc, told_none, looked_seen}
-use Rattle.iloc_board.specs.Journal.{state_of, handed, all_handed, seen, saw_none}
-use Rattle.iloc_board.specs.Steps.Rule.{Sat, adds, gathers}
-use Rattle.iloc_board.specs.Views.{BoardView, PassView, RootView, state, job_of, AllFit}
 
 pub all_fit-append : {A : Type 0} (fits : ℕ → A → Type 0) (xs ys : List (ℕ × A)) → AllFit fits xs → AllFit fits ys
     → AllFit fits (xs ++ ys)

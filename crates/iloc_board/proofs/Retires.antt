@@ -1,22 +1,5 @@
 -- What was handed back: each job once, by whom took it, at the cost that stands.
-use Rattle.std.proofs.Common.{◌≡◌, ◌≢◌, ℕ, suc, ◌<◌, ◌≤◌, ◌⊎◌, true, false, List, [], ◌∷◌, ◌++◌, length, refl, ap, sym, ◌∙◌, subst, arith, inl, inr, Some}
-use Rattle.std.specs.Prelude.{slice_get, slice_set}
-use Rattle.std.specs.List.{Contains}
-use Rattle.std.proofs.lemmas.Bool.{cases_eq}
-use Rattle.std.proofs.lemmas.List.{append-nil, append_assoc, length-replicate}
-use Rattle.std.proofs.lemmas.List.Elements.{Contains-append_left, Contains-append_right, Contains-push_cases}
-use Rattle.iloc_board.specs.declared.step.Step.{Step}
-use Rattle.iloc_board.specs.declared.step.Reply.{Reply}
-use Rattle.iloc_board.specs.declared.step.Reply.TheVariants.{Took, Handed, NotNow}
-use Rattle.iloc_board.specs.declared.step.Entry.{Entry}
-use Rattle.iloc_board.specs.declared.board.state.State.{State}
-use Rattle.iloc_board.specs.declared.board.state.State.TheVariants.{Free, Looked, Holding}
-use Rattle.iloc_board.specs.Core.{Core, opening, is_holding, worker_of, reply_to, state_after, next_after, costs_at, after, ends, entry, played}
-use Rattle.iloc_board.specs.Sequential.{is_out}
-use Rattle.iloc_board.specs.History.{handed_by, accepted, taken_by, takes}
-use Rattle.iloc_board.specs.Journal.{entries_of, state_of, handed}
-use Rattle.iloc_board.specs.Play.{final}
-use Rattle.iloc_board.specs.Collecting.{NoneTwice, jobs_of}
+use Rattle.iloc_board.proofs.Common.{◌≡◌, ℕ, suc, ◌<◌, ◌≤◌, true, false, ◌≢◌, ◌⊎◌, List, [], ◌∷◌, ◌++◌, length, slice_get, slice_set, Some, Contains, sym, refl, ap, ◌∙◌, subst, inl, inr, append_assoc, append-nil, arith, cases_eq, length-replicate, Contains-append_left, Contains-append_right, Contains-push_cases, NoneTwice, jobs_of, Core, after, costs_at, ends, entry, is_holding, next_after, opening, played, reply_to, state_after, worker_of, accepted, handed_by, taken_by, takes, entries_of, handed, state_of, final, is_out, State, Free, Holding, Looked, Entry, Reply, Handed, NotNow, Took, Step}
 use Rattle.iloc_board.proofs.Lists.{contains_none, contains_here, contains_one, get_set_same, get_set_other, none_twice-append}
 use Rattle.iloc_board.proofs.Effects.{finds, misses, none, wins, returns, waits, effect, state_here, state_else}
 use Rattle.iloc_board.proofs.Runs.{length-costs}

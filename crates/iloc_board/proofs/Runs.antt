@@ -1,12 +1,5 @@
 -- One step more at the end of a list of steps.
-use Rattle.std.proofs.Common.{◌≡◌, ℕ, ◌+◌, ◌<◌, List, [], ◌∷◌, ◌++◌, length, take, get_or, refl, ap, ◌∙◌, length-set, arith}
-use Rattle.std.proofs.lemmas.List.{map-append, length-replicate, take_more}
-use Rattle.iloc_board.specs.declared.step.Step.{Step}
-use Rattle.iloc_board.specs.declared.step.Reply.{Reply}
-use Rattle.iloc_board.specs.declared.board.state.State.{State}
-use Rattle.iloc_board.specs.Core.{Core, opening, reply_to, after, ends, entry, played}
-use Rattle.std.specs.BTreeMap.{BTreeMap}
-use Rattle.iloc_board.specs.Play.{replies, final}
+use Rattle.iloc_board.proofs.Common.{BTreeMap, ◌≡◌, ℕ, ◌+◌, ◌<◌, List, [], ◌∷◌, ◌++◌, length, get_or, take, refl, ap, ◌∙◌, arith, length-set, length-replicate, map-append, take_more, Core, after, ends, entry, opening, played, reply_to, final, replies, State, Reply, Step}
 use Rattle.iloc_board.specs.Steps.RunningCore.{Shows}
 use Rattle.iloc_board.proofs.Effects.{finds, misses, none, wins, returns, waits, effect}
 

@@ -1,17 +1,5 @@
 -- What any steps keep: each job is taken once, in order, and is held by whom took it.
-use Rattle.std.proofs.Common.{◌≡◌, ◌≢◌, ℕ, zero, suc, ◌+◌, ◌<◌, ◌≤◌, ◌⊎◌, true, false, ◌==◌, List, [], ◌∷◌, ◌++◌, map, refl, ap, sym, ◌∙◌, subst, arith, inl, inr}
-use Rattle.std.specs.List.{range_with_len}
-use Rattle.std.proofs.lemmas.Bool.{eqb-true, eq-eqb, cases_eq, or_cases, or_left, or_right, and_parts, and_from}
-use Rattle.std.proofs.lemmas.List.{map-append, append-nil}
-use Rattle.std.proofs.lemmas.List.Folds.{list_any-append}
-use Rattle.iloc_board.specs.declared.step.Step.{Step}
-use Rattle.iloc_board.specs.declared.step.Reply.{Reply}
-use Rattle.iloc_board.specs.declared.step.Reply.TheVariants.{Took}
-use Rattle.iloc_board.specs.declared.board.state.State.{State}
-use Rattle.iloc_board.specs.declared.board.state.State.TheVariants.{Looked, Holding}
-use Rattle.iloc_board.specs.Core.{Core, IsWithin, opening, worker_of, reply_to, state_after, next_after, after}
-use Rattle.iloc_board.specs.Sequential.{is_pair, is_out}
-use Rattle.iloc_board.specs.History.{taken_by}
+use Rattle.iloc_board.proofs.Common.{◌≡◌, ℕ, zero, suc, ◌+◌, ◌<◌, ◌≤◌, true, false, ◌≢◌, ◌⊎◌, List, [], ◌∷◌, ◌++◌, map, ◌==◌, sym, refl, ap, ◌∙◌, subst, inl, inr, append-nil, arith, eq-eqb, eqb-true, and_from, and_parts, cases_eq, or_cases, or_left, or_right, map-append, list_any-append, range_with_len, Core, IsWithin, after, next_after, opening, reply_to, state_after, worker_of, taken_by, is_out, is_pair, State, Holding, Looked, Reply, Took, Step}
 use Rattle.iloc_board.proofs.Effects.{finds, misses, none, wins, returns, waits, effect, state_here, state_else}
 
 -- after some steps: the core c, and the takes so far

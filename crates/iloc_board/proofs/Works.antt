@@ -1,19 +1,6 @@
 -- How a worker's run falls.
-use Rattle.std.proofs.Common.{◌≡◌, ℕ, suc, ◌+◌, ◌<◌, ◌≤◌, max, true, List, [], ◌∷◌, ◌++◌, length, refl, ap, arith, length-append}
-use Rattle.std.proofs.lemmas.Bool.{or_right}
-use Rattle.std.proofs.lemmas.List.{append-nil, append_assoc}
-use Rattle.iloc_board.specs.declared.step.Step.{Step}
-use Rattle.iloc_board.specs.declared.step.Reply.{Reply}
-use Rattle.iloc_board.specs.declared.step.Reply.TheVariants.{NoneLeft, Took, Stale, Handed}
-use Rattle.iloc_board.specs.declared.step.Entry.{Entry}
-use Rattle.iloc_board.specs.declared.board.state.State.{State}
-use Rattle.iloc_board.specs.declared.board.state.State.TheVariants.{Free, Looked, Holding}
-use Rattle.iloc_board.specs.declared.step.Journal.{Journal}
-use Rattle.iloc_board.specs.Core.{entry, state_after}
-use Rattle.iloc_board.specs.Journal.{state_of, state_from, shown, seen, seen_from, is_none_left, saw_none, noted}
-use Rattle.iloc_board.specs.Views.{is_looking}
+use Rattle.iloc_board.proofs.Common.{◌≡◌, ℕ, suc, ◌+◌, ◌<◌, ◌≤◌, max, true, List, [], ◌∷◌, ◌++◌, length, refl, ap, append_assoc, append-nil, arith, length-append, or_right, entry, state_after, is_none_left, noted, saw_none, seen, seen_from, shown, state_from, state_of, Ended, Goes, Pays, left, left_in, slack, slack_in, is_looking, State, Free, Holding, Looked, Entry, Journal, Reply, Handed, NoneLeft, Stale, Took, Step}
 use Rattle.iloc_board.specs.Working.{one_if_stale, stales, Adds, Runs, IsDone}
-use Rattle.iloc_board.specs.Steps.Course.{left_in, left, slack_in, slack, Pays, Goes, Ended}
 use Rattle.iloc_board.proofs.Parts.{state_from-snoc, seen_from-snoc}
 
 stales-snoc : (es : List Entry) (x : Step) (r : Reply) → stales (es ++ entry x r ∷ []) ≡ stales es + one_if_stale r

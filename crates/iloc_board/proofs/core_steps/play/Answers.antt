@@ -1,6 +1,4 @@
-use Rattle.std.proofs.Common.{◌≡◌, ap, sym, ◌∙◌, length, take, ◌<◌, arith}
-use Rattle.iloc_board.specs.Core.{Core}
-use Rattle.iloc_board.specs.Play.{final}
+use Rattle.iloc_board.proofs.Common.{◌≡◌, ◌<◌, length, take, sym, ap, ◌∙◌, arith, Core, final}
 use Rattle.iloc_board.proofs.Runs.{length-costs_final, shows_more, told_more}
 use Rattle.iloc_board.proofs.Laws.{legal, once, ends_alike, exact_play, within_final}
 use Rattle.iloc_board.proofs.core_steps.play.Goals as goal

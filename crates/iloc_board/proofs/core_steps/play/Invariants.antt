@@ -1,5 +1,4 @@
-use Rattle.std.proofs.Common.{◌≡◌, take}
-use Rattle.iloc_board.specs.Play.{replies, final}
+use Rattle.iloc_board.proofs.Common.{◌≡◌, take, final, replies}
 use Rattle.iloc_board.specs.Steps.RunningCore.{Shows}
 use Rattle.iloc_board.proofs.core_steps.play.Given as goal
 

@@ -1,5 +1,4 @@
-use Rattle.std.proofs.Common.{◌≡◌, ap}
-use Rattle.iloc_board.specs.Views.{BoardView}
+use Rattle.iloc_board.proofs.Common.{◌≡◌, ap, BoardView}
 use Rattle.iloc_board.proofs.Claims as claims
 use Rattle.iloc_board.proofs.worker.work_at.Goals as goal
 

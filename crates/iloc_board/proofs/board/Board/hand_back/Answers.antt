@@ -1,8 +1,4 @@
-use Rattle.std.proofs.Common.{ap, sym, ◌∙◌, arith, refl, ◌≡◌, ◌<◌, ℕ}
-use Rattle.iloc_board.specs.Views.{job_of, state}
-use Rattle.iloc_board.specs.declared.step.Step.TheVariants.{Hand}
-use Rattle.iloc_board.specs.Journal.{state_of}
-use Rattle.iloc_board.specs.Steps.Rule.{Sat}
+use Rattle.iloc_board.proofs.Common.{◌≡◌, ℕ, ◌<◌, sym, refl, ap, ◌∙◌, arith, state_of, Sat, job_of, state, Hand}
 use Rattle.iloc_board.proofs.Keeps as keeps
 use Rattle.iloc_board.proofs.Passes as passes
 use Rattle.iloc_board.proofs.board.Board.hand_back.Goals as goal

@@ -1,7 +1,5 @@
-use Rattle.std.proofs.Common.{◌≡◌, ◌∙◌, ap, arith, sym}
-use Rattle.iloc_board.specs.Steps.Rule.{Sat}
+use Rattle.iloc_board.proofs.Common.{◌≡◌, sym, ap, ◌∙◌, arith, Sat, RootView}
 use Rattle.iloc_board.specs.Finished.{ReceiptView}
-use Rattle.iloc_board.specs.Views.{RootView}
 use Rattle.iloc_board.proofs.Closes as closes
 use Rattle.iloc_board.proofs.Keeps as keeps
 use Rattle.iloc_board.proofs.Passes as passes

@@ -1,6 +1,4 @@
-use Rattle.std.proofs.Common.{ap, sym, ◌∙◌, arith, refl, ◌+◌}
-use Rattle.iloc_board.specs.declared.board.state.State.TheVariants.{Looked}
-use Rattle.iloc_board.specs.Journal.{seen}
+use Rattle.iloc_board.proofs.Common.{◌+◌, sym, refl, ap, ◌∙◌, arith, seen, Looked}
 use Rattle.iloc_board.proofs.Keeps as keeps
 use Rattle.iloc_board.proofs.Passes as passes
 use Rattle.iloc_board.proofs.board.Board.try_take.Goals as goal
