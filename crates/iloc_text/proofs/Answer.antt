@@ -1,20 +1,6 @@
 -- A text has one answer: what it denotes is the answer of a function, which goes from line to line.
-use Rattle.std.proofs.Common.{◌≡◌, ◌∙◌, ℕ, ◌+◌, ◌<◌, ◌≤◌, nat_lt, Bool, true, false, cond, List, [], ◌∷◌, ◌++◌, length, map, refl, sym, ap, ap₂, subst, Option, Some, None, Result, Ok, Err, IfSome, option_map, append_assoc, append-nil, arith, get_or, zero, suc}
-use Rattle.std.specs.List.{AllByRecursion, join_with_byte}
+use Rattle.iloc_text.proofs.Common.{◌≡◌, ℕ, zero, suc, ◌+◌, ◌<◌, ◌≤◌, Bool, true, false, cond, List, [], ◌∷◌, ◌++◌, map, length, get_or, IfSome, nat_lt, Some, None, Ok, Err, Option, Result, option_map, sym, refl, ap, ◌∙◌, subst, ap₂, append_assoc, append-nil, arith, nat_tests, AllByRecursion, join_with_byte, MAX_INPUT, Block, Op, AreLines, Denotes, HasFirstFault, HasNoLineEnd, IsFaulty, IsRefused, IsWithin, ReadAs, Reading, file_of, fronts, HasReading, HasWideReading, Reads, TextsHaveOneAnswer, is_line_end, lines_of, limited, with_line, is_within, line_at, answer_from, on_verdict, verdict, verdict_on, ReadFault, BadLine, InputTooLong, NumberTooLarge, TooManyBlocks, TooManyOperations}
 use Rattle.std.proofs.lemmas.List.Splits.{slice_split_none, slice_split_at}
-use Rattle.std.proofs.lemmas.Bool.Decides.{nat_tests}
-use Rattle.iloc_ops.specs.Limits.{MAX_INPUT}
-use Rattle.iloc_ops.specs.declared.op.Op.{Op}
-use Rattle.iloc_ops.specs.declared.file.Block.{Block}
-use Rattle.iloc_text.specs.declared.fault.ReadFault.{ReadFault}
-use Rattle.iloc_text.specs.declared.fault.ReadFault.TheVariants.{InputTooLong, BadLine, NumberTooLarge, TooManyBlocks, TooManyOperations}
-use Rattle.iloc_text.specs.Grammar.{Reads, HasReading, HasWideReading}
-use Rattle.iloc_text.specs.Steps.Scan.{line_at, is_within}
-use Rattle.iloc_text.specs.Lines.{is_line_end, lines_of}
-use Rattle.iloc_text.specs.Steps.Growth.{with_line, limited}
-use Rattle.iloc_text.specs.Steps.Verdicts.{verdict_on, verdict, answer_from, on_verdict}
-use Rattle.iloc_text.specs.Files.{HasNoLineEnd, AreLines, Reading, ReadAs, fronts, file_of, IsWithin, Denotes, IsFaulty, HasFirstFault, IsRefused}
-use Rattle.iloc_text.specs.Laws.{TextsHaveOneAnswer}
 use Rattle.iloc_text.proofs.Names.{capped_op}
 use Rattle.iloc_text.proofs.Lines.{found_reads, FindsLine, line_read, line_again, line_good}
 use Rattle.iloc_text.proofs.BlockLists.{length-file, last-file, file-snoc}

@@ -1,19 +1,6 @@
 -- The parts of a text are read apart as they are in the text.
-use Rattle.std.proofs.Common.{◌≡◌, ◌∙◌, ℕ, suc, ◌+◌, ◌<◌, ◌≤◌, nat_lt, true, false, List, [], ◌∷◌, ◌++◌, length, refl, sym, ap, ap₂, Option, Some, is_some, Result, Ok, Err, append_assoc, append-nil, length-append, ◌⊎◌, inl, inr, arith}
-use Rattle.std.specs.List.{onto_first}
-use Rattle.std.proofs.lemmas.Bool.Decides.{nat_tests}
-use Rattle.iloc_ops.specs.Limits.{MAX_BLOCKS, MAX_OPS}
-use Rattle.iloc_ops.specs.declared.op.Op.{Op}
-use Rattle.iloc_ops.specs.declared.file.Block.{Block}
-use Rattle.iloc_text.specs.declared.fault.ReadFault.{ReadFault}
-use Rattle.iloc_text.specs.Grammar.{Reads}
-use Rattle.iloc_text.specs.Files.{Denotes}
-use Rattle.iloc_text.specs.Parts.{BeginsLabelled}
-use Rattle.iloc_text.specs.Lines.{lines_of}
-use Rattle.iloc_text.specs.Steps.Scan.{line_at}
-use Rattle.iloc_text.specs.Steps.Growth.{with_op, with_optional_op, with_line, last_ops, limited}
+use Rattle.iloc_text.proofs.Common.{◌≡◌, ℕ, suc, ◌+◌, ◌<◌, ◌≤◌, true, false, ◌⊎◌, List, [], ◌∷◌, ◌++◌, length, is_some, nat_lt, Some, Ok, Err, Option, Result, sym, refl, ap, ◌∙◌, ap₂, inl, inr, append_assoc, append-nil, arith, length-append, nat_tests, onto_first, MAX_BLOCKS, MAX_OPS, Block, Op, Denotes, Reads, lines_of, BeginsLabelled, last_ops, limited, with_line, with_op, with_optional_op, line_at, answer_from, on_verdict, verdict, verdict_on, ReadFault}
 use Rattle.iloc_text.proofs.Splitting.{lines_are}
-use Rattle.iloc_text.specs.Steps.Verdicts.{verdict_on, verdict, answer_from, on_verdict}
 use Rattle.iloc_text.proofs.Answer.{reads_verdict, lines_are_of, file_answer}
 use Rattle.iloc_text.proofs.Reading.{answer_begins}
 use Rattle.iloc_text.proofs.Growing.{length-with_optional, length-opened}

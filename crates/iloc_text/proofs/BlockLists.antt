@@ -1,9 +1,6 @@
 -- What one more line does to the blocks of a file.
-use Rattle.std.proofs.Common.{◌≡◌, ◌∙◌, ℕ, suc, ◌+◌, ◌<◌, List, [], ◌∷◌, ◌++◌, length, refl, sym, ap, ap₂, Option, Some, None, option_to_list, append-nil, length-append, arith}
-use Rattle.iloc_ops.specs.declared.op.Op.{Op}
-use Rattle.iloc_ops.specs.declared.file.Block.{Block}
-use Rattle.iloc_text.specs.Files.{Reading, block_names, block_count, ops_of, blocks_from, file_of}
-use Rattle.iloc_text.specs.Steps.Growth.{with_op, with_optional_op, with_line, last_ops}
+use Rattle.iloc_text.proofs.Common.{◌≡◌, ℕ, suc, ◌+◌, ◌<◌, List, [], ◌∷◌, ◌++◌, length, Some, None, Option, option_to_list, sym, refl, ap, ◌∙◌, ap₂, append-nil, arith, length-append, Block, Op, Reading, block_count, block_names, blocks_from, ops_of, last_ops, with_line, with_op, with_optional_op}
+use Rattle.iloc_text.specs.Files.{file_of}
 use Rattle.iloc_text.proofs.Counts.{length-names, names-label, names-empty, names-op, names-first, count-label, count-op, count-first, none_or_some}
 use Rattle.iloc_text.proofs.BlockOps.{ops_of-here, ops_of-else, ops_of-no_op, no_more}
 

@@ -1,9 +1,6 @@
 -- The scanner reads what stands behind a label, and each text that may stand there.
-use Rattle.std.proofs.Common.{◌≡◌, ◌∙◌, ℕ, Bool, true, false, cond, ◌&&◌, ◌==◌, List, [], ◌∷◌, ◌++◌, refl, ap, Option, Some, None, IfSome, option_map, arith}
-use Rattle.std.proofs.lemmas.Bool.Decides.{nat_tests}
-use Rattle.iloc_ops.specs.declared.op.Op.{Op}
-use Rattle.iloc_text.specs.Grammar.{◌⋅◌, is_blank, is_word_byte, Blanks, OptionalOperation, OptionalComment}
-use Rattle.iloc_text.specs.Steps.Scan.{◌>>=◌, after_blanks, operation_at, optional_operation_at, is_end, body_at}
+use Rattle.iloc_text.proofs.Common.{◌≡◌, ℕ, Bool, true, false, cond, ◌&&◌, List, [], ◌∷◌, ◌++◌, IfSome, ◌==◌, Some, None, Option, option_map, refl, ap, ◌∙◌, arith, nat_tests, Op, Blanks, OptionalComment, OptionalOperation, is_blank, is_word_byte, ◌⋅◌, after_blanks, is_end, operation_at, ◌>>=◌}
+use Rattle.iloc_text.specs.Steps.Scan.{optional_operation_at, body_at}
 use Rattle.iloc_text.proofs.Parts.{Before, Before-join, Before-split, Before-all, all-Before, starts}
 use Rattle.iloc_text.proofs.Tokens.{blanks_read, blanks_none, blanks_over, blanks_again, blanks_starts}
 use Rattle.iloc_text.proofs.Opcodes.{bind_each}

@@ -1,14 +1,6 @@
 -- No number was capped where the numbers of an operation are within the limit.
-use Rattle.std.proofs.Common.{◌≡◌, ◌∙◌, ℕ, ◌≤◌, nat_lt, true, List, [], ◌∷◌, map, refl, sym, ap, ap₂, Some, arith}
-use Rattle.std.specs.List.{AllByRecursion, list_all}
-use Rattle.std.proofs.lemmas.Bool.Decides.{nat_tests}
-use Rattle.iloc_ops.specs.Limits.{MAX_NUMBER}
-use Rattle.iloc_text.specs.declared.line.scan.TheConstants.{ABOVE_LIMIT}
-use Rattle.iloc_ops.specs.declared.op.Op.{Op}
+use Rattle.iloc_text.proofs.Common.{◌≡◌, ℕ, ◌≤◌, true, List, [], ◌∷◌, map, nat_lt, Some, sym, refl, ap, ◌∙◌, ap₂, arith, nat_tests, AllByRecursion, list_all, Operand, number_of, numbers, op_of, opcode, operands, MAX_NUMBER, Op, IsWithinLimit, capped, is_within, ABOVE_LIMIT}
 use Rattle.std.proofs.lemmas.List.Folds.{list_all-map}
-use Rattle.iloc_ops.specs.Forms.{Operand, operands, number_of, numbers, opcode, op_of}
-use Rattle.iloc_text.specs.Grammar.{IsWithinLimit}
-use Rattle.iloc_text.specs.Steps.Scan.{capped, is_within}
 use Rattle.iloc_text.proofs.Names.{capped_op, op_same, numbers-capped}
 
 -- the test of each operand's number is that of the numbers

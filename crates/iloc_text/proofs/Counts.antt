@@ -1,10 +1,7 @@
 -- What one more line does to the counts of labels and blocks, and to their names.
-use Rattle.std.proofs.Common.{◌≡◌, ◌∙◌, ℕ, suc, ◌+◌, ◌<◌, ◌≤◌, Bool, true, false, not, cond, ◌&&◌, ◌||◌, ◌==◌, List, [], ◌∷◌, ◌++◌, length, map, filter_map, refl, sym, ap, Option, Some, None, is_some, option_to_list, append_assoc, append-nil, length-append, zero, ◌⊎◌, inl, inr, arith}
-use Rattle.std.proofs.lemmas.List.{map-append, length-map}
+use Rattle.iloc_text.proofs.Common.{◌≡◌, ℕ, zero, suc, ◌+◌, ◌<◌, ◌≤◌, Bool, true, false, cond, not, ◌&&◌, ◌||◌, ◌⊎◌, List, [], ◌∷◌, ◌++◌, map, length, is_some, ◌==◌, Some, None, Option, option_to_list, filter_map, sym, refl, ap, ◌∙◌, inl, inr, append_assoc, append-nil, arith, length-append, nat_tests, length-map, map-append, Op, Reading, fronts, labels, last_op, opens_unnamed}
 use Rattle.std.proofs.lemmas.List.Elements.{filter_map-append}
-use Rattle.std.proofs.lemmas.Bool.Decides.{nat_tests}
-use Rattle.iloc_ops.specs.declared.op.Op.{Op}
-use Rattle.iloc_text.specs.Files.{Reading, labels, opens_unnamed, block_names, block_count, fronts, last_op}
+use Rattle.iloc_text.specs.Files.{block_names, block_count}
 
 pub fronts-snoc : (rs : List Reading) (r : Reading) → fronts (rs ++ r ∷ []) ≡ fronts rs ++ (rs ++ r ∷ []) ∷ []
 fronts-snoc [] r = refl

@@ -1,15 +1,6 @@
 -- Up to four digits at the front, which are read at once, and the digits in a front of the bytes.
-use Rattle.std.proofs.Common.{◌≡◌, ◌∙◌, ◌≤◌, ◌<◌, ◌+◌, ◌-◌, ◌*◌, ◌%◌, ◌==◌, ℕ, zero, suc, Bool, true, false, cond, ◌&&◌, if◌then◌else◌, List, [], ◌∷◌, length, take, drop, length-drop, get_or, refl, sym, ap, ap₂, subst, ◌⊎◌, inl, inr, Option, Some, None, nat_lt, arith}
-use Rattle.std.specs.Char.{is_ascii_digit}
-use Rattle.std.specs.Int.{from_bool, w64, from_le_bytes}
-use Rattle.std.specs.Int.Bits.{bit_and, bit_xor, and_zero_r}
-use Rattle.std.specs.List.{AllByRecursion}
-use Rattle.std.specs.Simd.Lanes.{number_l}
-use Rattle.std.proofs.lemmas.List.{length-take, take_all}
-use Rattle.std.proofs.lemmas.Bool.{agree_below_at, eqb-true, ltb-true}
-use Rattle.std.proofs.lemmas.Nat.{xor_of_8, and_comm, and_le_r, and_mask}
-use Rattle.iloc_text.specs.Steps.Digits.{digits_first, number_by, IsMask}
-use Rattle.iloc_text.specs.Steps.Scan.{capped, digits_after, number_at}
+use Rattle.iloc_text.proofs.Common.{◌≡◌, ℕ, zero, suc, ◌+◌, ◌-◌, ◌*◌, ◌%◌, ◌<◌, ◌≤◌, Bool, true, false, cond, ◌&&◌, ◌⊎◌, List, [], ◌∷◌, length, get_or, take, drop, if◌then◌else◌, nat_lt, ◌==◌, Some, None, Option, sym, refl, ap, ◌∙◌, subst, ap₂, inl, inr, arith, length-drop, length-take, take_all, w64, ltb-true, eqb-true, agree_below_at, and_comm, and_le_r, and_mask, xor_of_8, is_ascii_digit, and_zero_r, bit_and, bit_xor, AllByRecursion, number_l, IsMask, digits_first, number_by, capped, digits_after, number_at}
+use Rattle.std.specs.Int.{from_bool, from_le_bytes}
 use Rattle.iloc_text.proofs.Lanes.{Bytes, eight, xor_lanes}
 
 -- d is the digit that c writes, where it writes one

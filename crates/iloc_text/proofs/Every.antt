@@ -1,23 +1,9 @@
 -- Every text has an answer, and the answer is what it denotes: line by line, each is read or faulty.
-use Rattle.std.proofs.Common.{◌≡◌, ℕ, ◌+◌, ◌≤◌, nat_lt, Bool, true, false, cond, List, [], ◌∷◌, ◌++◌, length, refl, sym, subst, subst₂, Option, Some, None, Result, Ok, Err, ◌⊎◌, inl, inr, append_assoc, append-nil, length-append, arith}
-use Rattle.std.specs.List.{AllByRecursion}
-use Rattle.std.proofs.lemmas.Bool.{ltb-true, ltb-false}
-use Rattle.iloc_ops.specs.Limits.{MAX_INPUT, MAX_BLOCKS, MAX_OPS}
-use Rattle.iloc_ops.specs.declared.op.Op.{Op}
-use Rattle.iloc_ops.specs.declared.file.Block.{Block}
-use Rattle.iloc_text.specs.declared.fault.ReadFault.{ReadFault}
-use Rattle.iloc_text.specs.declared.fault.ReadFault.TheVariants.{InputTooLong, NumberTooLarge, TooManyBlocks, TooManyOperations}
-use Rattle.iloc_text.specs.Grammar.{Reads}
-use Rattle.iloc_text.specs.Files.{AreLines, Reading, ReadAs, fronts, file_of, IsWithin, NoneFaulty, Denotes, IsFaulty, HasFirstFault, IsRefused}
-use Rattle.iloc_text.specs.Laws.{TextsHaveAnAnswer}
-use Rattle.iloc_text.specs.Steps.Scan.{line_at, is_within}
-use Rattle.iloc_text.specs.Lines.{lines_of}
-use Rattle.iloc_text.specs.Steps.Growth.{with_line, last_ops, limited}
+use Rattle.iloc_text.proofs.Common.{◌≡◌, ℕ, ◌+◌, ◌≤◌, Bool, true, false, cond, ◌⊎◌, List, [], ◌∷◌, ◌++◌, length, nat_lt, Some, None, Ok, Err, Option, Result, sym, refl, subst, subst₂, inl, inr, append_assoc, append-nil, arith, length-append, ltb-false, ltb-true, AllByRecursion, MAX_BLOCKS, MAX_INPUT, MAX_OPS, Block, Op, AreLines, Denotes, HasFirstFault, IsFaulty, IsRefused, IsWithin, NoneFaulty, ReadAs, Reading, file_of, fronts, Reads, TextsHaveAnAnswer, lines_of, last_ops, limited, with_line, is_within, line_at, answer_from, on_verdict, verdict, verdict_on, ReadFault, InputTooLong, NumberTooLarge, TooManyBlocks, TooManyOperations}
 use Rattle.iloc_text.proofs.Lines.{line_bad, line_good, line_large}
 use Rattle.iloc_text.proofs.Splitting.{lines_are}
 use Rattle.iloc_text.proofs.Counts.{fronts-snoc}
 use Rattle.iloc_text.proofs.BlockLists.{length-file, last-file, file-snoc}
-use Rattle.iloc_text.specs.Steps.Verdicts.{verdict_on, verdict, answer_from, on_verdict}
 use Rattle.iloc_text.proofs.Answer.{answer}
 
 -- One line

@@ -1,24 +1,9 @@
 -- Operands that are read on the fast path.
-use Rattle.std.proofs.Common.{◌≡◌, ◌∙◌, ◌≤◌, ◌<◌, ◌+◌, ◌*◌, ◌-◌, ◌%◌, ◌^◌, ◌==◌, ℕ, Bool, true, false, List, [], ◌∷◌, ◌++◌, length, drop, get_or, refl, sym, ap, subst, Option, Some, None, option_to_list, nat_lt, arith}
-use Rattle.std.specs.Char.{is_ascii_digit}
-use Rattle.std.specs.Simd.Lanes.{number_l}
-use Rattle.std.specs.Int.Bits.{bit_and}
-use Rattle.std.proofs.lemmas.Bool.{agree_below_at, eqb-true}
-use Rattle.std.proofs.lemmas.Bool.Decides.{nat_tests}
-use Rattle.std.proofs.lemmas.List.{get_or-drop, drop-drop, length-drop}
-use Rattle.std.proofs.lemmas.Nat.{and_le_r, and_mask, and_mod}
-use Rattle.iloc_ops.specs.declared.forms.Opcode.{Opcode}
-use Rattle.iloc_ops.specs.declared.forms.Opcode.TheVariants.{Load, LoadI, Store, Output, Nop}
-use Rattle.iloc_ops.specs.Forms.{Operand, op_of}
-use Rattle.iloc_text.specs.Grammar.{is_blank}
-use Rattle.iloc_text.specs.declared.line.scan.TheConstants.{ABOVE_LIMIT}
+use Rattle.iloc_text.proofs.Common.{◌≡◌, ℕ, ◌+◌, ◌-◌, ◌*◌, ◌%◌, ◌^◌, ◌<◌, ◌≤◌, Bool, true, false, List, [], ◌∷◌, ◌++◌, length, get_or, drop, nat_lt, ◌==◌, Some, None, Option, option_to_list, sym, refl, ap, ◌∙◌, subst, arith, length-drop, get_or-drop, drop-drop, eqb-true, agree_below_at, nat_tests, and_le_r, and_mask, and_mod, is_ascii_digit, bit_and, number_l, Operand, op_of, Opcode, Load, LoadI, Nop, Output, Store, is_blank, IsNumber, Keeps, IsBehind, IsFound, IsMaskOf, IsRead, lead_of, lead_text, operand_of, operands_by, shape_of, tight, written, operands_of, after_blanks, is_within_limit, number_at, operands_at, ◌>>=◌, ABOVE_LIMIT}
 use Rattle.iloc_text.specs.declared.line.shape.Shape.{Shape}
 use Rattle.iloc_text.specs.declared.line.shape.Kind.{Kind}
 use Rattle.iloc_text.specs.declared.line.shape.Kind.TheVariants.{Nothing, BlankRegister, BlankConstant, CommaRegister, CommaConstant, ArrowRegister}
-use Rattle.iloc_text.specs.Steps.Digits.{Keeps, IsNumber}
-use Rattle.iloc_text.specs.Steps.FastPath.{operand_of, written, tight, lead_text, lead_of, shape_of, operands_by, IsFound, IsRead, IsBehind, IsMaskOf}
-use Rattle.iloc_text.specs.Steps.Opcodes.{operands_of}
-use Rattle.iloc_text.specs.Steps.Scan.{◌>>=◌, after_blanks, number_at, operand_then, operands_at, called_at, is_within_limit}
+use Rattle.iloc_text.specs.Steps.Scan.{operand_then, called_at}
 use Rattle.iloc_text.proofs.Lanes.{Bytes}
 use Rattle.iloc_text.proofs.OpcodeWords.{begins}
 

@@ -1,15 +1,6 @@
 -- What the steps of the reader do to the blocks.
-use Rattle.std.proofs.Common.{◌≡◌, ◌∙◌, ℕ, suc, ◌+◌, ◌<◌, ◌≤◌, nat_lt, true, List, [], ◌∷◌, ◌++◌, length, refl, sym, ap, subst₂, is_some, Option, Some, None, Result, Ok, Err, length-append, inl, inr, arith}
-use Rattle.std.proofs.lemmas.Bool.Decides.{nat_tests}
-use Rattle.std.proofs.lemmas.List.{nil_from_length}
-use Rattle.iloc_ops.specs.Limits.{MAX_BLOCKS, MAX_OPS}
-use Rattle.iloc_ops.specs.declared.op.Op.{Op}
-use Rattle.iloc_ops.specs.declared.file.Block.{Block}
+use Rattle.iloc_text.proofs.Common.{◌≡◌, ℕ, suc, ◌+◌, ◌<◌, ◌≤◌, true, List, [], ◌∷◌, ◌++◌, length, is_some, nat_lt, Some, None, Ok, Err, Option, Result, sym, refl, ap, ◌∙◌, subst₂, inl, inr, arith, length-append, nat_tests, nil_from_length, MAX_BLOCKS, MAX_OPS, Block, Op, Grows, last_ops, limited, opened, with_line, with_op, with_optional_op, AreSoFar, HasTaken, ReadFault, TooManyBlocks, TooManyOperations}
 use Rattle.iloc_text.specs.declared.reader.open_block.OpenBlock.{OpenBlock}
-use Rattle.iloc_text.specs.declared.fault.ReadFault.{ReadFault}
-use Rattle.iloc_text.specs.declared.fault.ReadFault.TheVariants.{TooManyBlocks, TooManyOperations}
-use Rattle.iloc_text.specs.Steps.Growth.{opened, with_op, with_optional_op, with_line, last_ops, limited, Grows}
-use Rattle.iloc_text.specs.Steps.Open.{AreSoFar, HasTaken}
 use Rattle.iloc_text.proofs.Counts.{none_or_some}
 use Rattle.iloc_text.proofs.BlockLists.{last-snoc, with_op-snoc}
 

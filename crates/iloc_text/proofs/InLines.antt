@@ -1,17 +1,6 @@
 -- What stands before the comment of a line has no line end.
-use Rattle.std.proofs.Common.{◌≡◌, ℕ, ◌<◌, true, not, ◌==◌, Option, Some, None, List, [], ◌∷◌, ◌++◌, codes, refl, sym, subst, arith}
-use Rattle.std.specs.List.{list_all}
-use Rattle.std.specs.Char.{digit_value}
+use Rattle.iloc_text.proofs.Common.{◌≡◌, ℕ, ◌<◌, true, not, List, [], ◌∷◌, ◌++◌, ◌==◌, Some, None, codes, Option, sym, refl, subst, arith, nat_tests, digit_value, list_all, Lead, Operand, Value, opcode, opcode_text, operands, arrow, comma, space, Constant, Opcode, Nop, Op, HasNoLineEnd, Blanks, LeadText, Name, Number, OperandsText, Operation, OptionalLabel, Text, ValueText, is_blank, is_word_byte, ◌⋅◌}
 use Rattle.std.specs.Str.Parse.{AllDigits}
-use Rattle.std.proofs.lemmas.Bool.Decides.{nat_tests}
-use Rattle.iloc_ops.specs.declared.op.Op.{Op}
-use Rattle.iloc_ops.specs.declared.forms.Opcode.{Opcode}
-use Rattle.iloc_ops.specs.declared.forms.Opcode.TheVariants.{Nop}
-use Rattle.iloc_ops.specs.Forms.{Lead, Value, Operand, opcode, operands, opcode_text}
-use Rattle.iloc_ops.specs.Forms.Lead.{space, comma, arrow}
-use Rattle.iloc_ops.specs.Forms.Value.{Constant}
-use Rattle.iloc_text.specs.Grammar.{◌⋅◌, Text, is_blank, is_word_byte, Blanks, Number, LeadText, ValueText, OperandsText, Operation, Name, OptionalLabel}
-use Rattle.iloc_text.specs.Files.{HasNoLineEnd}
 use Rattle.iloc_text.proofs.Tokens.{IsWord}
 use Rattle.iloc_text.proofs.Labels.{name_is_word}
 

@@ -1,9 +1,6 @@
 -- The scanner finds a label where one stands, and none elsewhere.
-use Rattle.std.proofs.Common.{◌≡◌, ◌∙◌, ℕ, Bool, true, false, cond, ◌==◌, List, [], ◌∷◌, ◌++◌, codes, refl, ap, Option, Some, None, IfSome, arith}
-use Rattle.std.specs.Char.{is_ascii_alphabetic}
-use Rattle.std.proofs.lemmas.Bool.Decides.{nat_tests}
-use Rattle.iloc_text.specs.Grammar.{Text, is_blank, is_word_byte, IsName, OptionalLabel}
-use Rattle.iloc_text.specs.Steps.Scan.{after_blanks, after_word, word_of, after_colon, label_or_none, optional_label_at}
+use Rattle.iloc_text.proofs.Common.{◌≡◌, ℕ, Bool, true, false, cond, List, [], ◌∷◌, ◌++◌, IfSome, ◌==◌, Some, None, codes, Option, refl, ap, ◌∙◌, arith, nat_tests, is_ascii_alphabetic, IsName, OptionalLabel, Text, is_blank, is_word_byte, after_blanks, after_colon, after_word, label_or_none, word_of}
+use Rattle.iloc_text.specs.Steps.Scan.{optional_label_at}
 use Rattle.iloc_text.proofs.Parts.{Before, Before-join, Before-split, starts}
 use Rattle.iloc_text.proofs.Tokens.{blanks_read, blanks_again, IsWord, word_again, word_read, after_word_starts}
 use Rattle.iloc_text.proofs.Starts.{blanks_fail, blank_is_no_word_byte}

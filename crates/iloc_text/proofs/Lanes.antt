@@ -1,12 +1,6 @@
 -- Bytes side by side in a number, the first of them the lowest, and the digits among them.
-use Rattle.std.proofs.Common.{◌≡◌, ◌∙◌, ◌≤◌, ◌<◌, ◌+◌, ◌-◌, ◌*◌, ◌/◌, ◌%◌, ◌^◌, ◌==◌, ℕ, zero, suc, Bool, true, false, cond, List, [], ◌∷◌, length, take, refl, sym, ap, ap₂, nat_lt, arith}
-use Rattle.std.specs.List.{AllByRecursion}
-use Rattle.std.specs.Simd.Lanes.{number_l, zip2}
-use Rattle.std.specs.Int.Bits.{bit_and, bit_or, bit_xor}
+use Rattle.iloc_text.proofs.Common.{◌≡◌, ℕ, zero, suc, ◌+◌, ◌-◌, ◌*◌, ◌/◌, ◌%◌, ◌^◌, ◌<◌, ◌≤◌, Bool, true, false, cond, List, [], ◌∷◌, length, take, nat_lt, ◌==◌, sym, refl, ap, ◌∙◌, ap₂, arith, ltb-true, eqb-true, agree_below_at, and_block, and_le_r, and_mask, and_mod, div-mul-add, mod-mul-add, mod-pow-add, or_block, or_mod, or_of_8, xor_block, bit_and, bit_or, bit_xor, AllByRecursion, number_l, zip2, digits_first, number_by}
 use Rattle.std.specs.Int.Count.{count_trailing_zeros}
-use Rattle.std.proofs.lemmas.Bool.{agree_below_at, eqb-true, ltb-true}
-use Rattle.std.proofs.lemmas.Nat.{and_block, or_block, xor_block, and_mod, or_mod, and_le_r, or_of_8, and_mask, mod-mul-add, div-mul-add, mod-pow-add}
-use Rattle.iloc_text.specs.Steps.Digits.{digits_first, number_by}
 
 abbrev pub Bytes : List ℕ → Type 0
 Bytes xs = AllByRecursion (λ x. x < 256) xs

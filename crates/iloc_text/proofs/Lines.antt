@@ -1,12 +1,7 @@
 -- The scanner reads the lines of the grammar, and each of them.
-use Rattle.std.proofs.Common.{◌≡◌, ◌∙◌, ℕ, nat_lt, true, false, List, ◌++◌, refl, sym, ap, subst, Option, Some, None, IfSome, option_map, arith}
-use Rattle.std.specs.List.{list_all}
+use Rattle.iloc_text.proofs.Common.{◌≡◌, ℕ, true, false, List, ◌++◌, IfSome, nat_lt, Some, None, Option, option_map, sym, refl, ap, ◌∙◌, subst, arith, list_all, numbers, operands, Op, HasReading, HasWideReading, Reads, ReadsWidely, is_blank, is_word_byte, after_blanks, body_at, is_within, optional_label_at, ABOVE_LIMIT}
 use Rattle.std.proofs.lemmas.Option.{same_Some}
-use Rattle.iloc_text.specs.declared.line.scan.TheConstants.{ABOVE_LIMIT}
-use Rattle.iloc_ops.specs.declared.op.Op.{Op}
-use Rattle.iloc_ops.specs.Forms.{operands, numbers}
-use Rattle.iloc_text.specs.Grammar.{is_blank, is_word_byte, ReadsWidely, Reads, HasReading, HasWideReading}
-use Rattle.iloc_text.specs.Steps.Scan.{after_blanks, optional_label_at, body_at, line_at, is_within}
+use Rattle.iloc_text.specs.Steps.Scan.{line_at}
 use Rattle.iloc_text.proofs.Parts.{Before-join, Before-split, Before-all, all-Before, starts}
 use Rattle.iloc_text.proofs.Tokens.{blanks_read, blanks_over, blanks_again}
 use Rattle.iloc_text.proofs.Opcodes.{bind_each}

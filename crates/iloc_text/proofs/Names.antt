@@ -1,12 +1,8 @@
 -- An operation is what its opcode and its numbers make.
-use Rattle.std.proofs.Common.{◌≡◌, ℕ, List, ◌∷◌, map, refl, Some}
-use Rattle.iloc_ops.specs.declared.op.Op.{Op}
+use Rattle.iloc_text.proofs.Common.{◌≡◌, ℕ, List, ◌∷◌, map, Some, refl, numbers, op_of, opcode, opcode_text, operands, Opcode, Op, opcode_of, operands_of, capped, operands_at}
 use Rattle.iloc_ops.specs.declared.op.Op.TheVariants.{Nop}
-use Rattle.iloc_ops.specs.declared.forms.Opcode.{Opcode}
 use Rattle.iloc_ops.specs.declared.forms.Opcode.TheVariants as O
-use Rattle.iloc_ops.specs.Forms.{opcode, operands, opcode_text, numbers, op_of}
-use Rattle.iloc_text.specs.Steps.Opcodes.{opcode_of, operands_of}
-use Rattle.iloc_text.specs.Steps.Scan.{capped, operand_then, operands_at}
+use Rattle.iloc_text.specs.Steps.Scan.{operand_then}
 use Rattle.iloc_text.proofs.Operands.{filled}
 
 -- the operation with each number capped

@@ -1,16 +1,5 @@
 -- What one pass finds is the first line of the text.
-use Rattle.std.proofs.Common.{◌≡◌, ◌∙◌, ◌≤◌, ◌-◌, ℕ, true, List, [], ◌∷◌, ◌++◌, length, take, drop, get_or, refl, sym, ap, subst, Option, Some, None, arith}
-use Rattle.std.specs.Borrow.{Bor}
-use Rattle.std.specs.List.{onto_first}
-use Rattle.std.proofs.lemmas.List.{take_all}
-use Rattle.iloc_ops.specs.declared.op.Op.{Op}
-use Rattle.iloc_ops.specs.declared.forms.Opcode.{Opcode}
-use Rattle.iloc_ops.specs.Forms.{opcode_text}
-use Rattle.iloc_text.specs.Grammar.{◌⋅◌, Blanks, OptionalLabel, OptionalComment, IsWithinLimit, ReadsWidely, Reads}
-use Rattle.iloc_text.specs.Files.{HasNoLineEnd}
-use Rattle.iloc_text.specs.Lines.{lines_of, lines_left}
-use Rattle.iloc_text.specs.Steps.LineReads.{FirstIs, FirstBody}
-use Rattle.iloc_text.specs.Steps.Scan.{after_blanks, called_at, is_within, is_within_limit}
+use Rattle.iloc_text.proofs.Common.{◌≡◌, ℕ, ◌-◌, ◌≤◌, true, List, [], ◌∷◌, ◌++◌, length, get_or, take, drop, Some, None, Option, sym, refl, ap, ◌∙◌, subst, arith, take_all, Bor, onto_first, opcode_text, Opcode, Op, HasNoLineEnd, Blanks, IsWithinLimit, OptionalComment, OptionalLabel, Reads, ReadsWidely, ◌⋅◌, lines_left, lines_of, FirstBody, FirstIs, after_blanks, called_at, is_within, is_within_limit}
 use Rattle.iloc_text.proofs.Parts.{Before}
 use Rattle.iloc_text.proofs.Tokens.{blanks_read}
 use Rattle.iloc_text.proofs.Operations.{called_finds}

@@ -1,14 +1,6 @@
 -- The text that bytes begin with, where its number and that of the first eight are the same in its bits.
-use Rattle.std.proofs.Common.{◌≡◌, ◌∙◌, ◌≤◌, ◌<◌, ◌*◌, ◌%◌, ◌^◌, ℕ, List, [], ◌∷◌, ◌++◌, drop, refl, get_or, length, sym, ap, arith, take-append-drop}
-use Rattle.std.specs.Int.Bits.{bit_and}
-use Rattle.std.specs.Simd.Lanes.{number_l}
-use Rattle.std.proofs.lemmas.List.{take-append-le}
-use Rattle.std.proofs.lemmas.Nat.{and_mask}
-use Rattle.iloc_ops.specs.declared.forms.Opcode.{Opcode}
-use Rattle.iloc_ops.specs.declared.forms.Opcode.TheVariants.{Nop}
-use Rattle.iloc_ops.specs.Forms.{opcode_text}
+use Rattle.iloc_text.proofs.Common.{◌≡◌, ℕ, ◌*◌, ◌%◌, ◌^◌, ◌<◌, ◌≤◌, List, [], ◌∷◌, ◌++◌, length, get_or, drop, sym, refl, ap, ◌∙◌, arith, take-append-drop, take-append-le, and_mask, bit_and, number_l, opcode_text, Opcode, Nop, shape_of, text_of}
 use Rattle.iloc_text.specs.declared.line.shape.Text.{Text}
-use Rattle.iloc_text.specs.Steps.FastPath.{text_of, shape_of}
 use Rattle.iloc_text.proofs.Lanes.{Bytes, eight, front_is}
 
 pub begins : (text bytes : List ℕ) (front : ℕ) → 8 ≤ length bytes → ((i : ℕ) → get_or bytes i 0 < 256) → Bytes text → length text ≤ 8

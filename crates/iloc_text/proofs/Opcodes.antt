@@ -1,13 +1,6 @@
 -- The scanner finds each opcode, and an opcode only where its word stands.
-use Rattle.std.proofs.Common.{◌≡◌, ℕ, Bool, true, List, [], ◌∷◌, ◌++◌, refl, sym, Option, Some, None, IfSome, find, bytes_eq, arith}
-use Rattle.std.specs.List.{list_all}
+use Rattle.iloc_text.proofs.Common.{◌≡◌, ℕ, Bool, true, List, [], ◌∷◌, ◌++◌, IfSome, Some, None, Option, find, bytes_eq, sym, refl, arith, list_all, opcode_text, opcodes, Opcode, Nop, is_word_byte, opcode_of, ◌>>=◌}
 use Rattle.std.proofs.lemmas.Slice.Eq.{bytes_eq-Decides}
-use Rattle.iloc_ops.specs.declared.forms.Opcode.{Opcode}
-use Rattle.iloc_ops.specs.declared.forms.Opcode.TheVariants.{Nop}
-use Rattle.iloc_ops.specs.Forms.{opcodes, opcode_text}
-use Rattle.iloc_text.specs.Grammar.{is_word_byte}
-use Rattle.iloc_text.specs.Steps.Opcodes.{opcode_of}
-use Rattle.iloc_text.specs.Steps.Scan.{◌>>=◌}
 use Rattle.iloc_text.proofs.Parts.{starts}
 use Rattle.iloc_text.proofs.Tokens.{some_map, IsWord}
 

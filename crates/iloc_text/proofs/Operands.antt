@@ -1,11 +1,6 @@
 -- The scanner finds operands, and finds them again.
-use Rattle.std.proofs.Common.{◌≡◌, ◌∙◌, ℕ, false, List, [], ◌∷◌, ◌++◌, map, drop, get_or, refl, ap, ap₂, Some, IfSome, arith}
-use Rattle.std.specs.Char.{is_ascii_digit}
-use Rattle.iloc_ops.specs.Forms.{Lead, Value, Operand, ◌▹◌, number_in, number_of}
-use Rattle.iloc_ops.specs.Forms.Lead.{space, comma, arrow}
-use Rattle.iloc_ops.specs.Forms.Value.{Use, Definition, Constant}
-use Rattle.iloc_text.specs.Grammar.{is_blank, LeadText, ValueText, OperandsText}
-use Rattle.iloc_text.specs.Steps.Scan.{capped, register_at, lead_at, value_at, operand_at, operand_then, operands_at}
+use Rattle.iloc_text.proofs.Common.{◌≡◌, ℕ, false, List, [], ◌∷◌, ◌++◌, map, get_or, drop, IfSome, Some, refl, ap, ◌∙◌, ap₂, arith, is_ascii_digit, Lead, Operand, Value, number_in, number_of, ◌▹◌, arrow, comma, space, Constant, Definition, Use, LeadText, OperandsText, ValueText, is_blank, capped, lead_at, operand_at, operands_at, register_at, value_at}
+use Rattle.iloc_text.specs.Steps.Scan.{operand_then}
 use Rattle.iloc_text.proofs.Parts.{Before, Before-join, Before-split, starts}
 use Rattle.iloc_text.proofs.Tokens.{some_map, number_read, number_again, register_read, register_again, some_blanks_read, some_blanks_again, arrow_read, arrow_again, comma_read, comma_again}
 use Rattle.iloc_text.proofs.Opcodes.{bind_each}

@@ -1,14 +1,6 @@
 -- The scanner finds the operations of the grammar, with their numbers capped, and finds each of them again.
-use Rattle.std.proofs.Common.{subst, ◌==◌, ◌≡◌, ◌∙◌, ℕ, ◌<◌, Bool, true, false, List, [], ◌∷◌, ◌++◌, refl, sym, ap, Some, IfSome, arith}
-use Rattle.std.specs.Char.{digit_value}
-use Rattle.std.proofs.lemmas.Bool.Decides.{nat_tests}
-use Rattle.iloc_ops.specs.declared.op.Op.{Op}
-use Rattle.iloc_ops.specs.declared.forms.Opcode.{Opcode}
-use Rattle.iloc_ops.specs.Forms.{Lead, Operand, opcode, operands, opcode_text, op_of}
-use Rattle.iloc_ops.specs.Forms.Lead.{space, comma, arrow}
-use Rattle.iloc_text.specs.Grammar.{◌⋅◌, Text, is_word_byte, is_blank, Blanks, LeadText, OperandsText, Operation}
-use Rattle.iloc_text.specs.Steps.Opcodes.{opcode_of, operands_of}
-use Rattle.iloc_text.specs.Steps.Scan.{after_blanks, after_word, word_of, operands_at, called_at, operation_at}
+use Rattle.iloc_text.proofs.Common.{◌≡◌, ℕ, ◌<◌, Bool, true, false, List, [], ◌∷◌, ◌++◌, IfSome, ◌==◌, Some, sym, refl, ap, ◌∙◌, subst, arith, nat_tests, digit_value, Lead, Operand, op_of, opcode, opcode_text, operands, arrow, comma, space, Opcode, Op, Blanks, LeadText, OperandsText, Operation, Text, is_blank, is_word_byte, ◌⋅◌, opcode_of, operands_of, after_blanks, after_word, operands_at, word_of}
+use Rattle.iloc_text.specs.Steps.Scan.{called_at, operation_at}
 use Rattle.iloc_text.proofs.Parts.{Before, Before-join, Before-split, starts}
 use Rattle.iloc_text.proofs.Tokens.{some_map, word_again, word_read, blanks_again}
 use Rattle.iloc_text.proofs.Opcodes.{bind_each, opcode_read, opcode_is_word, opcode_starts}

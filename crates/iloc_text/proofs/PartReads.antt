@@ -1,14 +1,7 @@
 -- Parts of a text that are read apart.
-use Rattle.std.proofs.Common.{◌≡◌, ◌≢◌, ◌∙◌, ℕ, List, [], ◌∷◌, ◌++◌, Result, Err, IfErr, sym, ap, subst, append_assoc, append-nil, arith}
-use Rattle.std.specs.List.{flat_map}
-use Rattle.iloc_text.specs.declared.fault.ReadFault.{ReadFault}
-use Rattle.iloc_text.specs.declared.fault.ReadFault.TheVariants.{NoMemory}
+use Rattle.iloc_text.proofs.Common.{◌≡◌, ℕ, ◌≢◌, List, [], ◌∷◌, ◌++◌, IfErr, Err, Result, flat_map, sym, ap, ◌∙◌, subst, append_assoc, append-nil, arith, IsRefused, has_copied, HasBegun, HasCome, ended, HasRead, ReadFault, NoMemory}
 use Rattle.iloc_text.specs.declared.reader.copies.Copies.{Copies}
 use Rattle.iloc_text.specs.declared.stream.parts.PartedText.{PartedText}
-use Rattle.iloc_text.specs.Files.{IsRefused}
-use Rattle.iloc_text.specs.Steps.Copied.{has_copied}
-use Rattle.iloc_text.specs.Steps.PartReads.{HasBegun, HasCome, ended}
-use Rattle.iloc_text.specs.Steps.TextReads.{HasRead}
 
 ended_all : (parts : List (List ℕ)) (part : List ℕ)
     → flat_map ended (parts ++ part ∷ []) ≡ flat_map ended parts ++ ended part

@@ -1,6 +1,5 @@
 -- A text of a language at the front of other bytes.
-use Rattle.std.proofs.Common.{◌≡◌, ◌∙◌, ℕ, Bool, false, List, [], ◌∷◌, ◌++◌, refl, sym, ap, subst, append_assoc, append-nil, arith}
-use Rattle.iloc_text.specs.Grammar.{◌⋅◌}
+use Rattle.iloc_text.proofs.Common.{◌≡◌, ℕ, Bool, false, List, [], ◌∷◌, ◌++◌, sym, refl, ap, ◌∙◌, subst, append_assoc, append-nil, arith, ◌⋅◌}
 
 -- the bytes are a text of the language and then the rest
 pub record Before (P : List ℕ → Type 0) (rest bytes : List ℕ) : Type 0 where

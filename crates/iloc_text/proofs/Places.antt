@@ -1,7 +1,5 @@
 -- What stands before a rest of the bytes.
-use Rattle.std.proofs.Common.{◌≡◌, ◌∙◌, ◌-◌, ℕ, List, [], ◌∷◌, ◌++◌, length, take, drop, take-append-drop, sym, ap, subst, append_assoc, Option, Some, None, IfSome, option_map, Bor, arith}
-use Rattle.std.proofs.Math.Seq.{drop-append_seam}
-use Rattle.std.proofs.lemmas.List.{length-append}
+use Rattle.iloc_text.proofs.Common.{◌≡◌, ℕ, ◌-◌, List, [], ◌∷◌, ◌++◌, length, take, drop, IfSome, Some, None, Option, option_map, sym, ap, ◌∙◌, subst, append_assoc, arith, length-append, take-append-drop, Bor, drop-append_seam}
 use Rattle.iloc_text.proofs.Parts.{Before}
 
 abbrev pub InText : List ℕ → Option (Bor (List ℕ)) → Type 0

@@ -1,22 +1,10 @@
 -- What the reader has read, from line to line.
-use Rattle.std.proofs.Common.{◌≡◌, ◌≢◌, ◌∙◌, ℕ, ◌+◌, ◌<◌, ◌≤◌, List, [], ◌∷◌, length, refl, sym, ap, subst, Option, Some, None, IfErr, Result, Ok, Err, IsUtf8, get_or, zero, suc, true, Bor, arith}
-use Rattle.std.specs.List.{AllByRecursion}
+use Rattle.iloc_text.proofs.Common.{◌≡◌, ℕ, zero, suc, ◌+◌, ◌<◌, ◌≤◌, true, ◌≢◌, List, [], ◌∷◌, length, get_or, IfErr, Some, None, Ok, Err, IsUtf8, Option, Result, sym, refl, ap, ◌∙◌, subst, arith, Bor, nat_tests, AllByRecursion, MAX_INPUT, Block, Op, Denotes, IsRefused, IsName, Reads, is_word_byte, lines_left, lines_of, limited, with_line, FirstIs, FirstLine, Leaves, answer_from, on_verdict, verdict, ReadFault, BadLine, NoMemory, NumberTooLarge}
 use Rattle.std.specs.Option.{ForSome}
 use Rattle.std.proofs.lemmas.Str.{IsUtf8-from_ascii}
-use Rattle.std.proofs.lemmas.Bool.Decides.{nat_tests}
-use Rattle.iloc_ops.specs.Limits.{MAX_INPUT}
-use Rattle.iloc_ops.specs.declared.op.Op.{Op}
-use Rattle.iloc_ops.specs.declared.file.Block.{Block}
-use Rattle.iloc_text.specs.declared.fault.ReadFault.{ReadFault}
-use Rattle.iloc_text.specs.declared.fault.ReadFault.TheVariants.{BadLine, NumberTooLarge, NoMemory}
 use Rattle.iloc_text.specs.declared.line.ParseFault.TheVariants as faults
-use Rattle.iloc_text.specs.Grammar.{is_word_byte, IsName, Reads}
-use Rattle.iloc_text.specs.Lines.{lines_of, lines_left}
-use Rattle.iloc_text.specs.Steps.LineReads.{FirstIs, FirstLine}
-use Rattle.iloc_text.specs.Steps.Growth.{with_line, limited}
-use Rattle.iloc_text.specs.Files.{block_names, file_of, Denotes, IsRefused}
+use Rattle.iloc_text.specs.Files.{block_names, file_of}
 use Rattle.iloc_text.proofs.Parts.{all-Before}
-use Rattle.iloc_text.specs.Steps.Verdicts.{verdict, answer_from, on_verdict, Leaves}
 use Rattle.iloc_text.proofs.Answer.{answer, answer_short, reads_verdict, bad_verdict, large_verdict}
 use Rattle.iloc_text.proofs.Every.{Answers, answers}
 

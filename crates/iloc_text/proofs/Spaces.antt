@@ -1,12 +1,7 @@
 -- Spaces at the front, which are passed eight at a time.
-use Rattle.std.proofs.Common.{◌≡◌, ◌∙◌, ◌≤◌, ◌<◌, ◌+◌, ◌-◌, ◌*◌, ◌/◌, ◌%◌, ◌^◌, ◌==◌, ℕ, zero, suc, true, cond, List, [], ◌∷◌, ◌++◌, length, map, drop, get_or, refl, sym, ap, arith}
-use Rattle.std.specs.Simd.Lanes.{number_l}
-use Rattle.std.specs.Int.Bits.{bit_xor}
+use Rattle.iloc_text.proofs.Common.{◌≡◌, ℕ, zero, suc, ◌+◌, ◌-◌, ◌*◌, ◌/◌, ◌%◌, ◌^◌, ◌<◌, ◌≤◌, true, cond, List, [], ◌∷◌, ◌++◌, map, length, get_or, drop, ◌==◌, sym, refl, ap, ◌∙◌, arith, eqb-true, agree_below_at, mod-pow-add, xor_of_8, bit_xor, number_l, after_blanks}
 use Rattle.std.specs.Int.Count.{count_trailing_zeros, under}
 use Rattle.std.proofs.Math.Pow.{mod-mod-pow}
-use Rattle.std.proofs.lemmas.Bool.{agree_below_at, eqb-true}
-use Rattle.std.proofs.lemmas.Nat.{mod-pow-add, xor_of_8}
-use Rattle.iloc_text.specs.Steps.Scan.{after_blanks}
 use Rattle.iloc_text.proofs.Lanes.{Bytes, eight, xor_lanes, byte_skipped}
 
 divided : (k n : ℕ) → n % 2 ^ count_trailing_zeros k n ≡ 0

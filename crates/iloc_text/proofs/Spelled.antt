@@ -1,13 +1,6 @@
 -- The spelling of an operation reads as that operation.
-use Rattle.std.proofs.Common.{ℕ, ◌≤◌, List, [], ◌∷◌, ◌++◌, map, refl, sym, Some, None, codes, decimal, arith}
-use Rattle.std.specs.List.{AllByRecursion}
+use Rattle.iloc_text.proofs.Common.{ℕ, ◌≤◌, List, [], ◌∷◌, ◌++◌, map, Some, None, codes, decimal, sym, refl, arith, AllByRecursion, Lead, Operand, Value, number_in, number_of, opcode, opcode_text, operands, arrow, comma, space, Constant, Definition, Use, MAX_NUMBER, Op, Blanks, IsWithinLimit, LeadText, Number, OperandsText, Operation, Reads, Text, ValueText}
 use Rattle.std.proofs.lemmas.Fmt.{decimal_is_IsNumeral}
-use Rattle.iloc_ops.specs.Limits.{MAX_NUMBER}
-use Rattle.iloc_ops.specs.declared.op.Op.{Op}
-use Rattle.iloc_ops.specs.Forms.{Lead, Value, Operand, number_in, number_of, opcode, operands, opcode_text}
-use Rattle.iloc_ops.specs.Forms.Lead.{space, comma, arrow}
-use Rattle.iloc_ops.specs.Forms.Value.{Use, Definition, Constant}
-use Rattle.iloc_text.specs.Grammar.{Text, Blanks, Number, LeadText, ValueText, OperandsText, Operation, IsWithinLimit, Reads}
 use Rattle.iloc_ops.specs.Spelling.{spelled_lead, spelled_value, spelled_operands, spelling}
 use Rattle.iloc_text.proofs.Parts.{Before, Before-join, Before-all}
 

@@ -1,13 +1,8 @@
 -- How a text falls into its lines.
-use Rattle.std.proofs.Common.{◌≡◌, ℕ, ◌+◌, ◌≤◌, nat_lt, Option, false, cond, List, [], ◌∷◌, length, take, drop, refl, sym, Some, None, arith}
-use Rattle.std.specs.List.{onto_first, position_or_len, slice_index, AllByRecursion}
+use Rattle.iloc_text.proofs.Common.{◌≡◌, ℕ, ◌+◌, ◌≤◌, false, cond, List, [], ◌∷◌, length, take, drop, nat_lt, slice_index, Some, None, Option, sym, refl, arith, lt-ltb, false_from_ne_true, nat_tests, AllByRecursion, onto_first, position_or_len, AreLines, HasNoLineEnd, is_line_end, line_end, lines_of}
 use Rattle.std.proofs.lemmas.List.Sums.{position_or_len_is, count_by-le-length}
 use Rattle.memchr.specs.Find.{IsFirstByte, is_byte}
 use Rattle.std.proofs.lemmas.List.Splits.{slice_split_first, length-slice_split, join_with_byte-slice_split}
-use Rattle.std.proofs.lemmas.Bool.Decides.{nat_tests}
-use Rattle.std.proofs.lemmas.Bool.{false_from_ne_true, lt-ltb}
-use Rattle.iloc_text.specs.Lines.{is_line_end, line_end, lines_of}
-use Rattle.iloc_text.specs.Files.{HasNoLineEnd, AreLines}
 
 at_place : (text : List ℕ) (i : ℕ) (r : Option ℕ) → position_or_len is_line_end text ≡ i
     → cond (nat_lt i (length text)) (Some i) None ≡ r → r ≡ line_end text

@@ -1,11 +1,5 @@
 -- What the texts of the grammar begin with.
-use Rattle.std.proofs.Common.{◌≡◌, ◌∙◌, ℕ, ◌<◌, Bool, true, false, List, [], ◌∷◌, ◌++◌, refl, ap, arith}
-use Rattle.std.specs.Char.{is_ascii_digit, digit_value}
-use Rattle.std.proofs.lemmas.Bool.Decides.{nat_tests}
-use Rattle.iloc_ops.specs.Forms.{Lead, Value, Operand}
-use Rattle.iloc_ops.specs.Forms.Lead.{space, comma, arrow}
-use Rattle.iloc_ops.specs.Forms.Value.{Use, Definition, Constant}
-use Rattle.iloc_text.specs.Grammar.{◌⋅◌, is_word_byte, Text, is_blank, Blanks, SomeBlanks, Number, LeadText, ValueText, OperandsText}
+use Rattle.iloc_text.proofs.Common.{◌≡◌, ℕ, ◌<◌, Bool, true, false, List, [], ◌∷◌, ◌++◌, refl, ap, ◌∙◌, arith, nat_tests, digit_value, is_ascii_digit, Lead, Operand, Value, arrow, comma, space, Constant, Definition, Use, Blanks, LeadText, Number, OperandsText, SomeBlanks, Text, ValueText, is_blank, is_word_byte, ◌⋅◌}
 use Rattle.iloc_text.proofs.Parts.{Before, Before-split, starts}
 
 pub blanks_start : (front rest : List ℕ) (test : ℕ → Bool) → Blanks front

@@ -1,18 +1,6 @@
 -- What a reader has read of a text that comes piece by piece, piece after piece.
-use Rattle.std.proofs.Common.{◌≡◌, ◌≢◌, ◌∙◌, ℕ, suc, ◌+◌, ◌-◌, ◌<◌, ◌≤◌, ◌^◌, ◌==◌, min, true, List, [], ◌∷◌, ◌++◌, length, take, drop, get_or, sym, ap, ap₂, subst, subst₂, Option, Some, None, is_some, false, refl, Result, Ok, Err, IfErr, append_assoc, append-nil, take_all, take-append-drop, length-drop, ◌⊎◌, inl, inr, arith}
-use Rattle.std.proofs.Math.Seq.{drop-cons}
-use Rattle.std.proofs.lemmas.Bool.Decides.{nat_tests}
-use Rattle.iloc_ops.specs.Limits.{MAX_INPUT}
-use Rattle.iloc_ops.specs.declared.file.Block.{Block}
-use Rattle.iloc_text.specs.declared.fault.ReadFault.{ReadFault}
-use Rattle.iloc_text.specs.declared.fault.ReadFault.TheVariants.{NoMemory}
+use Rattle.iloc_text.proofs.Common.{◌≡◌, ℕ, suc, ◌+◌, ◌-◌, ◌^◌, ◌<◌, ◌≤◌, min, true, false, ◌≢◌, ◌⊎◌, List, [], ◌∷◌, ◌++◌, length, get_or, take, drop, is_some, IfErr, ◌==◌, Some, None, Ok, Err, Option, Result, sym, refl, ap, ◌∙◌, subst, ap₂, subst₂, inl, inr, append_assoc, append-nil, arith, length-drop, take-append-drop, take_all, drop-cons, nat_tests, MAX_INPUT, Block, IsRefused, lines_of, BeginsLabelled, HasTaken, GoesOn, HasFault, StandsAt, answer_from, on_verdict, verdict, ReadFault, NoMemory}
 use Rattle.iloc_text.specs.declared.stream.text_reader.TextReader.{TextReader}
-use Rattle.iloc_text.specs.Files.{IsRefused}
-use Rattle.iloc_text.specs.Lines.{lines_of}
-use Rattle.iloc_text.specs.Parts.{BeginsLabelled}
-use Rattle.iloc_text.specs.Steps.TextReads.{GoesOn, HasFault, StandsAt}
-use Rattle.iloc_text.specs.Steps.Open.{HasTaken}
-use Rattle.iloc_text.specs.Steps.Verdicts.{verdict, answer_from, on_verdict}
 use Rattle.iloc_text.proofs.Answer.{answer}
 use Rattle.iloc_text.proofs.Reading.{answer_begins, refused}
 use Rattle.iloc_text.proofs.Apart.{lines_of_both, answer_of_both}

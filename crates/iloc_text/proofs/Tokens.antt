@@ -1,14 +1,7 @@
 -- Each token function of the scanner finds a text of its language, and finds each such text again.
-use Rattle.std.proofs.Common.{◌≡◌, ◌∙◌, ℕ, ◌+◌, ◌-◌, ◌*◌, ◌<◌, Bool, true, false, cond, ◌&&◌, ◌==◌, List, [], ◌∷◌, ◌++◌, refl, sym, ap, subst, Option, Some, None, IfSome, codes, arith, ap₂, length-append, add-sub_cancel}
-use Rattle.std.proofs.Math.Seq.{take-append_seam}
-use Rattle.std.specs.List.{AllByRecursion}
-use Rattle.std.specs.Char.{is_ascii_digit, digit_value}
+use Rattle.iloc_text.proofs.Common.{◌≡◌, ℕ, ◌+◌, ◌-◌, ◌*◌, ◌<◌, Bool, true, false, cond, ◌&&◌, List, [], ◌∷◌, ◌++◌, IfSome, ◌==◌, Some, None, codes, Option, sym, refl, ap, ◌∙◌, subst, ap₂, add-sub_cancel, arith, length-append, eqb-true, take-append_seam, nat_tests, digit_value, is_ascii_digit, AllByRecursion, Arrow, Blanks, Comma, Number, Register, SomeBlanks, Text, is_blank, is_word_byte, ◌⋅◌, after_blanks, after_word, arrow_at, arrow_from, capped, comma_at, comma_from, digits_after, number_at, register_at, some_blanks_at, word_of}
 use Rattle.std.specs.Str.Parse.{AllDigits, digits_value_after}
-use Rattle.std.proofs.lemmas.Bool.Decides.{nat_tests}
-use Rattle.std.proofs.lemmas.Bool.{eqb-true}
 use Rattle.iloc_ops.specs.declared.op.Reg.{Reg}
-use Rattle.iloc_text.specs.Grammar.{is_word_byte, ◌⋅◌, Text, is_blank, Blanks, SomeBlanks, Number, Register, Arrow, Comma}
-use Rattle.iloc_text.specs.Steps.Scan.{after_blanks, some_blanks_at, capped, digits_after, number_at, register_at, arrow_at, arrow_from, comma_at, comma_from, after_word, word_of}
 use Rattle.iloc_text.proofs.Parts.{Before, Before-join, Before-split, starts}
 
 -- Blanks

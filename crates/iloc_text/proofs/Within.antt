@@ -1,12 +1,6 @@
 -- A file that a text denotes is within the limits.
-use Rattle.std.proofs.Common.{ℕ, ◌≤◌, List, [], ◌∷◌, ◌++◌, length, sym, ap, subst, Option, Some, None, arith}
-use Rattle.std.specs.List.{AllByRecursion}
-use Rattle.iloc_ops.specs.Limits.{MAX_BLOCKS, MAX_OPS}
-use Rattle.iloc_ops.specs.declared.op.Op.{Op}
-use Rattle.iloc_ops.specs.declared.file.Block.{Block}
-use Rattle.iloc_text.specs.Files.{Reading, block_count, block_names, file_of, NoneFaulty}
-use Rattle.iloc_text.specs.Steps.Growth.{with_op, with_optional_label, with_optional_op, with_line, last_ops}
-use Rattle.iloc_text.specs.Laws.{FilesAreWithinLimits}
+use Rattle.iloc_text.proofs.Common.{ℕ, ◌≤◌, List, [], ◌∷◌, ◌++◌, length, Some, None, Option, sym, ap, subst, arith, AllByRecursion, MAX_BLOCKS, MAX_OPS, Block, Op, NoneFaulty, Reading, FilesAreWithinLimits, last_ops, with_line, with_op, with_optional_label, with_optional_op}
+use Rattle.iloc_text.specs.Files.{block_count, block_names, file_of}
 use Rattle.iloc_text.proofs.Counts.{fronts-snoc}
 use Rattle.iloc_text.proofs.BlockOps.{over_lines}
 use Rattle.iloc_text.proofs.Every.{all-snoc}

@@ -1,8 +1,6 @@
 -- An operation of three numbers, of which those that it has no place for stand for nothing.
-use Rattle.std.proofs.Common.{◌≡◌, ℕ, [], ◌∷◌, refl}
-use Rattle.iloc_ops.specs.declared.forms.Opcode.{Opcode}
+use Rattle.iloc_text.proofs.Common.{◌≡◌, ℕ, [], ◌∷◌, refl, op_of, Opcode}
 use Rattle.iloc_ops.specs.declared.forms.Opcode.TheVariants as O
-use Rattle.iloc_ops.specs.Forms.{op_of}
 
 pub zero_stands_for_none : (o : Opcode) (a b : ℕ) → op_of o (a ∷ b ∷ 0 ∷ []) ≡ op_of o (a ∷ b ∷ [])
 zero_stands_for_none O.Nop a b = refl

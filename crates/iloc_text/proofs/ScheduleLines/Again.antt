@@ -1,15 +1,7 @@
 -- Each text of the grammar of schedule lines is found by the scanner.
-use Rattle.std.proofs.Common.{◌≡◌, ◌≢◌, ◌∙◌, ℕ, Bool, true, false, ◌==◌, List, [], ◌∷◌, ◌++◌, codes, refl, sym, ap, ap₂, subst, Option, Some, None, unwrap_or, inl, inr, arith}
-use Rattle.std.specs.Char.{is_ascii_digit, is_ascii_alphabetic}
-use Rattle.std.proofs.lemmas.Bool.Decides.{nat_tests}
-use Rattle.iloc_ops.specs.declared.op.Op.{Op}
+use Rattle.iloc_text.proofs.Common.{◌≡◌, ℕ, Bool, true, false, ◌≢◌, List, [], ◌∷◌, ◌++◌, ◌==◌, Some, None, codes, Option, unwrap_or, sym, refl, ap, ◌∙◌, subst, ap₂, inl, inr, arith, nat_tests, is_ascii_alphabetic, is_ascii_digit, Constant, Op, IsName, Number, SomeBlanks, Text, is_blank, is_word_byte, ◌⋅◌, BlockName, RowText, Said, SaidText, SaysWidely, SlotText, alone, cycles, head, nothing, row, total, after_blanks, after_word, capped, word_of, behind_byte, block_name_at, worded_at}
 use Rattle.iloc_ops.specs.declared.op.Op.TheVariants.{Nop}
-use Rattle.iloc_ops.specs.Forms.Value.{Constant}
-use Rattle.iloc_text.specs.Grammar.{◌⋅◌, Text, is_blank, is_word_byte, SomeBlanks, Number, IsName}
-use Rattle.iloc_text.specs.ScheduleLines.{Said, SlotText, alone, RowText, BlockName, SaidText, SaysWidely}
-use Rattle.iloc_text.specs.ScheduleLines.Said.{nothing, row, head, cycles, total}
-use Rattle.iloc_text.specs.Steps.Scan.{capped, after_blanks, word_of, after_word}
-use Rattle.iloc_text.specs.Steps.ScheduleScan.{slot_at, behind_byte, row_at, number_behind, block_name_at, head_at, cycles_at, total_at, worded_at, said_at, schedule_line_at}
+use Rattle.iloc_text.specs.Steps.ScheduleScan.{slot_at, row_at, number_behind, head_at, cycles_at, total_at, said_at, schedule_line_at}
 use Rattle.iloc_text.proofs.Parts.{Before, Before-split, Before-all, all-Before, starts}
 use Rattle.iloc_text.proofs.Tokens.{blanks_none, blanks_over, blanks_again, some_blanks_again, number_again, IsWord, word_again}
 use Rattle.iloc_text.proofs.Starts.{blanks_fail, text_starts, blank_is_no_digit, blank_is_no_word_byte, digit_is_no_blank, digit_start_by_word, some_fail, value_fails}

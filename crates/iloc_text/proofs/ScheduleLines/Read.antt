@@ -1,15 +1,8 @@
 -- What the scanner finds in a schedule line is a text of the grammar.
-use Rattle.std.proofs.Common.{◌≡◌, ◌∙◌, ℕ, Bool, true, false, cond, ◌==◌, List, [], ◌∷◌, codes, refl, ap, ap₂, Option, Some, None, IfSome, option_map, unwrap_or, inl, inr, bytes_eq, arith}
-use Rattle.std.specs.Char.{is_ascii_alphabetic}
+use Rattle.iloc_text.proofs.Common.{◌≡◌, ℕ, Bool, true, false, cond, List, [], ◌∷◌, IfSome, ◌==◌, Some, None, codes, Option, option_map, bytes_eq, unwrap_or, refl, ap, ◌∙◌, ap₂, inl, inr, arith, eqb-true, is_ascii_alphabetic, Op, Blanks, Number, OptionalOperation, SomeBlanks, Text, is_word_byte, ◌⋅◌, BlockName, RowText, Said, SaidText, SaysWidely, SlotText, alone, cycles, head, nothing, row, total, after_blanks, after_word, capped, is_end, number_at, optional_operation_at, some_blanks_at, word_of, behind_byte, block_name_at, row_from, worded_at}
 use Rattle.std.proofs.lemmas.Slice.Eq.{bytes_eq-Decides}
-use Rattle.std.proofs.lemmas.Bool.{eqb-true}
-use Rattle.iloc_ops.specs.declared.op.Op.{Op}
 use Rattle.iloc_ops.specs.declared.op.Op.TheVariants.{Nop}
-use Rattle.iloc_text.specs.Grammar.{◌⋅◌, Text, is_word_byte, Blanks, SomeBlanks, Number, OptionalOperation}
-use Rattle.iloc_text.specs.ScheduleLines.{Said, SlotText, alone, RowText, BlockName, SaidText, SaysWidely}
-use Rattle.iloc_text.specs.ScheduleLines.Said.{nothing, row, head, cycles, total}
-use Rattle.iloc_text.specs.Steps.Scan.{capped, after_blanks, some_blanks_at, number_at, word_of, after_word, optional_operation_at, is_end}
-use Rattle.iloc_text.specs.Steps.ScheduleScan.{slot_at, behind_byte, row_from, row_at, number_behind, block_name_at, head_at, cycles_at, total_at, worded_at, said_at, schedule_line_at}
+use Rattle.iloc_text.specs.Steps.ScheduleScan.{slot_at, row_at, number_behind, head_at, cycles_at, total_at, said_at, schedule_line_at}
 use Rattle.iloc_text.proofs.Parts.{Before, Before-join, Before-all, all-Before}
 use Rattle.iloc_text.proofs.Tokens.{blanks_read, some_blanks_read, number_read, some_map, word_read}
 use Rattle.iloc_text.proofs.Opcodes.{bind_each}

@@ -1,17 +1,6 @@
 -- What the scanner's answer of a schedule line says, with the limit on its numbers.
-use Rattle.std.proofs.Common.{◌≡◌, ◌∙◌, ℕ, ◌≤◌, nat_lt, true, false, List, [], ◌∷◌, ◌++◌, refl, sym, ap, subst, Some, None, IfSome, arith}
-use Rattle.std.specs.List.{AllByRecursion}
-use Rattle.std.proofs.lemmas.Bool.Decides.{nat_tests}
+use Rattle.iloc_text.proofs.Common.{◌≡◌, ℕ, ◌≤◌, true, false, List, [], ◌∷◌, ◌++◌, IfSome, nat_lt, Some, None, sym, refl, ap, ◌∙◌, subst, arith, and_parts, nat_tests, AllByRecursion, MAX_NUMBER, Op, IsWithinLimit, Said, Says, SaysSomething, SaysSomethingWidely, SaysWidely, said_numbers, nothing, capped, is_within, is_said_within, schedule_line_at, ABOVE_LIMIT}
 use Rattle.std.proofs.lemmas.Option.{same_Some}
-use Rattle.std.proofs.lemmas.Bool.{and_parts}
-use Rattle.iloc_ops.specs.Limits.{MAX_NUMBER}
-use Rattle.iloc_text.specs.declared.line.scan.TheConstants.{ABOVE_LIMIT}
-use Rattle.iloc_ops.specs.declared.op.Op.{Op}
-use Rattle.iloc_text.specs.Grammar.{IsWithinLimit}
-use Rattle.iloc_text.specs.ScheduleLines.{Said, SaysWidely, said_numbers, Says, SaysSomething, SaysSomethingWidely}
-use Rattle.iloc_text.specs.ScheduleLines.Said.{nothing}
-use Rattle.iloc_text.specs.Steps.Scan.{capped, is_within}
-use Rattle.iloc_text.specs.Steps.ScheduleScan.{schedule_line_at, is_said_within}
 use Rattle.iloc_text.proofs.Names.{capped_op, numbers-capped}
 use Rattle.iloc_text.proofs.Caps.{all_numbers, capped_within, capped-within, small_all, within_limit}
 use Rattle.iloc_text.proofs.ScheduleLines.Read.{capped_said, FindsSaidLine, line_read}

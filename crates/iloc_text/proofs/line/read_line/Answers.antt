@@ -1,5 +1,4 @@
-use Rattle.std.proofs.Common.{◌∙◌, option_map, sym, ap}
-use Rattle.iloc_text.specs.Steps.LineReads.{label_of}
+use Rattle.iloc_text.proofs.Common.{option_map, sym, ap, ◌∙◌, label_of}
 use Rattle.iloc_text.proofs.Lines.{line_bad, line_good, line_large}
 use Rattle.iloc_text.proofs.line.read_line.Goals as goal
 

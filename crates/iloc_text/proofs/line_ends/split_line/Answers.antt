@@ -1,6 +1,4 @@
-use Rattle.std.proofs.Common.{◌∙◌, ◌+◌, ◌-◌, ◌∷◌, ap, sym, length, take, drop, length-drop, arith}
-use Rattle.std.proofs.lemmas.List.{take_all}
-use Rattle.iloc_text.specs.Lines.{lines_of}
+use Rattle.iloc_text.proofs.Common.{◌+◌, ◌-◌, ◌∷◌, length, take, drop, sym, ap, ◌∙◌, arith, length-drop, take_all, lines_of}
 use Rattle.iloc_text.proofs.Splitting.{line_some, line_none}
 use Rattle.iloc_text.proofs.line_ends.split_line.Goals as goal
 

@@ -1,6 +1,4 @@
-use Rattle.std.proofs.Common.{◌∙◌, [], Err, ap}
-use Rattle.std.proofs.lemmas.Result.{err_from_is_err_and}
-use Rattle.iloc_text.specs.Steps.Open.{HasTaken}
+use Rattle.iloc_text.proofs.Common.{[], Err, ap, ◌∙◌, err_from_is_err_and, HasTaken}
 use Rattle.iloc_text.proofs.Reading.{answer_begins, err_refused, denoted}
 use Rattle.iloc_text.proofs.reader.read_blocks.Goals as goal
 

@@ -1,8 +1,4 @@
-use Rattle.std.proofs.Common.{◌∙◌, ◌+◌, None, Err, length, ap, arith}
-use Rattle.std.proofs.lemmas.Result.{err_from_is_err_and}
-use Rattle.iloc_text.specs.Steps.Growth.{with_line}
-use Rattle.iloc_text.specs.Lines.{lines_of}
-use Rattle.iloc_text.specs.Steps.Verdicts.{on_verdict}
+use Rattle.iloc_text.proofs.Common.{◌+◌, length, None, Err, ap, ◌∙◌, arith, err_from_is_err_and, lines_of, with_line, on_verdict}
 use Rattle.iloc_text.proofs.Growing.{so_far_within}
 use Rattle.iloc_text.proofs.OnePass.{body_first}
 use Rattle.iloc_text.proofs.Reading.{answer_read, err_answer}

@@ -1,9 +1,4 @@
-use Rattle.std.proofs.Common.{◌∙◌, ◌+◌, Ok, Err, length, ap, arith}
-use Rattle.std.proofs.lemmas.Result.{err_from_is_err_and}
-use Rattle.iloc_text.specs.Steps.LineReads.{label_of, FirstLine}
-use Rattle.iloc_text.specs.Steps.Growth.{with_line}
-use Rattle.iloc_text.specs.Lines.{lines_left}
-use Rattle.iloc_text.specs.Steps.Verdicts.{answer_from, on_verdict}
+use Rattle.iloc_text.proofs.Common.{◌+◌, length, Ok, Err, ap, ◌∙◌, arith, err_from_is_err_and, lines_left, with_line, FirstLine, label_of, answer_from, on_verdict}
 use Rattle.iloc_text.proofs.Growing.{so_far_within}
 use Rattle.iloc_text.proofs.Splitting.{lines_few, lines_are}
 use Rattle.iloc_text.proofs.Reading.{label_is_utf8, answer_read, bad_answer, large_answer, err_answer, then_leaves}

@@ -1,8 +1,4 @@
-use Rattle.std.proofs.Common.{◌≡◌, ◌+◌, List, length}
-use Rattle.iloc_ops.specs.declared.file.Block.{Block}
-use Rattle.iloc_text.specs.Lines.{lines_of, lines_left}
-use Rattle.iloc_text.specs.Steps.Open.{HasTaken}
-use Rattle.iloc_text.specs.Steps.Verdicts.{answer_from, Leaves}
+use Rattle.iloc_text.proofs.Common.{◌≡◌, ◌+◌, List, length, Block, lines_left, lines_of, HasTaken, Leaves, answer_from}
 use Rattle.iloc_text.proofs.reader.read_lines.Given as goal
 
 -- the blocks so far have the answer of all lines on those that are left

@@ -1,5 +1,4 @@
-use Rattle.std.proofs.Common.{◌≡◌, ◌∙◌, ◌++◌, ap, sym, subst}
-use Rattle.iloc_text.specs.Files.{AreWithinLimits}
+use Rattle.iloc_text.proofs.Common.{◌≡◌, ◌++◌, sym, ap, ◌∙◌, subst, AreWithinLimits}
 use Rattle.iloc_text.proofs.Within.{files_within}
 use Rattle.iloc_text.proofs.stream.read_file_from.Goals as goal
 

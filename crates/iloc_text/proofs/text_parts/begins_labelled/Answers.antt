@@ -1,10 +1,5 @@
-use Rattle.std.proofs.Common.{◌∙◌, sym, ◌≡◌, ℕ, List, ap, refl, Option, Some, None, is_some, true, option_map}
-use Rattle.std.specs.Borrow.{Bor}
+use Rattle.iloc_text.proofs.Common.{◌≡◌, ℕ, true, List, is_some, Some, None, Option, option_map, sym, refl, ap, ◌∙◌, Bor, Reads, lines_left, BeginsLabelled, FirstIs, label_of}
 use Rattle.iloc_text.specs.declared.line.Line.{Line}
-use Rattle.iloc_text.specs.Grammar.{Reads}
-use Rattle.iloc_text.specs.Parts.{BeginsLabelled}
-use Rattle.iloc_text.specs.Lines.{lines_left}
-use Rattle.iloc_text.specs.Steps.LineReads.{FirstIs, label_of}
 use Rattle.iloc_text.proofs.Splitting.{lines_are}
 use Rattle.iloc_text.proofs.text_parts.begins_labelled.Goals as goal
 

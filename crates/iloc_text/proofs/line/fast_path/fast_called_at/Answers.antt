@@ -1,7 +1,4 @@
-use Rattle.std.proofs.Common.{◌≡◌, ◌∙◌, ◌⊎◌, inl, inr, Bool, true, false, ap, sym, subst, refl, drop}
-use Rattle.iloc_ops.specs.declared.forms.Opcode.{Opcode}
-use Rattle.iloc_ops.specs.declared.forms.Opcode.TheVariants.{Output, Nop}
-use Rattle.iloc_text.specs.Steps.FastPath.{shape_of, IsMaskOf, IsRead}
+use Rattle.iloc_text.proofs.Common.{◌≡◌, Bool, true, false, ◌⊎◌, drop, sym, refl, ap, ◌∙◌, subst, inl, inr, Opcode, Nop, Output, IsMaskOf, IsRead, shape_of}
 use Rattle.iloc_text.proofs.FastPath.{called, called_of, mask_of_lead, third_lead, small_op}
 use Rattle.iloc_text.proofs.line.fast_path.fast_called_at.Goals as goal
 use Rattle.iloc_text.proofs.line.fast_path.fast_called_at.Goals.{in-Nop, in_default, in-Nop-matches, in_default-matches}

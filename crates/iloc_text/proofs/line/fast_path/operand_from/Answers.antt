@@ -1,8 +1,4 @@
-use Rattle.std.proofs.Common.{◌≡◌, ◌∙◌, ◌+◌, ◌<◌, ap, subst, sym, drop, refl, true, ℕ, arith}
-use Rattle.std.specs.Int.Bits.{bit_and}
-use Rattle.iloc_text.specs.Grammar.{is_blank}
-use Rattle.iloc_text.specs.Steps.Digits.{IsNumber}
-use Rattle.iloc_text.specs.Steps.FastPath.{written, lead_text}
+use Rattle.iloc_text.proofs.Common.{◌≡◌, ℕ, ◌+◌, ◌<◌, true, drop, sym, refl, ap, ◌∙◌, subst, arith, bit_and, is_blank, IsNumber, lead_text, written}
 use Rattle.iloc_text.proofs.Tokens.{some_map}
 use Rattle.iloc_text.proofs.FastPath.{behind, length_written, mask_written, lead_read, written_leads}
 use Rattle.iloc_text.proofs.line.fast_path.operand_from.Goals as goal

@@ -1,6 +1,4 @@
-use Rattle.std.proofs.Common.{◌∙◌, ◌+◌, ap, subst, sym, drop, arith}
-use Rattle.std.specs.Int.Bits.{bit_and}
-use Rattle.iloc_text.specs.Steps.FastPath.{tight, IsBehind}
+use Rattle.iloc_text.proofs.Common.{◌+◌, drop, sym, ap, ◌∙◌, subst, arith, bit_and, IsBehind, tight}
 use Rattle.iloc_text.proofs.FastPath.{lead_read, tight_leads}
 use Rattle.iloc_text.proofs.line.fast_path.place_behind.Goals as goal
 

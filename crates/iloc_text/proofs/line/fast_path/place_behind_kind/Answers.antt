@@ -1,6 +1,4 @@
-use Rattle.std.proofs.Common.{◌≡◌, ◌-◌, length, take, drop, length-drop, subst, arith}
-use Rattle.std.proofs.lemmas.List.{take_all}
-use Rattle.iloc_text.specs.Steps.FastPath.{IsBehind, IsRead}
+use Rattle.iloc_text.proofs.Common.{◌≡◌, ◌-◌, length, take, drop, subst, arith, length-drop, take_all, IsBehind, IsRead}
 use Rattle.iloc_text.proofs.Places.{rest_begins}
 use Rattle.iloc_text.proofs.line.fast_path.place_behind_kind.Goals as goal
 

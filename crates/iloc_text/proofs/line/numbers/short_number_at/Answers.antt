@@ -1,6 +1,4 @@
-use Rattle.std.proofs.Common.{ℕ, ◌≤◌, ◌∙◌, ap, refl, arith, drop, inl, inr}
-use Rattle.std.specs.Int.Bits.{bit_and, and_zero_r}
-use Rattle.iloc_text.specs.Steps.Digits.{IsNumber}
+use Rattle.iloc_text.proofs.Common.{ℕ, ◌≤◌, drop, refl, ap, ◌∙◌, inl, inr, arith, and_zero_r, bit_and, IsNumber}
 use Rattle.iloc_text.proofs.Digits.{Counted, counted_by, few_counted, short_number}
 use Rattle.iloc_text.proofs.line.numbers.short_number_at.Goals as goal
 

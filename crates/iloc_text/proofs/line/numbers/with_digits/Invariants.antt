@@ -1,5 +1,4 @@
-use Rattle.std.proofs.Common.{◌≡◌, ◌≤◌, ◌-◌, length, drop}
-use Rattle.iloc_text.specs.Steps.Scan.{digits_after}
+use Rattle.iloc_text.proofs.Common.{◌≡◌, ◌-◌, ◌≤◌, length, drop, digits_after}
 use Rattle.iloc_text.proofs.line.numbers.with_digits.Given as goal
 
 abbrev pub invariant-loop-digit : goal.invariant-loop-digit

@@ -1,5 +1,4 @@
-use Rattle.std.proofs.Common.{sym, subst}
-use Rattle.iloc_text.specs.Grammar.{OptionalLabel}
+use Rattle.iloc_text.proofs.Common.{sym, subst, OptionalLabel}
 use Rattle.iloc_text.proofs.Parts.{Before}
 use Rattle.iloc_text.proofs.Tokens.{blanks_read}
 use Rattle.iloc_text.proofs.Labels.{label_read}

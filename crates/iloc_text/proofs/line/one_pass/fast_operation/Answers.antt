@@ -1,7 +1,4 @@
-use Rattle.std.proofs.Common.{◌-◌, length, drop, length-drop, Some, subst, arith}
-use Rattle.std.proofs.lemmas.List.{take_all}
-use Rattle.iloc_text.specs.Grammar.{◌⋅◌, Blanks, OptionalComment}
-use Rattle.iloc_text.specs.Steps.LineReads.{FirstIs}
+use Rattle.iloc_text.proofs.Common.{◌-◌, length, drop, Some, subst, arith, length-drop, take_all, Blanks, OptionalComment, ◌⋅◌, FirstIs}
 use Rattle.iloc_text.proofs.OnePass.{operation_first}
 use Rattle.iloc_text.proofs.line.one_pass.fast_operation.Goals as goal
 

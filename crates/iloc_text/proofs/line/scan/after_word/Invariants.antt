@@ -1,5 +1,4 @@
-use Rattle.std.proofs.Common.{◌≡◌, ◌≤◌, length}
-use Rattle.iloc_text.specs.Steps.Scan.{after_word}
+use Rattle.iloc_text.proofs.Common.{◌≡◌, ◌≤◌, length, after_word}
 use Rattle.iloc_text.proofs.line.scan.after_word.Given as goal
 
 abbrev pub invariant-loop-rest : goal.invariant-loop-rest

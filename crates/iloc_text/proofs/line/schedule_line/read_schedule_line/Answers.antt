@@ -1,5 +1,4 @@
-use Rattle.std.proofs.Common.{◌∙◌, option_map, sym, ap}
-use Rattle.iloc_text.specs.ScheduleLines.{said_of}
+use Rattle.iloc_text.proofs.Common.{option_map, sym, ap, ◌∙◌, said_of}
 use Rattle.iloc_text.proofs.ScheduleLines.Says.{said_bad, said_good, said_large}
 use Rattle.iloc_text.proofs.line.schedule_line.read_schedule_line.Goals as goal
 

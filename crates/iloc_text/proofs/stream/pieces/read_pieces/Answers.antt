@@ -1,7 +1,6 @@
-use Rattle.std.proofs.Common.{◌++◌, ◌≤◌, [], refl, sym, subst, take, drop, length, length-append, length-take, arith}
+use Rattle.iloc_text.proofs.Common.{◌≤◌, [], ◌++◌, length, take, drop, sym, refl, subst, arith, length-append, length-take, take-append-le}
 use Rattle.std.specs.Io.KnownBytes.{Consumes}
 use Rattle.std.proofs.KnownBytes.{Consumes-nil, Consumes-trans}
-use Rattle.std.proofs.lemmas.List.{take-append-le}
 use Rattle.iloc_text.proofs.stream.pieces.read_pieces.Goals as goal
 
 pub loop-left-init : goal.loop-left-init

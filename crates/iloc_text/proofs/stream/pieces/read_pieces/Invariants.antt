@@ -1,6 +1,5 @@
-use Rattle.std.proofs.Common.{◌≡◌, ◌+◌, ℕ, List, length}
+use Rattle.iloc_text.proofs.Common.{◌≡◌, ℕ, ◌+◌, List, length, MAX_INPUT}
 use Rattle.std.specs.Io.KnownBytes.{Consumes}
-use Rattle.iloc_ops.specs.Limits.{MAX_INPUT}
 use Rattle.iloc_text.proofs.stream.pieces.read_pieces.Given as goal
 
 -- what came so far, which the taker took

@@ -1,10 +1,6 @@
-use Rattle.std.proofs.Common.{rules, ◌≡◌, ◌∙◌, [], ◌∷◌, ◌++◌, length, refl, sym, ap, append_assoc, ◌+◌, ◌≤◌, List, sum_by, drop, ap₂, arith}
+use Rattle.iloc_text.proofs.Common.{◌≡◌, ◌+◌, ◌≤◌, List, [], ◌∷◌, ◌++◌, length, drop, sum_by, sym, refl, ap, ◌∙◌, ap₂, append_assoc, arith, length-drop, take_all, rules, drop-append-le, take-append-le, Block, Op, taken_apart}
 use Rattle.iloc_text.specs.declared.reader.copies.Unsettled.{Unsettled}
-use Rattle.iloc_ops.specs.declared.file.Block.{Block}
-use Rattle.iloc_text.specs.Steps.Copied.{taken_apart}
-use Rattle.std.proofs.lemmas.List.{take-append-le, drop-append-le, take_all, length-drop}
 use Rattle.std.proofs.lemmas.List.Sums.{sum_by-cons}
-use Rattle.iloc_ops.specs.declared.op.Op.{Op}
 use Rattle.iloc_text.proofs.reader.copies.Copies.add.Goals as goal
 
 -- How blocks wait for their operations.

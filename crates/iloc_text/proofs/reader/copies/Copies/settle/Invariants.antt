@@ -1,7 +1,6 @@
-use Rattle.std.proofs.Common.{◌≡◌, ◌+◌, [], ◌++◌, length, sum_by, drop}
+use Rattle.iloc_text.proofs.Common.{◌≡◌, ◌+◌, [], ◌++◌, length, drop, sum_by, all_of, taken_apart}
 use Rattle.std.specs.Arc.{arc_value}
 use Rattle.std.specs.Vec.Iter.{drain_items, drain_kept}
-use Rattle.iloc_text.specs.Steps.Copied.{all_of, taken_apart}
 use Rattle.iloc_text.proofs.reader.copies.Copies.settle.Given as goal
 
 -- those that are left wait for what is left of the list

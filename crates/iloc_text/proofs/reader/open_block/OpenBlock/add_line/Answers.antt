@@ -1,8 +1,4 @@
-use Rattle.std.proofs.Common.{◌≡◌, ◌∙◌, Some, None, Err, option_map, refl, sym, ap}
-use Rattle.std.proofs.lemmas.Result.{err_from_is_err_and}
-use Rattle.iloc_text.specs.Steps.Growth.{with_optional_label}
-use Rattle.iloc_text.specs.Steps.LineReads.{label_of}
-use Rattle.iloc_text.specs.Steps.Open.{HasTaken}
+use Rattle.iloc_text.proofs.Common.{◌≡◌, Some, None, Err, option_map, sym, refl, ap, ◌∙◌, err_from_is_err_and, with_optional_label, label_of, HasTaken}
 use Rattle.iloc_text.proofs.Growing.{label_fails}
 use Rattle.iloc_text.proofs.reader.open_block.OpenBlock.add_line.Goals as goal
 use Rattle.iloc_text.proofs.reader.open_block.OpenBlock.add_line.Goals.{in-Some+in_ok-open, in_default}

@@ -1,7 +1,4 @@
-use Rattle.std.proofs.Common.{◌≡◌, ◌∙◌, ◌<◌, List, Some, None, length, sym, arith}
-use Rattle.iloc_ops.specs.declared.file.Block.{Block}
-use Rattle.iloc_text.specs.Steps.Growth.{opened, with_op, with_optional_op}
-use Rattle.iloc_text.specs.Steps.Open.{HasTaken}
+use Rattle.iloc_text.proofs.Common.{◌≡◌, ◌<◌, List, length, Some, None, sym, ◌∙◌, arith, Block, opened, with_op, with_optional_op, HasTaken}
 use Rattle.iloc_text.proofs.Growing.{pushed_behind, with_optional-none, with_optional-some, length-opened}
 use Rattle.iloc_text.proofs.reader.open_block.OpenBlock.add_op.Goals as goal
 use Rattle.iloc_text.proofs.reader.open_block.OpenBlock.add_op.Goals.{then-self-eq0, else-self-eq0}

@@ -1,5 +1,4 @@
-use Rattle.std.proofs.Common.{◌≡◌, ◌∙◌, ◌++◌, [], ◌∷◌, sym, ap, append_assoc, length, length-append, arith}
-use Rattle.iloc_text.specs.Steps.Copied.{all_of}
+use Rattle.iloc_text.proofs.Common.{◌≡◌, [], ◌∷◌, ◌++◌, length, sym, ap, ◌∙◌, append_assoc, arith, length-append, all_of}
 use Rattle.iloc_text.proofs.reader.open_block.OpenBlock.hand_on.Goals as goal
 
 pub returns : goal.returns

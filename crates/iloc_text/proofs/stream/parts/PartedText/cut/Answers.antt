@@ -1,5 +1,4 @@
-use Rattle.std.proofs.Common.{◌≡◌, ◌∙◌, ◌++◌, ◌∷◌, [], length, take, refl, sym, ap}
-use Rattle.std.proofs.Math.Seq.{take-append_seam}
+use Rattle.iloc_text.proofs.Common.{◌≡◌, [], ◌∷◌, ◌++◌, length, take, sym, refl, ap, ◌∙◌, take-append_seam}
 use Rattle.iloc_text.proofs.PartReads.{begun_as, cut_off}
 use Rattle.iloc_text.proofs.stream.parts.PartedText.cut.Goals as goal
 

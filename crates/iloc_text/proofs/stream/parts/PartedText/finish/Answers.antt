@@ -1,7 +1,4 @@
-use Rattle.std.proofs.Common.{◌≡◌, ◌∙◌, ◌++◌, Err, sym, ap, subst}
-use Rattle.std.proofs.lemmas.Result.{err_from_is_err_and}
-use Rattle.iloc_text.specs.Files.{Denotes}
-use Rattle.iloc_text.specs.Steps.PartReads.{HasCome}
+use Rattle.iloc_text.proofs.Common.{◌≡◌, ◌++◌, Err, sym, ap, ◌∙◌, subst, err_from_is_err_and, Denotes, HasCome}
 use Rattle.iloc_text.proofs.PartReads.{err_as, none_left}
 use Rattle.iloc_text.proofs.stream.parts.PartedText.finish.Goals.{then-len-gt0+in_ok-cut, else-len-gt0}
 use Rattle.iloc_text.proofs.stream.parts.PartedText.finish.Goals as goal

@@ -1,6 +1,4 @@
-use Rattle.std.proofs.Common.{[], sym, ap}
-use Rattle.std.specs.List.{flat_map}
-use Rattle.iloc_text.specs.Steps.PartReads.{ended}
+use Rattle.iloc_text.proofs.Common.{[], flat_map, sym, ap, ended}
 use Rattle.iloc_text.proofs.stream.parts.PartedText.new.Goals as goal
 
 pub returns : goal.returns

@@ -1,5 +1,4 @@
-use Rattle.std.proofs.Common.{refl, sym, subst}
-use Rattle.iloc_text.specs.Steps.PartReads.{HasBegun}
+use Rattle.iloc_text.proofs.Common.{sym, refl, subst, HasBegun}
 use Rattle.iloc_text.proofs.PartReads.{begun_as, one_started, one_taken}
 use Rattle.iloc_text.proofs.stream.parts.PartedText.start.Goals.{then-len-self+in_ok-take_first, else-len-self}
 use Rattle.iloc_text.proofs.stream.parts.PartedText.start.Goals as goal

@@ -1,5 +1,4 @@
-use Rattle.std.proofs.Common.{◌≡◌, ℕ, List, length}
-use Rattle.iloc_text.specs.Steps.PartReads.{HasBegun}
+use Rattle.iloc_text.proofs.Common.{◌≡◌, ℕ, List, length, HasBegun}
 use Rattle.iloc_text.proofs.stream.parts.PartedText.take_all.Given as goal
 
 -- what came is the same, and what was read is no other text

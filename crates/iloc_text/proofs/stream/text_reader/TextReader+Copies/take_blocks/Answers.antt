@@ -1,10 +1,4 @@
-use Rattle.std.proofs.Common.{◌≡◌, ◌∙◌, ◌+◌, ◌-◌, ◌^◌, min, ◌≤◌, ◌++◌, ◌∷◌, [], refl, sym, ap, ap₂, subst, length, length-append, arith}
-use Rattle.std.proofs.lemmas.Bool.Decides.{nat_tests}
-use Rattle.iloc_ops.specs.Limits.{MAX_INPUT}
-use Rattle.iloc_text.specs.Lines.{lines_of}
-use Rattle.iloc_text.specs.Steps.Copied.{has_copied}
-use Rattle.iloc_text.specs.Steps.TextReads.{StandsAt}
-use Rattle.iloc_text.specs.Steps.Verdicts.{answer_from}
+use Rattle.iloc_text.proofs.Common.{◌≡◌, ◌+◌, ◌-◌, ◌^◌, ◌≤◌, min, [], ◌∷◌, ◌++◌, length, sym, refl, ap, ◌∙◌, subst, ap₂, arith, length-append, nat_tests, MAX_INPUT, lines_of, has_copied, StandsAt, answer_from}
 use Rattle.iloc_text.proofs.Apart.{denoted_behind}
 use Rattle.iloc_text.proofs.Splitting.{lines_few}
 use Rattle.iloc_text.proofs.TextReads.{count_further, goes_further, opens_behind, stands_behind}

@@ -1,6 +1,4 @@
-use Rattle.std.proofs.Common.{◌∙◌, ◌+◌, Err, ap, subst}
-use Rattle.std.proofs.lemmas.Result.{err_from_is_err_and}
-use Rattle.iloc_text.specs.Steps.TextReads.{HasFault, StandsAt}
+use Rattle.iloc_text.proofs.Common.{◌+◌, Err, ap, ◌∙◌, subst, err_from_is_err_and, HasFault, StandsAt}
 use Rattle.iloc_text.proofs.Reading.{err_refused, denoted}
 use Rattle.iloc_text.proofs.TextReads.{answer_at_end, refused_at_end, short_by_count}
 use Rattle.iloc_text.proofs.stream.text_reader.TextReader.finish.Goals as goal

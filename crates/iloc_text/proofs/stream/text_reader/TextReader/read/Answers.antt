@@ -1,6 +1,4 @@
-use Rattle.std.proofs.Common.{◌∙◌, ◌-◌, ◌≤◌, ◌^◌, min, ap, refl, sym, subst, length, length-append, arith}
-use Rattle.iloc_ops.specs.Limits.{MAX_INPUT}
-use Rattle.iloc_text.specs.Steps.TextReads.{StandsAt}
+use Rattle.iloc_text.proofs.Common.{◌-◌, ◌^◌, ◌≤◌, min, length, sym, refl, ap, ◌∙◌, subst, arith, length-append, MAX_INPUT, StandsAt}
 use Rattle.iloc_text.proofs.TextReads.{goes_as, count_further, none_where_not_some}
 use Rattle.iloc_text.proofs.stream.text_reader.TextReader.read.Goals as goal
 

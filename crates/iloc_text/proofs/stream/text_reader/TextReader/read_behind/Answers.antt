@@ -1,9 +1,4 @@
-use Rattle.std.proofs.Common.{◌∙◌, ◌≡◌, ◌==◌, ◌+◌, ◌++◌, true, length, vec_len, arith, sym, subst, subst₂}
-use Rattle.std.proofs.lemmas.Bool.Decides.{nat_tests}
-use Rattle.std.proofs.lemmas.List.{nil_from_length}
-use Rattle.iloc_text.specs.Lines.{lines_of}
-use Rattle.iloc_text.specs.Steps.Open.{HasTaken}
-use Rattle.iloc_text.specs.Steps.Verdicts.{Answered, answer_from}
+use Rattle.iloc_text.proofs.Common.{◌≡◌, ◌+◌, true, ◌++◌, length, ◌==◌, vec_len, sym, ◌∙◌, subst, subst₂, arith, nat_tests, nil_from_length, lines_of, HasTaken, Answered, answer_from}
 use Rattle.iloc_text.proofs.TextReads.{taken_as}
 use Rattle.iloc_text.proofs.stream.text_reader.TextReader.read_behind.Goals as goal
 

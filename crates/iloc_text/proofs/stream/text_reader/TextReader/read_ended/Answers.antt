@@ -1,6 +1,4 @@
-use Rattle.std.proofs.Common.{◌∙◌, ◌≡◌, ◌+◌, ◌-◌, ◌++◌, Err, length, take, drop, ap, length-append, length-take, length-drop, arith}
-use Rattle.std.proofs.lemmas.List.{take_all}
-use Rattle.std.proofs.lemmas.Result.{err_from_is_err_and}
+use Rattle.iloc_text.proofs.Common.{◌≡◌, ◌+◌, ◌-◌, ◌++◌, length, take, drop, Err, ap, ◌∙◌, arith, length-append, length-drop, length-take, take_all, err_from_is_err_and}
 use Rattle.iloc_text.proofs.Splitting.{lines_few}
 use Rattle.iloc_text.proofs.TextReads.{err_further, goes_further, split_at, taken_as}
 use Rattle.iloc_text.proofs.stream.text_reader.TextReader.read_ended.Goals as goal

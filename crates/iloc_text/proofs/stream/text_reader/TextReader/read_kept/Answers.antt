@@ -1,7 +1,4 @@
-use Rattle.std.proofs.Common.{◌+◌, subst}
-use Rattle.iloc_text.specs.Lines.{lines_of}
-use Rattle.iloc_text.specs.Steps.Open.{HasTaken}
-use Rattle.iloc_text.specs.Steps.Verdicts.{Answered, answer_from}
+use Rattle.iloc_text.proofs.Common.{◌+◌, subst, lines_of, HasTaken, Answered, answer_from}
 use Rattle.iloc_text.proofs.stream.text_reader.TextReader.read_kept.Goals as goal
 
 pub returns-clause-blocks : goal.returns-clause-blocks

@@ -1,7 +1,4 @@
-use Rattle.std.proofs.Common.{◌∙◌, ◌≢◌, ◌+◌, ◌++◌, Err, IfErr, OnOk, take, drop, ap, sym, subst, take-append-drop}
-use Rattle.std.proofs.lemmas.Result.{err_from_is_err_and}
-use Rattle.iloc_text.specs.declared.fault.ReadFault.TheVariants.{NoMemory as no_memory}
-use Rattle.iloc_text.specs.Steps.TextReads.{GoesOn, HasFault}
+use Rattle.iloc_text.proofs.Common.{◌+◌, ◌≢◌, ◌++◌, take, drop, IfErr, OnOk, Err, sym, ap, ◌∙◌, subst, take-append-drop, err_from_is_err_and, GoesOn, HasFault, NoMemory as no_memory}
 use Rattle.iloc_text.proofs.TextReads.{fault_longer, joined}
 use Rattle.iloc_text.proofs.stream.text_reader.TextReader.read_piece.Goals as goal
 
