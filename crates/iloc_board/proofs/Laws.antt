@@ -6,7 +6,7 @@ use Rattle.iloc_board.specs.Play as play
 use Rattle.iloc_board.proofs.Effects.{finds, misses, none, wins, returns, waits, effect, state_here}
 use Rattle.iloc_board.proofs.Taking.{Stands, begins, stands, state_by, looked_within}
 
-free_holds : (s : State) (k : ℕ) → is_holding s ≡ false → holds_job s k ≡ false
+pub free_holds : (s : State) (k : ℕ) → is_holding s ≡ false → holds_job s k ≡ false
 free_holds (Holding j) k e = absurd (cc)
 free_holds s k e = refl
 
