@@ -1,23 +1,9 @@
 -- A text has one answer.
-use Rattle.std.proofs.Common.{◌≡◌, ◌∙◌, ℕ, ◌+◌, ◌<◌, ◌≤◌, Bool, true, false, List, [], ◌∷◌, ◌++◌, length, refl, sym, ap, ap₂, subst, subst₂, Some, None, ◌⊎◌, inl, inr, append_assoc, append-nil, arith}
-use Rattle.std.specs.List.{join_with_byte}
-use Rattle.iloc_ops.specs.Limits.{MAX_INPUT}
-use Rattle.iloc_ops.specs.declared.file.Block.{Block}
+use Rattle.iloc_rows.proofs.Common.{◌≡◌, ℕ, ◌+◌, ◌<◌, ◌≤◌, Bool, true, false, ◌⊎◌, List, [], ◌∷◌, ◌++◌, length, Some, None, sym, refl, ap, ◌∙◌, subst, ap₂, subst₂, inl, inr, append_assoc, append-nil, arith, join_with_byte, MAX_INPUT, Block, one_said, AreLines, Said, Says, BadLine, InputTooLong, TooManyOperations, AllFit, Fits, is_of_block, proposals_of, BlocksAreRefused, BlocksEnd, Denotes, HasNoBlocks, HaveFirstFault, HoldsTooManyOperations, IsFaulty, IsOfNoBlock, IsRefused, RowsAreRefused, StartWithSchedule, TellAll, Tells, Told, read, unread, RowsFault, NoBlocks, NoSuchBlock, Read, Proposed}
 use Rattle.iloc_text.specs.declared.fault.ReadFault.{ReadFault}
-use Rattle.iloc_text.specs.declared.fault.ReadFault.TheVariants.{InputTooLong, BadLine, TooManyOperations}
 use Rattle.iloc_text.specs.Files as files
-use Rattle.iloc_text.specs.Files.{AreLines}
-use Rattle.iloc_text.specs.ScheduleLines.{Said, Says}
 use Rattle.iloc_text.proofs.Answer.{lines_are_of, one_answer}
-use Rattle.iloc_text.proofs.ScheduleLines.Says.{one_said}
-use Rattle.iloc_rows.specs.declared.fault.RowsFault.{RowsFault}
-use Rattle.iloc_rows.specs.declared.fault.RowsFault.TheVariants.{Read, NoBlocks, NoSuchBlock}
-use Rattle.iloc_rows.specs.declared.proposal.Proposed.{Proposed}
 use Rattle.iloc_rows.specs.Names.{misnamed}
-use Rattle.iloc_rows.specs.Told.{Told, Tells}
-use Rattle.iloc_rows.specs.Told.Told.{read, unread}
-use Rattle.iloc_rows.specs.Proposing.{is_of_block, proposals_of, Fits, AllFit}
-use Rattle.iloc_rows.specs.Submissions.{TellAll, BlocksEnd, StartWithSchedule, Denotes, IsOfNoBlock, HoldsTooManyOperations, IsFaulty, HaveFirstFault, HasNoBlocks, BlocksAreRefused, RowsAreRefused, IsRefused}
 use Rattle.iloc_rows.specs.Laws as laws
 
 -- Where the blocks end

@@ -1,20 +1,10 @@
 -- Exchanging the operations of rows keeps the limits.
-use Rattle.std.proofs.Common.{◌≡◌, ◌∙◌, ℕ, zero, suc, Option, ◌==◌, ◌&&◌, Bool, true, List, [], ◌∷◌, length, map, count_by, option_to_list, refl, arith}
-use Rattle.std.specs.List.{AllByRecursion}
-use Rattle.std.specs.Prelude.{MatchOption}
-use Rattle.std.proofs.lemmas.List.{length-map}
+use Rattle.iloc_rows.proofs.Common.{◌≡◌, ℕ, zero, suc, Bool, true, ◌&&◌, List, [], ◌∷◌, map, length, ◌==◌, count_by, Option, MatchOption, option_to_list, refl, ◌∙◌, arith, and_from, and_right, length-map, AllByRecursion, Op, Row, AllKeepUnits, IsFirstThatBreaks, exchanged, in_either_slot, with_either_slot, PlacedRowsAreWithinLimits, IsNumbered, Proposed}
 use Rattle.std.proofs.lemmas.List.Folds.{list_all-append}
 use Rattle.std.proofs.lemmas.List.Sums.{sum_by-cons}
-use Rattle.std.proofs.lemmas.Bool.{and_from, and_right}
-use Rattle.iloc_ops.specs.declared.op.Op.{Op}
-use Rattle.iloc_timed.specs.declared.row.Row.{Row}
 use Rattle.iloc_timed.specs.Rows.{slots, times_issued, IsTable}
 use Rattle.iloc_timed.specs.Schedule.{AreOnce, AreInRange, IsFirstBadRow, in_range}
 use Rattle.iloc_timed.proofs.Standing.{table_from}
-use Rattle.iloc_rows.specs.declared.proposal.Proposed.{Proposed}
-use Rattle.iloc_rows.specs.Proposing.{IsNumbered}
-use Rattle.iloc_rows.specs.EitherSlot.{AllKeepUnits, IsFirstThatBreaks, exchanged, in_either_slot, with_either_slot}
-use Rattle.iloc_rows.specs.Laws.{PlacedRowsAreWithinLimits}
 use Rattle.iloc_rows.proofs.Slots.{two_slots}
 
 -- One row

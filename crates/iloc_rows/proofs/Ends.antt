@@ -1,15 +1,8 @@
 -- Where the blocks of a text end.
-use Rattle.std.proofs.Common.{◌≡◌, ◌≢◌, ◌∙◌, ℕ, ◌+◌, ◌-◌, ◌≤◌, List, [], ◌∷◌, ◌++◌, length, take, refl, sym, ap, subst, Some, None, Option, append_assoc, append-nil, length-append, Bor, Bool, not, MatchBool, arith}
+use Rattle.iloc_rows.proofs.Common.{◌≡◌, ℕ, ◌+◌, ◌-◌, ◌≤◌, Bool, not, ◌≢◌, List, [], ◌∷◌, ◌++◌, length, take, Some, None, MatchBool, Option, sym, refl, ap, ◌∙◌, subst, append_assoc, append-nil, arith, length-append, Bor, AllByRecursion, join_with_byte, nothing_alone, lines_few, lines_left, lines_of, IsScheduleLine, Said, Says, SaysSomething, SaysSomethingWidely, SaysWidely, cycles, head, nothing, row, total, StartWithSchedule}
 use Rattle.std.proofs.Math.Seq.{take-append_seam}
-use Rattle.std.specs.List.{AllByRecursion, join_with_byte}
 use Rattle.std.proofs.lemmas.List.Splits.{join_with_byte-slice_split}
-use Rattle.iloc_text.specs.ScheduleLines.{Said, SaysWidely, Says, SaysSomething, SaysSomethingWidely, IsScheduleLine}
-use Rattle.iloc_text.specs.ScheduleLines.Said.{nothing, row, head, cycles, total}
-use Rattle.iloc_text.specs.Lines.{lines_of, lines_left}
-use Rattle.iloc_text.proofs.ScheduleLines.Says.{nothing_alone}
-use Rattle.iloc_text.proofs.Splitting.{lines_few}
 use Rattle.iloc_text.proofs.Every.{all-snoc}
-use Rattle.iloc_rows.specs.Submissions.{StartWithSchedule}
 use Rattle.iloc_rows.specs.Steps.Ends.{is_nothing}
 
 -- Schedule lines

@@ -1,28 +1,9 @@
 -- Every text has an answer: its blocks end somewhere, and line by line each schedule line is read or faulty.
-use Rattle.std.proofs.Common.{◌≡◌, ◌∙◌, ℕ, ◌+◌, ◌<◌, ◌≤◌, nat_lt, Bool, true, false, List, [], ◌∷◌, ◌++◌, length, refl, sym, ap, subst, Option, Some, None, ◌⊎◌, inl, inr, append_assoc, append-nil, arith}
-use Rattle.std.specs.List.{join_with_byte}
-use Rattle.std.proofs.lemmas.Bool.{ltb-true, ltb-false}
-use Rattle.iloc_ops.specs.Limits.{MAX_INPUT, MAX_OPS}
-use Rattle.iloc_ops.specs.declared.file.Block.{Block}
-use Rattle.iloc_text.specs.declared.fault.ReadFault.TheVariants.{InputTooLong, BadLine, TooManyOperations}
+use Rattle.iloc_rows.proofs.Common.{◌≡◌, ℕ, ◌+◌, ◌<◌, ◌≤◌, Bool, true, false, ◌⊎◌, List, [], ◌∷◌, ◌++◌, length, nat_lt, Some, None, Option, sym, refl, ap, ◌∙◌, subst, inl, inr, append_assoc, append-nil, arith, ltb-false, ltb-true, join_with_byte, MAX_INPUT, MAX_OPS, Block, said_bad, said_good, said_large, lines_are, AreLines, lines_of, IsScheduleLine, Said, Says, SaysSomething, cycles, head, nothing, row, total, BadLine, InputTooLong, TooManyOperations, TextsHaveAnAnswer, AllFit, Fits, is_of_block, op_count, proposals_of, BlocksEnd, Denotes, HaveFirstFault, IsFaulty, IsRefused, Propose, TellAll, Tells, Told, read, unread, RowsFault, NoBlocks, NoSuchBlock, Read, Proposed}
 use Rattle.iloc_text.specs.Files as files
-use Rattle.iloc_text.specs.Files.{AreLines}
-use Rattle.iloc_text.specs.ScheduleLines.{Said, Says, SaysSomething, IsScheduleLine}
-use Rattle.iloc_text.specs.ScheduleLines.Said.{nothing, row, head, cycles, total}
-use Rattle.iloc_text.specs.Lines.{lines_of}
 use Rattle.iloc_text.specs.Steps.ScheduleScan.{schedule_line_at, is_said_within}
 use Rattle.iloc_text.proofs.Every as files_every
-use Rattle.iloc_text.proofs.ScheduleLines.Says.{said_bad, said_good, said_large}
-use Rattle.iloc_text.proofs.Splitting.{lines_are}
-use Rattle.iloc_rows.specs.declared.fault.RowsFault.{RowsFault}
-use Rattle.iloc_rows.specs.declared.fault.RowsFault.TheVariants.{Read, NoBlocks, NoSuchBlock}
-use Rattle.iloc_rows.specs.declared.proposal.Proposed.{Proposed}
 use Rattle.iloc_rows.specs.Names.{misnamed}
-use Rattle.iloc_rows.specs.Told.{Told, Tells}
-use Rattle.iloc_rows.specs.Told.Told.{read, unread}
-use Rattle.iloc_rows.specs.Proposing.{proposals_of, is_of_block, op_count, Fits, AllFit}
-use Rattle.iloc_rows.specs.Submissions.{TellAll, BlocksEnd, Propose, Denotes, IsFaulty, HaveFirstFault, IsRefused}
-use Rattle.iloc_rows.specs.Laws.{TextsHaveAnAnswer}
 use Rattle.iloc_rows.proofs.Ends.{nothing_is_none, bad_is_none, large_is_one}
 use Rattle.iloc_rows.proofs.Reading.{TellAll-snoc, AllFit-snoc, blocks_refuse, rows_refuse}
 

@@ -1,22 +1,9 @@
 -- What the steps of the reader do to what is proposed.
-use Rattle.std.proofs.Common.{◌≡◌, ◌≢◌, ◌∙◌, ℕ, ◌+◌, ◌<◌, ◌≤◌, nat_lt, nat_le, max, true, false, ◌&&◌, ◌||◌, ◌==◌, List, [], ◌∷◌, ◌++◌, length, refl, sym, ap, ap₂, subst, Option, Some, None, Result, Ok, Err, set, inl, inr, ◌⊎◌, arith}
-use Rattle.std.proofs.lemmas.List.{get_or_past}
+use Rattle.iloc_rows.proofs.Common.{◌≡◌, ℕ, ◌+◌, ◌<◌, ◌≤◌, max, true, false, ◌&&◌, ◌||◌, ◌≢◌, ◌⊎◌, List, [], ◌∷◌, ◌++◌, length, set, nat_lt, nat_le, ◌==◌, Some, None, Ok, Err, Option, Result, sym, refl, ap, ◌∙◌, subst, ap₂, inl, inr, arith, lt-ltb, get_or_past, Block, Op, cycles, head, nothing, row, total, BadLine, NoMemory, TooManyOperations, block_of, cycles_in, head_number, is_of_block, last_block, op_count, proposal_of, proposals_of, proposes, row_in, unread_in, Adds, Becomes, HasProposed, RowAdds, Turns, at_place, later_place, none_proposed, place, with_cycles, with_row, with_unread, Told, read, unread, RowsFault, NoSuchBlock, Read, Proposed}
 use Rattle.std.proofs.lemmas.List.FromFn.{length-map-range_with_len, get_or-map-range_with_len}
 use Rattle.std.proofs.lemmas.Bool.Decides.{nat_tests}
-use Rattle.std.proofs.lemmas.Bool.{lt-ltb}
-use Rattle.iloc_ops.specs.declared.op.Op.{Op}
-use Rattle.iloc_ops.specs.declared.file.Block.{Block}
-use Rattle.iloc_text.specs.declared.fault.ReadFault.TheVariants.{BadLine, TooManyOperations, NoMemory}
-use Rattle.iloc_text.specs.ScheduleLines.Said.{nothing, row, head, cycles, total}
 use Rattle.iloc_timed.specs.Limits.{MAX_ROWS}
-use Rattle.iloc_rows.specs.declared.fault.RowsFault.{RowsFault}
-use Rattle.iloc_rows.specs.declared.fault.RowsFault.TheVariants.{Read, NoSuchBlock}
-use Rattle.iloc_rows.specs.declared.proposal.Proposed.{Proposed}
 use Rattle.iloc_rows.specs.declared.proposing.Proposing.{Proposing}
-use Rattle.iloc_rows.specs.Told.{Told}
-use Rattle.iloc_rows.specs.Told.Told.{read, unread}
-use Rattle.iloc_rows.specs.Proposing.{last_block, block_of, head_number, proposes, row_in, unread_in, cycles_in, proposal_of, proposals_of, is_of_block, op_count}
-use Rattle.iloc_rows.specs.Steps.Growth.{none_proposed, with_row, with_unread, with_cycles, place, later_place, at_place, HasProposed, Adds, RowAdds, Becomes, Turns}
 use Rattle.iloc_rows.proofs.Picking.{last_block-none, last_block-more, last_block-head}
 use Rattle.iloc_rows.proofs.Numbering.{ops_in-snoc, proposal-same, proposal-else, proposal-row, proposal-unread, proposal-cycles, proposal-short, map-same, map-set}
 

@@ -1,3 +1,4 @@
+pub mod Common
 pub mod Picking
 pub mod Numbering
 pub mod Growing

@@ -1,16 +1,6 @@
 -- What one more row or claim does to a proposal.
-use Rattle.std.proofs.Common.{◌≡◌, ◌≢◌, ◌∙◌, ℕ, suc, zero, ◌+◌, ◌<◌, ◌≤◌, List, [], ◌∷◌, ◌++◌, length, map, refl, sym, ap, ap₂, Option, Some, None, append_assoc, append-nil, length-append, set, arith}
-use Rattle.std.specs.List.{range_with_len}
+use Rattle.iloc_rows.proofs.Common.{◌≡◌, ℕ, zero, suc, ◌+◌, ◌<◌, ◌≤◌, ◌≢◌, List, [], ◌∷◌, ◌++◌, map, length, set, Some, None, Option, sym, refl, ap, ◌∙◌, ap₂, append_assoc, append-nil, arith, length-append, range_with_len, Op, Nop, cycles, row, Row, block_of, claims_of, cycles_in, filled, first_unread, last_of, numbered, ops_in, proposal_of, proposals_of, row_in, rows_of, slot, unread_in, unread_of, none_proposed, or_this, with_cycles, with_row, with_unread, Told, read, unread, Proposed}
 use Rattle.std.proofs.lemmas.List.FromFn.{map-range_with_len_more}
-use Rattle.iloc_ops.specs.declared.op.Op.{Op}
-use Rattle.iloc_ops.specs.declared.op.Op.TheVariants.{Nop}
-use Rattle.iloc_text.specs.ScheduleLines.Said.{row, cycles}
-use Rattle.iloc_timed.specs.declared.row.Row.{Row}
-use Rattle.iloc_rows.specs.declared.proposal.Proposed.{Proposed}
-use Rattle.iloc_rows.specs.Told.{Told}
-use Rattle.iloc_rows.specs.Told.Told.{read, unread}
-use Rattle.iloc_rows.specs.Proposing.{block_of, row_in, unread_in, cycles_in, rows_of, unread_of, claims_of, first_unread, filled, ops_in, slot, numbered, last_of, proposal_of, proposals_of}
-use Rattle.iloc_rows.specs.Steps.Growth.{none_proposed, with_row, with_unread, or_this, with_cycles}
 use Rattle.iloc_rows.proofs.Picking.{last_of-snoc, picked-alike, picked-nothing, picked-here, picked-else, picked-short, picked-none}
 
 abbrev pub ops_of_row : Op × Op → List Op

@@ -1,13 +1,9 @@
 -- What one more line does to what is picked of the lines of a block.
-use Rattle.std.proofs.Common.{◌≡◌, ◌≢◌, ◌∙◌, ℕ, suc, ◌<◌, ◌≤◌, max, true, false, cond, ◌||◌, ◌==◌, List, [], ◌∷◌, ◌++◌, length, map, filter_map, refl, ap, Option, Some, None, unwrap_or, option_to_list, append-nil, eq-eqb, ne_eqb, arith}
-use Rattle.std.proofs.lemmas.List.{map-append, length-map}
-use Rattle.std.specs.List.{list_any}
-use Rattle.std.specs.Option.{is_some}
+use Rattle.iloc_rows.proofs.Common.{◌≡◌, ℕ, suc, ◌<◌, ◌≤◌, max, true, false, cond, ◌||◌, ◌≢◌, List, [], ◌∷◌, ◌++◌, map, length, is_some, ◌==◌, Some, None, Option, option_to_list, filter_map, unwrap_or, refl, ap, ◌∙◌, append-nil, arith, eq-eqb, ne_eqb, length-map, map-append, list_any, block_of, fronts, head_number, last_of, of_last, proposes, Told}
 use Rattle.std.proofs.lemmas.List.Elements.{filter_map-append}
 use Rattle.std.proofs.lemmas.List.Folds.{list_any-append}
 use Rattle.iloc_text.proofs.BlockOps.{filter_map-one, one_or_none}
-use Rattle.iloc_rows.specs.Told.{Told}
-use Rattle.iloc_rows.specs.Proposing.{last_of, fronts, head_number, last_head, proposes, last_block, block_of, of_last, picked}
+use Rattle.iloc_rows.specs.Proposing.{last_head, last_block, picked}
 
 fronts-snoc : (ss : List Told) (s : Told) → fronts (ss ++ s ∷ []) ≡ fronts ss ++ (ss ++ s ∷ []) ∷ []
 fronts-snoc [] s = refl

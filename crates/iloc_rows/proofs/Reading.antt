@@ -1,24 +1,10 @@
 -- What the reader has read of schedule lines, from line to line.
-use Rattle.std.proofs.Common.{◌≡◌, ◌≢◌, ◌∙◌, ℕ, suc, ◌+◌, ◌<◌, ◌≤◌, List, [], ◌∷◌, ◌++◌, length, refl, sym, ap, subst, subst₂, Option, Some, None, Result, Err, IfErr, append_assoc, append-nil, length-append, Bor, arith}
-use Rattle.std.specs.List.{join_with_byte}
-use Rattle.iloc_ops.specs.Limits.{MAX_INPUT}
-use Rattle.iloc_ops.specs.declared.file.Block.{Block}
+use Rattle.iloc_rows.proofs.Common.{◌≡◌, ℕ, suc, ◌+◌, ◌<◌, ◌≤◌, ◌≢◌, List, [], ◌∷◌, ◌++◌, length, IfErr, Some, None, Err, Option, Result, sym, refl, ap, ◌∙◌, subst, subst₂, append_assoc, append-nil, arith, length-append, Bor, join_with_byte, MAX_INPUT, Block, lines_are, lines_few, AreLines, lines_left, lines_of, NoMemory, AllFit, Fits, proposals_of, Adds, HasProposed, AreRefusedFor, BlocksAreRefused, Denotes, HasNoBlocks, HaveFault, HaveFirstFault, IsFaulty, IsRefused, Propose, ProposeApart, RowsAreRefused, TellAll, Tells, Told, RowsFault, Read, Proposed}
 use Rattle.iloc_text.specs.declared.fault.ReadFault.{ReadFault}
-use Rattle.iloc_text.specs.declared.fault.ReadFault.TheVariants.{NoMemory}
 use Rattle.iloc_text.specs.Files as files
-use Rattle.iloc_text.specs.Files.{AreLines}
-use Rattle.iloc_text.specs.Lines.{lines_of, lines_left}
-use Rattle.iloc_text.proofs.Splitting.{lines_are, lines_few}
 use Rattle.iloc_timed.specs.Limits.{MAX_ROWS}
-use Rattle.iloc_rows.specs.declared.fault.RowsFault.{RowsFault}
-use Rattle.iloc_rows.specs.declared.fault.RowsFault.TheVariants.{Read}
 use Rattle.iloc_rows.specs.declared.blocks_end.CutText.{CutText}
-use Rattle.iloc_rows.specs.declared.proposal.Proposed.{Proposed}
 use Rattle.iloc_rows.specs.declared.proposing.Proposing.{Proposing}
-use Rattle.iloc_rows.specs.Told.{Told, Tells}
-use Rattle.iloc_rows.specs.Proposing.{proposals_of, Fits, AllFit}
-use Rattle.iloc_rows.specs.Submissions.{TellAll, Propose, Denotes, IsFaulty, HaveFirstFault, HasNoBlocks, BlocksAreRefused, RowsAreRefused, IsRefused, ProposeApart, HaveFault, AreRefusedFor}
-use Rattle.iloc_rows.specs.Steps.Growth.{HasProposed, Adds}
 use Rattle.iloc_rows.specs.Steps.Ends.{IsCutOf}
 use Rattle.iloc_rows.proofs.Picking.{last_block-nothing}
 use Rattle.iloc_rows.proofs.Ends.{join-append}

@@ -1,12 +1,8 @@
 -- Each operation of rows with numbers is in exactly one slot.
-use Rattle.std.proofs.Common.{◌≡◌, ◌≢◌, ◌∙◌, ℕ, zero, suc, ◌+◌, ◌<◌, ◌≤◌, ◌==◌, inl, inr, true, cond, List, [], ◌∷◌, ◌++◌, length, length-append, count_by, Option, Some, None, option_to_list, refl, arith, eq-eqb, ne_eqb}
-use Rattle.std.proofs.lemmas.Bool.{cases_lt, lt-ltb}
+use Rattle.iloc_rows.proofs.Common.{◌≡◌, ℕ, zero, suc, ◌+◌, ◌<◌, ◌≤◌, true, cond, ◌≢◌, List, [], ◌∷◌, ◌++◌, length, ◌==◌, Some, None, count_by, Option, option_to_list, refl, ◌∙◌, inl, inr, arith, length-append, lt-ltb, eq-eqb, ne_eqb, cases_lt, Op, Row, filled, numbered, ops_in, slot}
 use Rattle.std.proofs.lemmas.List.Sums.{sum_by-cons}
-use Rattle.iloc_ops.specs.declared.op.Op.{Op}
-use Rattle.iloc_timed.specs.declared.row.Row.{Row}
 use Rattle.iloc_timed.specs.Rows.{slots, times_issued}
 use Rattle.iloc_timed.specs.Schedule.{AreOnce, AreInRange, in_range}
-use Rattle.iloc_rows.specs.Proposing.{filled, slot, ops_in, numbered}
 use Rattle.iloc_rows.proofs.Numbering.{ops_of_row, row_after}
 
 -- One slot

@@ -1,20 +1,7 @@
 -- What a text denotes is within the limits.
-use Rattle.std.proofs.Common.{◌≡◌, ◌∙◌, ℕ, ◌≤◌, inl, inr, List, [], ◌∷◌, ◌++◌, length, map, refl, sym, ap, subst, append_assoc, append-nil, arith}
-use Rattle.std.specs.List.{AllByRecursion, range_with_len}
-use Rattle.std.proofs.lemmas.Bool.{cases_eq}
-use Rattle.iloc_ops.specs.Limits.{MAX_OPS}
-use Rattle.iloc_ops.specs.declared.op.Op.{Op}
-use Rattle.iloc_ops.specs.declared.op.Op.TheVariants.{Nop}
-use Rattle.iloc_ops.specs.declared.file.Block.{Block}
-use Rattle.iloc_text.specs.ScheduleLines.Said.{nothing, row, head, cycles, total}
+use Rattle.iloc_rows.proofs.Common.{◌≡◌, ℕ, ◌≤◌, List, [], ◌∷◌, ◌++◌, map, length, sym, refl, ap, ◌∙◌, subst, inl, inr, append_assoc, append-nil, arith, cases_eq, AllByRecursion, range_with_len, MAX_OPS, Block, Op, Nop, cycles, head, nothing, row, total, AreWithinLimits, SubmissionsApartAreWithinLimits, SubmissionsAreWithinLimits, AllFit, Fits, IsNumbered, block_of, ops_in, proposal_of, proposals_of, row_in, rows_of, Propose, Told, read, unread, Proposed}
 use Rattle.iloc_text.specs.Files as files
 use Rattle.iloc_text.proofs.Within.{files_within}
-use Rattle.iloc_rows.specs.declared.proposal.Proposed.{Proposed}
-use Rattle.iloc_rows.specs.Told.{Told}
-use Rattle.iloc_rows.specs.Told.Told.{read, unread}
-use Rattle.iloc_rows.specs.Proposing.{IsNumbered, block_of, row_in, rows_of, ops_in, proposal_of, proposals_of, Fits, AllFit}
-use Rattle.iloc_rows.specs.Laws.{AreWithinLimits, SubmissionsApartAreWithinLimits, SubmissionsAreWithinLimits}
-use Rattle.iloc_rows.specs.Submissions.{Propose}
 use Rattle.iloc_rows.proofs.Picking.{picked-nothing, picked-here, picked-else, picked-none}
 use Rattle.iloc_rows.proofs.Numbering.{ops_in-snoc}
 use Rattle.iloc_rows.proofs.Growing.{length-proposals, still_of}

@@ -1,6 +1,4 @@
-use Rattle.std.proofs.Common.{refl}
-use Rattle.iloc_ops.specs.declared.op.Op.TheVariants.{Nop}
-use Rattle.iloc_rows.specs.Laws.{SingleOperationsKeepTheUnits}
+use Rattle.iloc_rows.proofs.Common.{refl, Nop, SingleOperationsKeepTheUnits}
 use Rattle.iloc_rows.proofs.laws.single_operations_keep_the_units.Goals as goal
 
 -- The row of a single operation keeps the rules of the units.

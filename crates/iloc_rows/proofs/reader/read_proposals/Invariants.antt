@@ -1,5 +1,4 @@
-use Rattle.std.proofs.Common.{length}
-use Rattle.iloc_text.specs.Lines.{lines_left}
+use Rattle.iloc_rows.proofs.Common.{length, lines_left}
 use Rattle.iloc_rows.proofs.Reading.{Progress}
 use Rattle.iloc_rows.proofs.reader.read_proposals.Given as goal
 

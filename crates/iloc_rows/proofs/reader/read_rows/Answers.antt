@@ -1,5 +1,4 @@
-use Rattle.std.proofs.Common.{Result, Ok, Err, IfErr, arith}
-use Rattle.iloc_text.proofs.Splitting.{lines_few}
+use Rattle.iloc_rows.proofs.Common.{IfErr, Ok, Err, Result, arith, lines_few}
 use Rattle.iloc_timed.proofs.WholeRuns.{if_ok}
 use Rattle.iloc_rows.proofs.Reading.{proposed_apart, refused_apart}
 use Rattle.iloc_rows.proofs.reader.read_rows.Goals as goal

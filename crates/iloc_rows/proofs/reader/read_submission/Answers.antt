@@ -1,9 +1,5 @@
-use Rattle.std.proofs.Common.{◌≡◌, ◌∙◌, ◌<◌, ◌≤◌, nat_eq, Bool, true, false, List, [], ◌∷◌, length, Err, sym, ap, subst, eqb-true, arith}
-use Rattle.iloc_ops.specs.declared.file.Block.{Block}
+use Rattle.iloc_rows.proofs.Common.{◌≡◌, ◌<◌, ◌≤◌, Bool, true, false, List, [], ◌∷◌, length, nat_eq, Err, sym, ap, ◌∙◌, subst, arith, eqb-true, Block, lines_left, HaveFirstFault, IsRefused, Propose, Read}
 use Rattle.std.proofs.lemmas.Result.{err_from_is_err_and}
-use Rattle.iloc_text.specs.Lines.{lines_left}
-use Rattle.iloc_rows.specs.declared.fault.RowsFault.TheVariants.{Read}
-use Rattle.iloc_rows.specs.Submissions.{IsRefused, Propose, HaveFirstFault}
 use Rattle.iloc_rows.proofs.Reading.{err_is, cut_number, no_blocks, denoted, blocks_refused, rows_refused}
 use Rattle.iloc_rows.proofs.reader.read_submission.Goals as goal
 

@@ -1,6 +1,4 @@
-use Rattle.std.proofs.Common.{◌≡◌, ◌++◌}
-use Rattle.std.specs.List.{AllByRecursion}
-use Rattle.iloc_rows.specs.Proposing.{IsNumbered}
+use Rattle.iloc_rows.proofs.Common.{◌≡◌, ◌++◌, AllByRecursion, IsNumbered}
 use Rattle.iloc_rows.proofs.proposal.Proposals.«of».Given as goal
 
 abbrev pub invariant-loop-proposed : goal.invariant-loop-proposed

@@ -1,6 +1,5 @@
-use Rattle.std.proofs.Common.{◌∙◌, ap, get_or, length, slice_set, arith}
+use Rattle.iloc_rows.proofs.Common.{length, get_or, slice_set, ap, ◌∙◌, arith, with_either_slot}
 use Rattle.std.proofs.lemmas.List.Edits.{map_over_more}
-use Rattle.iloc_rows.specs.EitherSlot.{with_either_slot}
 use Rattle.iloc_rows.proofs.proposal.Proposals.placed.Goals as goal
 
 pub loop-proposal-preserved : goal.loop-proposal-preserved

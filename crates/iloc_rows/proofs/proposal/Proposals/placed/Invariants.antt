@@ -1,5 +1,4 @@
-use Rattle.std.proofs.Common.{◌≡◌, ◌++◌, map, take, drop}
-use Rattle.iloc_rows.specs.EitherSlot.{with_either_slot}
+use Rattle.iloc_rows.proofs.Common.{◌≡◌, ◌++◌, map, take, drop, with_either_slot}
 use Rattle.iloc_rows.proofs.proposal.Proposals.placed.Given as goal
 
 abbrev pub invariant-loop-proposal : goal.invariant-loop-proposal

@@ -1,7 +1,5 @@
-use Rattle.std.proofs.Common.{◌∙◌, ◌<◌, ap, get_or, length, slice_set, arith}
-use Rattle.std.proofs.lemmas.List.{get_or_default}
+use Rattle.iloc_rows.proofs.Common.{◌<◌, length, get_or, slice_set, ap, ◌∙◌, arith, get_or_default, in_either_slot}
 use Rattle.std.proofs.lemmas.List.Edits.{map_over_more}
-use Rattle.iloc_rows.specs.EitherSlot.{in_either_slot}
 use Rattle.iloc_rows.proofs.proposal.Rows.use_either_slot.Goals as goal
 
 pub loop-row-preserved : goal.loop-row-preserved

@@ -1,5 +1,4 @@
-use Rattle.std.proofs.Common.{◌≡◌, ◌++◌, map, take, drop}
-use Rattle.iloc_rows.specs.EitherSlot.{in_either_slot}
+use Rattle.iloc_rows.proofs.Common.{◌≡◌, ◌++◌, map, take, drop, in_either_slot}
 use Rattle.iloc_rows.proofs.proposal.Rows.use_either_slot.Given as goal
 
 abbrev pub invariant-loop-row : goal.invariant-loop-row

@@ -1,5 +1,4 @@
-use Rattle.std.proofs.Common.{◌≡◌, []}
-use Rattle.iloc_rows.specs.Proposing.{proposals_of}
+use Rattle.iloc_rows.proofs.Common.{◌≡◌, [], proposals_of}
 use Rattle.iloc_rows.proofs.proposing.Proposing.none.Given as goal
 
 abbrev pub invariant-loop : goal.invariant-loop
