@@ -29,7 +29,7 @@ over_store lat a c d held = grind arith
 before_store : (lat : Latencies) (a c : Kind) (d : ℕ) → In (kind_delays lat a c) d → In (kind_delays lat a K.Store) 1
 before_store lat a c d held = grind arith
 
-counted : (counts : Bool) (lat : Latencies) (i j : Op) (d : ℕ) → In (memory_delays_where counts lat i j) d
+pub counted : (counts : Bool) (lat : Latencies) (i j : Op) (d : ℕ) → In (memory_delays_where counts lat i j) d
     → In (kind_delays lat (kind i) (kind j)) d
 counted true lat i j d held = held
 counted false lat i j d held = grind (arith, and_parts, from_when, in_when)

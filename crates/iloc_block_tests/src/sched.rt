@@ -1,4 +1,5 @@
 mod addresses;
+mod by_address;
 mod delay_pairs;
 mod heuristics;
 mod priority;

@@ -7,4 +7,5 @@ pub mod EdgesInto
 pub mod ListedKinds
 pub mod LastsNoted
 pub mod OneMoreInTables
-pub mod BookGraphs
+pub mod SoundGraphs
+pub mod BySources

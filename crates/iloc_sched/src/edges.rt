@@ -11,8 +11,11 @@ ghost use Rattle.iloc_timed.specs.declared.latencies.Latencies.{Latencies};
 ghost use Rattle.iloc_timed.specs.Kinds.{kind as kind_of};
 ghost use Rattle.iloc_timed.specs.Latency.{latency};
 ghost use Rattle.iloc_meaning.specs.Trace.{op_at};
+ghost use Rattle.iloc_rules.specs.declared.memory_rule.MemoryRule.{MemoryRule as rule_value};
+ghost use Rattle.iloc_rules.specs.declared.memory_rule.MemoryRule.TheVariants.{Book};
 ghost use Rattle.iloc_rules.specs.Renaming.{IsRenamed};
 
+mod by_address;
 pub(crate) mod kinds;
 pub mod lasts;
 pub mod later;
@@ -137,8 +140,8 @@ impl Edges {
     /// No edge between so many operations.
     fn clear(&mut self, count: usize) -> Result<(), NoMemory>
         requires { count ≤ MAX_OPS }
-        ensures partial { OnOk result ((lat : Latencies) (ops : List Op) → length ops ≡ count
-            → IsPartialGraph lat ops (graph_of self.new) 0) }
+        ensures partial { OnOk result ((rule : rule_value) (lat : Latencies) (ops : List Op) → length ops ≡ count
+            → IsPartialGraph rule lat ops (graph_of self.new) 0) }
         ensures starts { OnOk result (length self.new.starts.items ≡ 1) }
         ensures edges { OnOk result (length self.new.edges.items ≡ 0) }
         ensures capacity { OnOk result (HasCapacity self.new count) }
@@ -156,8 +159,8 @@ impl Edges {
     /// No operation, with capacity for `space`.
     pub fn empty(&mut self, space: usize) -> Result<(), NoMemory>
         requires { space ≤ MAX_OPS }
-        ensures partial { OnOk result ((lat : Latencies) (ops : List Op) → length ops ≡ 0
-            → IsPartialGraph lat ops (graph_of self.new) 0) }
+        ensures partial { OnOk result ((rule : rule_value) (lat : Latencies) (ops : List Op) → length ops ≡ 0
+            → IsPartialGraph rule lat ops (graph_of self.new) 0) }
         ensures starts { OnOk result (length self.new.starts.items ≡ 1) }
         ensures edges { OnOk result (length self.new.edges.items ≡ 0) }
         ensures capacity { OnOk result (HasCapacity self.new space) }
@@ -245,8 +248,9 @@ impl Edges {
         requires used { Contains (used (op_at operations.now.ops.now j)) register }
         requires space { length self.old.edges.items < 5 * length self.old.heads.items }
         requires capacity { HasCapacity self.old (length self.old.heads.items) }
-        requires partial { IsPartialGraph latencies.now operations.now.ops.now (graph_of self.old) j }
-        ensures grows { Grows latencies.now operations.now.ops.now (graph_of self.old) (graph_of self.new) j }
+        requires partial { (rule : rule_value) × IsPartialGraph rule latencies.now operations.now.ops.now (graph_of self.old) j }
+        ensures grows { (rule : rule_value) → IsPartialGraph rule latencies.now operations.now.ops.now (graph_of self.old) j
+            → Grows rule latencies.now operations.now.ops.now (graph_of self.old) (graph_of self.new) j }
         ensures covers { CoversUse latencies.now operations.now.ops.now (graph_of self.new) j register }
         ensures count { length self.new.edges.items ≤ length self.old.edges.items + 1 }
         ensures frame { KeepsFrame self.old self.new }
@@ -271,8 +275,9 @@ impl Edges {
         requires own { operations.now.latencies.now ≡ map (latency latencies.now) operations.now.ops.now }
         requires space { length self.old.edges.items + 2 ≤ 5 * length self.old.heads.items }
         requires capacity { HasCapacity self.old (length self.old.heads.items) }
-        requires partial { IsPartialGraph latencies.now operations.now.ops.now (graph_of self.old) j }
-        ensures grows { Grows latencies.now operations.now.ops.now (graph_of self.old) (graph_of self.new) j }
+        requires partial { (rule : rule_value) × IsPartialGraph rule latencies.now operations.now.ops.now (graph_of self.old) j }
+        ensures grows { (rule : rule_value) → IsPartialGraph rule latencies.now operations.now.ops.now (graph_of self.old) j
+            → Grows rule latencies.now operations.now.ops.now (graph_of self.old) (graph_of self.new) j }
         ensures covers { CoversUses latencies.now operations.now.ops.now (graph_of self.new) j }
         ensures count { length self.new.edges.items ≤ length self.old.edges.items + 2 }
         ensures frame { KeepsFrame self.old self.new }
@@ -301,8 +306,8 @@ impl Edges {
         requires next { IsNext operations.now.ops.now lasts.now j }
         requires space { length self.old.edges.items + 2 + length lasts.now.loads.items ≤ 5 * length self.old.heads.items }
         requires capacity { HasCapacity self.old (length self.old.heads.items) }
-        requires partial { IsPartialGraph latencies.now operations.now.ops.now (graph_of self.old) j }
-        ensures grows { Grows latencies.now operations.now.ops.now (graph_of self.old) (graph_of self.new) j }
+        requires partial { IsPartialGraph Book latencies.now operations.now.ops.now (graph_of self.old) j }
+        ensures grows { Grows Book latencies.now operations.now.ops.now (graph_of self.old) (graph_of self.new) j }
         ensures covers { CoversMemory latencies.now operations.now.ops.now (graph_of self.new) j }
         ensures count { length self.new.edges.items ≤ length self.old.edges.items + 2
             + loads_before kind lasts.now }
@@ -342,8 +347,8 @@ impl Edges {
         requires space { length self.old.edges.items + 4 + length lasts.now.loads.items ≤ 5 * length self.old.heads.items }
         requires capacity { HasCapacity self.old (length self.old.heads.items) }
         requires starts { length self.old.starts.items ≡ j + 1 }
-        requires partial { IsPartialGraph latencies.now operations.now.ops.now (graph_of self.old) j }
-        ensures partial { IsPartialGraph latencies.now operations.now.ops.now (graph_of self.new) (j + 1) }
+        requires partial { IsPartialGraph Book latencies.now operations.now.ops.now (graph_of self.old) j }
+        ensures partial { IsPartialGraph Book latencies.now operations.now.ops.now (graph_of self.new) (j + 1) }
         ensures count { length self.new.edges.items ≤ length self.old.edges.items + 4
             + loads_before kind lasts.now }
         ensures starts { length self.new.starts.items ≡ j + 2 }

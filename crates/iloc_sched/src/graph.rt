@@ -64,17 +64,33 @@ impl RuledGraph {
         }
     }
 
-    /// Becomes the graph of a block by the book, as `Graph::refill` says.
-    fn refill_by_the_book(&mut self, block: &Block, latencies: &Latencies) -> Result<(), NoMemory>
+    /// Becomes the graph of a block, of at most `MAX_OPS` operations, by a rule. After a refusal it is that of a block without
+    /// any, by the book.
+    pub fn refill(
+        &mut self,
+        rule: MemoryRule,
+        block: &Block,
+        latencies: &Latencies,
+    ) -> Result<(), NoMemory>
         requires { length block.now.ops ≤ MAX_OPS }
-        ensures graph { OnOk result (self.new ≡ of_block_by Book latencies.now block.now.ops) }
+        ensures graph { OnOk result (self.new ≡ of_block_by rule latencies.now block.now.ops) }
         ensures empty { IfErr result (λ _. self.new.ops ≡ []) }
-        ensures rule { self.new.rule ≡ Book }
+        ensures rule { IfErr result (λ _. self.new.rule ≡ Book) }
     {
-        match self
-            .tables
-            .open(&mut self.names, &mut self.lasts, block, latencies)
-        {
+        let opened = match rule {
+            MemoryRule::Book => {
+                self.tables
+                    .open(&mut self.names, &mut self.lasts, block, latencies)
+            }
+            MemoryRule::Address => self.tables.open_by_address(
+                self.alloc,
+                &mut self.names,
+                &mut self.lasts,
+                block,
+                latencies,
+            ),
+        };
+        match opened {
             Ok(()) => Ok(()),
             Err(refusal) => {
                 self.tables.forget();
@@ -91,7 +107,7 @@ impl RuledGraph {
         self.tables.ops.as_slice()
     }
 
-    /// Fills a list with the longest chain of delays from each operation, up to the end of the block.
+    /// Fills a list with the longest chain of delays from each operation, up to the end of the block, by its rule.
     pub fn chains(&self, found: &mut Vec<u32>) -> Result<(), NoMemory>
         ensures { OnOk result (found.new.items
             ≡ priorities_where (counts_by self.now.rule self.now.ops) self.now.latencies self.now.ops) }
@@ -99,7 +115,7 @@ impl RuledGraph {
         fill_chains(found, &self.tables)
     }
 
-    /// Fills a list with the longest chain of delays to each operation: the first cycle at which it can be issued.
+    /// Fills a list with the longest chain of delays to each operation by its rule: the first cycle at which it can be issued.
     pub fn starts(&self, found: &mut Vec<u32>) -> Result<(), NoMemory>
         ensures { OnOk result (found.new.items
             ≡ starts_where (counts_by self.now.rule self.now.ops) self.now.latencies self.now.ops) }
@@ -107,7 +123,8 @@ impl RuledGraph {
         fill_starts(found, &self.tables)
     }
 
-    /// Fills a list with the priorities of the operations by a heuristic.
+    /// Fills a list with the priorities of the operations by a heuristic and by its rule; who waits directly
+    /// (`Heuristic::Successors`) is counted by the book alone.
     #[inline(always)]
     pub fn rank(&self, heuristic: Heuristic, found: &mut Vec<u32>) -> Result<(), NoMemory>
         requires { heuristic ≡ Successors → self.now.rule ≡ Book }
@@ -164,7 +181,7 @@ impl Graph {
         ensures graph { OnOk result (self.new ≡ of_block latencies.now block.now.ops) }
         ensures empty { IfErr result (λ _. self.new.ops ≡ []) }
     {
-        self.ruled.refill_by_the_book(block, latencies)
+        self.ruled.refill(MemoryRule::Book, block, latencies)
     }
 
     /// The renamed operations, at most `MAX_OPS`.

@@ -18,4 +18,4 @@ pub use graph::{Graph, RuledGraph};
 pub use iloc_rules::{Pair, pairs};
 pub use ranking::{priorities, priorities_by};
 pub use renaming::rename;
-pub use scheduler::{Scheduler, schedule, schedule_as};
+pub use scheduler::{Scheduler, schedule, schedule_as, schedule_by};

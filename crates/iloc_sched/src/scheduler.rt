@@ -6,8 +6,9 @@ ghost use Rattle.iloc_rules.specs.declared.memory_rule.MemoryRule.{MemoryRule as
 ghost use Rattle.iloc_sched.specs.Graph.GraphOf.{of_block, of_block_by};
 ghost use Rattle.iloc_rules.specs.Greedy.{IsGreedyWhere};
 ghost use Rattle.iloc_rules.specs.Heuristics.{priorities_by};
-ghost use Rattle.iloc_rules.specs.Priority.{priorities};
+ghost use Rattle.iloc_rules.specs.Priority.{priorities, priorities_where};
 ghost use Rattle.iloc_rules.specs.Renaming.{renamed};
+ghost use Rattle.iloc_rules.specs.Rule.{counts_by};
 ghost use Rattle.iloc_sched.specs.Scheduled.{IsTheSchedule, IsTheScheduleBy};
 ghost use Rattle.iloc_sched.specs.Steps.Cycle.SoFar.{IsPlan, counts_of};
 
@@ -17,7 +18,7 @@ use crate::cycle::plan::Plan;
 use crate::cycle::waiting::Waiting;
 use crate::graph::{Graph, RuledGraph};
 use iloc_ops::{Block, MAX_OPS, NoMemory, Op};
-use iloc_rules::{Heuristic, LONGEST_DELAY};
+use iloc_rules::{Heuristic, LONGEST_DELAY, MemoryRule};
 use iloc_timed::{Latencies, Row, Schedule};
 use std::alloc::Global;
 use std::mem;
@@ -161,4 +162,27 @@ pub fn schedule(alloc: Global, block: &Block, latencies: &Latencies) -> Result<S
     ensures { IfOk result (IsTheSchedule (priorities latencies.now) latencies.now block.now.ops) }
 {
     schedule_as(alloc, block, latencies, Heuristic::Chain)
+}
+
+/// The greedy schedule of a block, of at most `MAX_OPS` operations, by a rule of memory.
+///
+/// For many blocks make one `RuledGraph` and one `Scheduler`.
+///
+/// Promise: It is the only greedy schedule of the block by the rule, and on every memory it has the block's outcome; its cycles
+/// lie between the bounds of `schedule`.
+pub fn schedule_by(
+    alloc: Global,
+    block: &Block,
+    latencies: &Latencies,
+    rule: MemoryRule,
+) -> Result<Schedule, NoMemory>
+    requires { length block.now.ops ≤ MAX_OPS }
+    ensures { IfOk result (IsTheScheduleBy rule (λ ops. priorities_where (counts_by rule ops) latencies.now ops)
+        latencies.now block.now.ops) }
+{
+    let mut graph = RuledGraph::new(alloc);
+    graph.refill(rule, block, latencies)?;
+    let mut ranks = Vec::new(alloc);
+    graph.chains(&mut ranks)?;
+    Scheduler::new(alloc).lend_ruled(&graph, &ranks)
 }

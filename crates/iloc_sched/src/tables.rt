@@ -9,6 +9,7 @@ use crate::edges::lasts::Lasts;
 use crate::ranking::priority::fill_latencies;
 use crate::registers::OperandRegisters;
 use crate::renaming::{Names, is_nop};
+use iloc_addresses::known_addresses;
 use iloc_ops::{Block, MAX_OPS, NoMemory, Op};
 use iloc_rules::MemoryRule;
 use iloc_timed::{Kind, Latencies};
@@ -28,7 +29,7 @@ pub struct Tables {
 }
 
 impl Tables {
-    ghost use Rattle.iloc_rules.specs.declared.memory_rule.MemoryRule.TheVariants.{Book};
+    ghost use Rattle.iloc_rules.specs.declared.memory_rule.MemoryRule.TheVariants.{Book, Address};
     ghost use Rattle.iloc_sched.specs.Steps.Edges.Filling.{CanHold, IsFilling, IsGathered};
     ghost use Rattle.iloc_sched.specs.Steps.Renaming.Registers.{AreRegistersOf};
     ghost use Rattle.iloc_sched.specs.Steps.Edges.SoundGraph.{IsByTheBook, IsSound};
@@ -224,6 +225,36 @@ impl Tables {
         self.latencies = *latencies;
         self.gather(names, lasts, block)?;
         self.rule = MemoryRule::Book;
+        Ok(())
+    }
+
+    /// Takes the operations of a block for these latencies by address.
+    pub fn open_by_address(
+        &mut self,
+        alloc: Global,
+        names: &mut Names,
+        lasts: &mut Lasts,
+        block: &Block,
+        latencies: &Latencies,
+    ) -> Result<(), NoMemory>
+        requires { length block.now.ops ≤ MAX_OPS }
+        ensures sound { OnOk result (IsSound self.new) }
+        ensures rule { OnOk result (self.new.rule ≡ Address) }
+        ensures latencies { OnOk result (self.new.latencies ≡ latencies.now) }
+        ensures ops { OnOk result (self.new.ops.items ≡ renamed block.now.ops) }
+    {
+        self.latencies = *latencies;
+        names.rename_block(&mut self.ops, block)?;
+        fill_kinds(&mut self.kinds, &self.ops)?;
+        fill_latencies(&mut self.own, &self.kinds, latencies)?;
+        let addresses = known_addresses(alloc, &self.ops)?;
+        let operations = Operations {
+            ops: &self.ops,
+            latencies: &self.own,
+        };
+        let registers = 3 * self.ops.len();
+        self.edges.fill_by_address(alloc, lasts, &operations, &addresses, registers, latencies)?;
+        self.rule = MemoryRule::Address;
         Ok(())
     }
 

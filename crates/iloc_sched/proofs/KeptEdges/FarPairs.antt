@@ -7,7 +7,7 @@ use Rattle.iloc_timed.specs.declared.kind.Kind.TheVariants as K
 use Rattle.iloc_timed.specs.declared.latencies.Latencies.{Latencies}
 use Rattle.iloc_timed.specs.Kinds.{kind, is_output, is_store}
 use Rattle.iloc_timed.specs.Latency.{latency}
-use Rattle.iloc_rules.specs.Delays.{Counts, all_count, uses_result, when, memory_delays, delays_where, IsDelayPair, IsDelayPairWhere}
+use Rattle.iloc_rules.specs.Delays.{Counts, all_count, uses_result, when, memory_delays, IsDelayPair, IsDelayPairWhere}
 use Rattle.iloc_rules.specs.Steps.Members.{In}
 use Rattle.iloc_rules.specs.Steps.Ways.{GoesBy}
 use Rattle.iloc_sched.specs.Graph.Near.{takes_over, IsNear}

@@ -1,5 +1,5 @@
 -- The kinds of operations, read from their list.
-use Rattle.std.proofs.Common.{ℕ, ◌≡◌, ◌<◌, List, [], ◌∷◌, length, map, get_or, refl, sym, ◌∙◌, ap}
+use Rattle.std.proofs.Common.{ℕ, ◌≡◌, ◌<◌, List, [], ◌∷◌, length, map, get_or, refl, ◌∙◌, ap}
 use Rattle.std.proofs.lemmas.List.{get_or-map}
 use Rattle.iloc_ops.specs.declared.op.Op.{Op}
 use Rattle.iloc_ops.specs.declared.op.Op.TheVariants.{Nop}
@@ -18,6 +18,12 @@ kind_listed ops kinds j d is there = ap (λ ks. get_or ks j d) is ∙ get_or-map
 pub latencies_by_kinds : (lat : Latencies) (ops : List Op) → map (latency_of lat) (map kind ops) ≡ map (latency lat) ops
 latencies_by_kinds lat [] = refl
 latencies_by_kinds lat (op ∷ ops) = ap (λ rest. latency lat op ∷ rest) (latencies_by_kinds lat ops)
+
+-- latencies by a list of kinds
+pub listed : (lat : Latencies) (ops : List Op) (kinds : List Kind) (own : List ℕ) → kinds ≡ map kind ops
+    → own ≡ map (latency_of lat) kinds → own ≡ map (latency lat) ops
+listed lat ops kinds own kinds_are own_is =
+    own_is ∙ ap (map (latency_of lat)) kinds_are ∙ latencies_by_kinds lat ops
 
 -- place i of the list of latencies has that of operation i
 pub latency_listed : (lat : Latencies) (ops : List Op) (own : List ℕ) (i d : ℕ) → own ≡ map (latency lat) ops

@@ -12,14 +12,17 @@ use Rattle.iloc_timed.specs.declared.latencies.Latencies.{Latencies}
 use Rattle.iloc_timed.specs.Kinds.{kind, is_load, is_store, is_output}
 use Rattle.iloc_timed.specs.Latency.{latency}
 use Rattle.iloc_rules.specs.Renaming.{IsRenamed}
-use Rattle.iloc_rules.specs.Delays.{uses_result, when, memory_delays, delays, IsDelayPair}
+use Rattle.iloc_rules.specs.declared.memory_rule.MemoryRule.{MemoryRule}
+use Rattle.iloc_rules.specs.declared.memory_rule.MemoryRule.TheVariants.{Book, Address}
+use Rattle.iloc_rules.specs.Delays.{uses_result, when, memory_delays, memory_delays_where, delays_where, IsDelayPair}
+use Rattle.iloc_rules.specs.Rule.{counts_by}
 use Rattle.iloc_sched.specs.declared.edges.lasts.Lasts.{Lasts}
 use Rattle.iloc_rules.specs.Steps.Members.{In}
-use Rattle.iloc_sched.specs.Graph.Near.{NoneBetween, IsNear, IsNearPair}
+use Rattle.iloc_sched.specs.Graph.Near.{NoneBetween, IsNear}
 use Rattle.iloc_sched.specs.Steps.Graph.{Graph}
 use Rattle.iloc_sched.specs.Steps.Edges.Lasts.{IsLasts}
 use Rattle.iloc_sched.specs.Steps.Renaming.ByRegister.{number_at}
-use Rattle.iloc_sched.specs.Steps.Edges.PartialGraph.{HasEdge, CoversUse, CoversUses, CoversMemory}
+use Rattle.iloc_sched.specs.Steps.Edges.PartialGraph.{IsNearBy, IsNearPairBy, HasEdge, CoversUse, CoversUses, CoversMemory}
 use Rattle.iloc_rules.proofs.Basics.Members.{contains_from, in_from, any_at, from_any, in_left, in_right}
 use Rattle.iloc_rules.proofs.Basics.Registers.{is_register_same, is_register_from}
 use Rattle.iloc_sched.proofs.Basics.LastOnes.{last_is}
@@ -69,7 +72,7 @@ module _ (lat : Latencies) (ops : List Op) (j : ℕ) (lasts : Lasts) (is : IsLas
   Replaced a k = if is_output a then is_output (kind (op_at ops k)) else is_store (kind (op_at ops k))
 
   memory_pair : (i d : ℕ) → i < j → j < length ops → (a b : Kind) → kind (op_at ops i) ≡ a → kind (op_at ops j) ≡ b
-      → In (kind_delays lat a b) d → ((k : ℕ) → i < k → k < j → Replaced a k ≡ false) → IsNearPair lat ops i j d
+      → In (kind_delays lat a b) d → ((k : ℕ) → i < k → k < j → Replaced a k ≡ false) → IsNearPairBy Book lat ops i j d
   memory_pair i d below within a b i_is j_is held none = grind (arith, contains_from, in_right)
 
   store_there : (i : ℕ) → lasts.store ≡ Some i
@@ -85,23 +88,28 @@ module _ (lat : Latencies) (ops : List Op) (j : ℕ) (lasts : Lasts) (is : IsLas
   definer_there r i at = grind arith
 
   pub store_before : (b : Kind) (d : ℕ) → In (kind_delays lat K.Store b) d → j < length ops → kind (op_at ops j) ≡ b
-      → (i : ℕ) → lasts.store ≡ Some i → IsNearPair lat ops i j d
+      → (i : ℕ) → lasts.store ≡ Some i → IsNearPairBy Book lat ops i j d
   store_before b d delay within kind_is i at = let h = store_there i at in
       memory_pair i d h.0 within K.Store b h.1 kind_is delay h.2
 
   pub output_before : (b : Kind) (d : ℕ) → In (kind_delays lat K.Output b) d → j < length ops → kind (op_at ops j) ≡ b
-      → (i : ℕ) → lasts.output ≡ Some i → IsNearPair lat ops i j d
+      → (i : ℕ) → lasts.output ≡ Some i → IsNearPairBy Book lat ops i j d
   output_before b d delay within kind_is i at = let h = output_there i at in
       memory_pair i d h.0 within K.Output b h.1 kind_is delay h.2
 
   pub load_before_store : j < length ops → kind (op_at ops j) ≡ K.Store → (i : ℕ) → In lasts.loads.items i
-      → IsNearPair lat ops i j 1
+      → IsNearPairBy Book lat ops i j 1
   load_before_store within kind_is i held = let h = is.loads i held in
       memory_pair i 1 h.0 within K.Load K.Store (load_is (kind (op_at ops i)) h.1) kind_is (inl refl) h.2
 
-  pub use_pair : j < length ops → (r : Reg) → Contains (used (op_at ops j)) r → (i : ℕ)
-      → number_at lasts.definers r.0 ≡ Some i → IsNearPair lat ops i j (latency lat (op_at ops i))
-  use_pair within r uses i at =
+  near_by_use : (rule : MemoryRule) (i : ℕ) → uses_result (op_at ops i) (op_at ops j) ≡ true
+      → IsNearBy rule lat ops i j (latency lat (op_at ops i))
+  near_by_use Book i test = inl (test, refl)
+  near_by_use Address i test = inl (test, refl)
+
+  pub use_pair : (rule : MemoryRule) → j < length ops → (r : Reg) → Contains (used (op_at ops j)) r → (i : ℕ)
+      → number_at lasts.definers r.0 ≡ Some i → IsNearPairBy rule lat ops i j (latency lat (op_at ops i))
+  use_pair rule within r uses i at =
       let h = definer_there r i at in
       let test : uses_result (op_at ops i) (op_at ops j) ≡ true =
       any_at (λ s. is_register s (defined (op_at ops i))) (used (op_at ops j)) r (in_from (used (op_at ops j)) r uses)
@@ -109,12 +117,20 @@ module _ (lat : Latencies) (ops : List Op) (j : ℕ) (lasts : Lasts) (is : IsLas
       record {
         order = h.0;
         within = within;
-        delay = contains_from (delays lat (op_at ops i) (op_at ops j)) (latency lat (op_at ops i))
+        delay = contains_from (delays_where (counts_by rule ops i j) lat (op_at ops i) (op_at ops j)) (latency lat (op_at ops i))
             (in_left (when (uses_result (op_at ops i) (op_at ops j)) (latency lat (op_at ops i)))
-            (memory_delays lat (op_at ops i) (op_at ops j)) (latency lat (op_at ops i))
+            (memory_delays_where (counts_by rule ops i j) lat (op_at ops i) (op_at ops j)) (latency lat (op_at ops i))
             (subst (λ b. In (when b (latency lat (op_at ops i))) (latency lat (op_at ops i))) (sym test) (inl refl)));
-        near = inl (test, refl);
+        near = near_by_use rule i test;
       }
+
+-- what j uses has its edge
+pub use_is_covered : (lat : Latencies) (ops : List Op) (graph : Graph) (j : ℕ) → CoversUses lat ops graph j → (i : ℕ)
+    → i < j → uses_result (op_at ops i) (op_at ops j) ≡ true → HasEdge graph j i (latency lat (op_at ops i))
+use_is_covered lat ops graph j uses i order result =
+    let found = from_any (λ r. is_register r (defined (op_at ops i))) (used (op_at ops j)) result in
+    uses found.0 (contains_from (used (op_at ops j)) found.0 found.1) i order
+    (is_register_same found.0 (defined (op_at ops i)) found.2)
 
 -- a near pair is a use, or one by memory
 pub near_is_covered : (lat : Latencies) (ops : List Op) (graph : Graph) (j : ℕ) → CoversUses lat ops graph j
@@ -122,9 +138,6 @@ pub near_is_covered : (lat : Latencies) (ops : List Op) (graph : Graph) (j : ℕ
 near_is_covered lat ops graph j uses memory i d pair near =
     elim near [
       | inl result ↦
-          let found = from_any (λ r. is_register r (defined (op_at ops i))) (used (op_at ops j)) result.0 in
-          subst (λ e. HasEdge graph j i e) (sym result.1)
-          (uses found.0 (contains_from (used (op_at ops j)) found.0 found.1) i pair.order
-          (is_register_same found.0 (defined (op_at ops i)) found.2))
+          subst (λ e. HasEdge graph j i e) (sym result.1) (use_is_covered lat ops graph j uses i pair.order result.0)
       | inr by ↦ memory i d pair.order by.0 by.1
     ]

@@ -12,14 +12,15 @@ use Rattle.iloc_timed.specs.Kinds.{kind, is_load, is_store, is_output}
 use Rattle.iloc_timed.specs.Latency.{latency}
 use Rattle.iloc_rules.specs.Delays.{uses_result, memory_delays, delays, IsDelayPair}
 use Rattle.iloc_timed.specs.declared.kind.Kind.{Kind}
+use Rattle.iloc_rules.specs.declared.memory_rule.MemoryRule.TheVariants.{Book}
 use Rattle.iloc_rules.specs.Renaming.{IsRenamed}
 use Rattle.iloc_sched.specs.declared.edges.Edge.{Edge}
 use Rattle.iloc_sched.specs.declared.edges.Edges.{Edges}
 use Rattle.iloc_sched.specs.declared.edges.lasts.Lasts.{Lasts}
-use Rattle.iloc_sched.specs.Graph.Near.{IsNear, IsNearPair, takes_over}
+use Rattle.iloc_sched.specs.Graph.Near.{IsNear, takes_over}
 use Rattle.iloc_sched.specs.Steps.Graph.{Graph}
 use Rattle.iloc_sched.specs.Steps.Edges.Lasts.{IsLasts, IsNext}
-use Rattle.iloc_sched.specs.Steps.Edges.PartialGraph.{IsPartialGraph}
+use Rattle.iloc_sched.specs.Steps.Edges.PartialGraph.{IsNearPairBy, IsPartialGraph}
 use Rattle.iloc_sched.specs.Steps.Views.{graph_of}
 use Rattle.iloc_sched.proofs.Basics.LastOnes.{last_same}
 use Rattle.iloc_sched.proofs.KeptEdges.AddedEdges.{tables_graph}
@@ -52,7 +53,7 @@ module _ (ops : List Op) (op : Op) where
     )
   ]
 
-  pair_on : (lat : Latencies) (i j d : ℕ) → IsNearPair lat ops i j d → IsNearPair lat (ops ++ op ∷ []) i j d
+  pair_on : (lat : Latencies) (i j d : ℕ) → IsNearPairBy Book lat ops i j d → IsNearPairBy Book lat (ops ++ op ∷ []) i j d
   pair_on lat i j d pair =
       let order : i < j = pair.order in
       let within : j < length ops = pair.within in
@@ -93,9 +94,9 @@ module _ (ops : List Op) (op : Op) where
 
   -- the graph with one operation more, which has no edge
   pub partial_next : (lat : Latencies) (graph : Graph) (n : ℕ) (head' : ℕ → Option ℕ)
-      → IsPartialGraph lat ops graph (length ops) → n ≡ graph.ops + 1
+      → IsPartialGraph Book lat ops graph (length ops) → n ≡ graph.ops + 1
       → ((i : ℕ) → i < graph.ops → head' i ≡ graph.head i) → head' graph.ops ≡ None
-      → IsPartialGraph lat (ops ++ op ∷ []) (record graph { ops = n; head = head' }) (length ops)
+      → IsPartialGraph Book lat (ops ++ op ∷ []) (record graph { ops = n; head = head' }) (length ops)
   partial_next lat graph n head' is size kept none = record {
     size = size ∙ ap (λ m. m + 1) is.size ∙ sym size_more;
     rises = is.rises;
@@ -145,16 +146,16 @@ module _ (ops : List Op) (op : Op) where
   -- the same of the tables
   pub partial_grown : (lat : Latencies) (e e' : Edges) (j : ℕ) (ops' : List Op) → ops' ≡ ops ++ op ∷ [] → j ≡ length ops
       → e'.edges ≡ e.edges → e'.starts ≡ e.starts → e'.heads.items ≡ e.heads.items ++ None ∷ []
-      → IsPartialGraph lat ops (graph_of e) (length ops) → IsPartialGraph lat ops' (graph_of e') j
+      → IsPartialGraph Book lat ops (graph_of e) (length ops) → IsPartialGraph Book lat ops' (graph_of e') j
   partial_grown lat e e' j ops' ops_is at edges starts heads is =
       let size : length e'.heads.items ≡ length e.heads.items + 1 =
       ap length heads ∙ length-append e.heads.items (None ∷ []) in
-      let next : IsPartialGraph lat (ops ++ op ∷ []) (tables_graph e.edges.items e.starts.items e'.heads.items) (length ops) =
+      let next : IsPartialGraph Book lat (ops ++ op ∷ []) (tables_graph e.edges.items e.starts.items e'.heads.items) (length ops) =
       partial_next lat (graph_of e) (length e'.heads.items) (λ i. get_or e'.heads.items i None) is size
       (λ i below. ap (λ xs. get_or xs i None) heads ∙ get_or-append e.heads.items (None ∷ []) None i below)
       (ap (λ xs. get_or xs (length e.heads.items) None) heads ∙ get_or-append_seam e.heads.items None [] None) in
-      subst (λ xs. IsPartialGraph lat xs (graph_of e') j) (sym ops_is)
-      (subst (λ n. IsPartialGraph lat (ops ++ op ∷ []) (graph_of e') n) (sym at)
-      (subst (λ (v : Vec Edge). IsPartialGraph lat (ops ++ op ∷ []) (tables_graph v.items e'.starts.items e'.heads.items) (length ops))
+      subst (λ xs. IsPartialGraph Book lat xs (graph_of e') j) (sym ops_is)
+      (subst (λ n. IsPartialGraph Book lat (ops ++ op ∷ []) (graph_of e') n) (sym at)
+      (subst (λ (v : Vec Edge). IsPartialGraph Book lat (ops ++ op ∷ []) (tables_graph v.items e'.starts.items e'.heads.items) (length ops))
       (sym edges)
       (grind arith)))

@@ -3,3 +3,4 @@ pub mod Filling
 pub mod Lasts
 pub mod PartialGraph
 pub mod SoundGraph
+pub mod ByAddress

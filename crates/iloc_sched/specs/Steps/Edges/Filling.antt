@@ -3,6 +3,7 @@ use Rattle.std.specs.Prelude.{ℕ, ◌+◌, ◌*◌, ◌≡◌, ◌≤◌, List,
 use Rattle.iloc_ops.specs.declared.op.Op.{Op}
 use Rattle.iloc_timed.specs.Kinds.{kind}
 use Rattle.iloc_timed.specs.Latency.{latency}
+use Rattle.iloc_rules.specs.declared.memory_rule.MemoryRule.TheVariants.{Book}
 use Rattle.iloc_rules.specs.Renaming.{numbering, renamed_by}
 use Rattle.iloc_sched.specs.declared.edges.lasts.Lasts.{Lasts}
 use Rattle.iloc_sched.specs.declared.renaming.Names.{Names}
@@ -18,7 +19,7 @@ use Rattle.iloc_sched.specs.Steps.Views.{graph_of}
 pub record IsFilling (t : Tables) (lasts : Lasts) : Type 0 where
   pub kinds : t.kinds.items ≡ map kind t.ops.items
   pub own : t.own.items ≡ map (latency t.latencies) t.ops.items
-  pub partial : IsPartialGraph t.latencies t.ops.items (graph_of t.edges) (length t.ops.items)
+  pub partial : IsPartialGraph Book t.latencies t.ops.items (graph_of t.edges) (length t.ops.items)
   pub known : IsLasts t.ops.items lasts (length t.ops.items)
   pub starts : length t.edges.starts.items ≡ length t.ops.items + 1
   pub count : length t.edges.edges.items + length lasts.loads.items ≤ 5 * length t.ops.items

@@ -7,22 +7,39 @@ use Rattle.iloc_meaning.specs.Trace.{op_at}
 use Rattle.iloc_timed.specs.declared.latencies.Latencies.{Latencies}
 use Rattle.iloc_timed.specs.Latency.{latency}
 use Rattle.iloc_sched.specs.declared.edges.Edges.{Edges}
-use Rattle.iloc_rules.specs.Delays.{memory_delays, IsDelayPair}
-use Rattle.iloc_sched.specs.Graph.Near.{IsNear, IsNearPair, NoneBetween}
+use Rattle.iloc_rules.specs.declared.memory_rule.MemoryRule.{MemoryRule}
+use Rattle.iloc_rules.specs.declared.memory_rule.MemoryRule.TheVariants.{Book, Address}
+use Rattle.iloc_rules.specs.Apart.{by_address}
+use Rattle.iloc_rules.specs.Delays.{memory_delays, delays_where, IsDelayPairWhere}
+use Rattle.iloc_rules.specs.Rule.{counts_by}
+use Rattle.iloc_addresses.specs.Near.{IsNear as IsNearWhere}
+use Rattle.iloc_sched.specs.Graph.Near.{IsNear, NoneBetween}
 use Rattle.iloc_sched.specs.Steps.Graph.{Graph, IsLast}
 
+-- near, by a rule of memory
+abbrev pub IsNearBy : MemoryRule → Latencies → List Op → ℕ → ℕ → ℕ → Type 0
+IsNearBy Book lat ops i j d = IsNear lat ops i j d
+IsNearBy Address lat ops i j d = IsNearWhere (by_address ops) lat ops i j d
+
+-- by the rule operation j waits d cycles for operation i, and near
+pub record IsNearPairBy (rule : MemoryRule) (lat : Latencies) (ops : List Op) (i j d : ℕ) : Type 0 where
+  pub order : i < j
+  pub within : j < length ops
+  pub delay : Contains (delays_where (counts_by rule ops i j) lat (op_at ops i) (op_at ops j)) d
+  pub near : IsNearBy rule lat ops i j d
+
 -- the edges into the operations before j are all there, and some of those into j
-pub record IsPartialGraph (lat : Latencies) (ops : List Op) (graph : Graph) (j : ℕ) : Type 0 where
+pub record IsPartialGraph (rule : MemoryRule) (lat : Latencies) (ops : List Op) (graph : Graph) (j : ℕ) : Type 0 where
   pub size : graph.ops ≡ length ops
   pub rises : (a b : ℕ) → a ≤ b → b ≤ j → graph.start a ≤ graph.start b
   pub top : graph.start j ≤ graph.count
   pub into : (b x : ℕ) → b < j → graph.start b ≤ x → x < graph.start (b + 1) → graph.to x ≡ b
   pub into_last : (x : ℕ) → graph.start j ≤ x → x < graph.count → graph.to x ≡ j
   pub to_there : (x : ℕ) → x < graph.start j → (graph.to x < j) × (graph.start (graph.to x) ≤ x) × (x < graph.start (graph.to x + 1))
-  pub sound : (x : ℕ) → x < graph.count → IsNearPair lat ops (graph.from x) (graph.to x) (graph.delay x)
+  pub sound : (x : ℕ) → x < graph.count → IsNearPairBy rule lat ops (graph.from x) (graph.to x) (graph.delay x)
   pub heads : (i : ℕ) → i < graph.ops → IsLast (λ x. graph.from x ≡ i) graph.count (graph.head i)
   pub previous_edges : (x : ℕ) → x < graph.count → IsLast (λ y. graph.from y ≡ graph.from x) x (graph.previous x)
-  pub all : (i b d : ℕ) → b < j → IsDelayPair lat ops i b d → IsNear lat ops i b d → (x : ℕ) × (x < graph.start j) × (graph.to x ≡ b) × (graph.from x ≡ i) × (d ≤ graph.delay x)
+  pub all : (i b d : ℕ) → b < j → IsDelayPairWhere (counts_by rule ops) lat ops i b d → IsNearBy rule lat ops i b d → (x : ℕ) × (x < graph.start j) × (graph.to x ≡ b) × (graph.from x ≡ i) × (d ≤ graph.delay x)
 
 -- an edge into j, the last operation so far, from i with at least the delay d
 pub record HasEdge (graph : Graph) (j i d : ℕ) : Type 0 where
@@ -67,15 +84,15 @@ pub record KeepsFrame (old new : Edges) : Type 0 where
   pub capacity : KeepsCapacity old new
 
 -- more edges into j, the others as they were
-pub record Grows (lat : Latencies) (ops : List Op) (graph graph' : Graph) (j : ℕ) : Type 0 where
-  pub partial : IsPartialGraph lat ops graph' j
+pub record Grows (rule : MemoryRule) (lat : Latencies) (ops : List Op) (graph graph' : Graph) (j : ℕ) : Type 0 where
+  pub partial : IsPartialGraph rule lat ops graph' j
   pub keeps : (i d : ℕ) → HasEdge graph j i d → HasEdge graph' j i d
 
 -- edges into j with delay d are added, from each operation of which P holds
 abbrev pub AddsFrom : (ℕ → Type 0) → Graph → Graph → ℕ → ℕ → Type 0
 AddsFrom P graph graph' j d =
-    (lat : Latencies) (ops : List Op) → IsPartialGraph lat ops graph j → ((i : ℕ) → P i → IsNearPair lat ops i j d)
-    → Grows lat ops graph graph' j × ((i : ℕ) → P i → HasEdge graph' j i d)
+    (rule : MemoryRule) (lat : Latencies) (ops : List Op) → IsPartialGraph rule lat ops graph j
+    → ((i : ℕ) → P i → IsNearPairBy rule lat ops i j d) → Grows rule lat ops graph graph' j × ((i : ℕ) → P i → HasEdge graph' j i d)
 
 -- a use of register r has its edge
 abbrev pub CoversUse : Latencies → List Op → Graph → ℕ → Reg → Type 0

@@ -1,18 +1,21 @@
 use Rattle.std.proofs.Common.{◌≡◌, ◌<◌, length, get_or, Some, sym, ◌∙◌, arith}
 use Rattle.iloc_meaning.specs.Trace.{op_at}
 use Rattle.iloc_timed.specs.Latency.{latency}
+use Rattle.iloc_rules.specs.declared.memory_rule.MemoryRule.{MemoryRule}
 use Rattle.iloc_sched.specs.Steps.Renaming.ByRegister.{number_at}
-use Rattle.iloc_sched.specs.Steps.Edges.PartialGraph.{Grows, CoversUse}
+use Rattle.iloc_sched.specs.Steps.Edges.PartialGraph.{IsPartialGraph, Grows, CoversUse}
 use Rattle.iloc_sched.specs.Steps.Views.{graph_of}
 use Rattle.iloc_sched.proofs.KeptEdges.ListedKinds.{latency_listed}
 use Rattle.iloc_sched.proofs.KeptEdges.NearPairs.{definer_there}
 use Rattle.iloc_sched.proofs.KeptEdges.AddedEdges.{adds_use}
 use Rattle.iloc_sched.proofs.edges.Edges.add_use.Goals as goal
 
-both : (c : goal.After-add) → Grows c.args.latencies.now c.args.operations.now.ops.now (graph_of c.args.self.now)
+both : (c : goal.After-add) (rule : MemoryRule)
+    → IsPartialGraph rule c.args.latencies.now c.args.operations.now.ops.now (graph_of c.args.self.now) c.args.j
+    → Grows rule c.args.latencies.now c.args.operations.now.ops.now (graph_of c.args.self.now)
     (graph_of c.add.new.self) c.args.j × CoversUse c.args.latencies.now c.args.operations.now.ops.now
     (graph_of c.add.new.self) c.args.j c.args.register
-both c =
+both c rule partial =
     let ops = c.args.operations.now.ops.now in
     let at : number_at c.args.lasts.now.definers c.args.register.0 ≡ Some c.in-Some.i = sym c.get.ensures
     ∙ c.in-Some.is in
@@ -23,12 +26,12 @@ both c =
     let delay = get_or c.args.operations.now.latencies.now c.in-Some.i 0 in
     let long : delay ≡ latency c.args.latencies.now (op_at ops c.in-Some.i) =
     latency_listed c.args.latencies.now ops c.args.operations.now.latencies.now c.in-Some.i 0 c.requires.own there in
-    adds_use c.args.latencies.now ops c.args.lasts.now c.args.j c.requires.next.known c.requires.next.there
+    adds_use c.args.latencies.now ops c.args.lasts.now c.args.j c.requires.next.known c.requires.next.there rule
     (graph_of c.args.self.now) (graph_of c.add.new.self) c.args.register c.in-Some.i delay
-    c.requires.next.renamed c.requires.used c.requires.partial at long c.add.ensures.adds
+    c.requires.next.renamed c.requires.used partial at long c.add.ensures.adds
 
 pub returns-in-Some-clause-grows : goal.returns-in-Some-clause-grows
-returns-in-Some-clause-grows c = (both c).0
+returns-in-Some-clause-grows c rule partial = (both c rule partial).0
 
 pub returns-in-Some-clause-covers : goal.returns-in-Some-clause-covers
-returns-in-Some-clause-covers c = (both c).1
+returns-in-Some-clause-covers c = (both c c.requires.partial.0 c.requires.partial.1).1

@@ -2,6 +2,7 @@ use Rattle.std.proofs.Common.{refl, sym, ◌∙◌, ap, arith}
 use Rattle.iloc_sched.specs.Steps.Renaming.Registers.{listed}
 use Rattle.iloc_sched.specs.Steps.Views.{graph_of}
 use Rattle.iloc_sched.proofs.KeptEdges.AddedEdges.{one_covered, two_covered}
+use Rattle.iloc_sched.proofs.KeptEdges.PartialGraphs.{grows_then}
 use Rattle.iloc_sched.proofs.edges.Edges.add_uses.Goals as goal
 
 pub add_use-requires-in-Two-2-clause-used : goal.add_use-requires-in-Two-2-clause-used
@@ -15,7 +16,18 @@ returns-in-One-clause-covers c =
 
 pub returns-in-Two-clause-covers : goal.returns-in-Two-clause-covers
 returns-in-Two-clause-covers c =
-    two_covered c.args.latencies.now c.args.operations.now.ops.now (graph_of c.add_use-in-Two.new.self)
+    two_covered c.requires.partial.0 c.args.latencies.now c.args.operations.now.ops.now (graph_of c.add_use-in-Two.new.self)
     (graph_of c.add_use-in-Two-2.new.self) c.args.j c.in-Two.left c.in-Two.right
     (ap listed (sym c.in-Two.is) ∙ c.requires.uses)
-    c.add_use-in-Two-2.ensures.grows c.add_use-in-Two.ensures.covers c.add_use-in-Two-2.ensures.covers
+    (c.add_use-in-Two-2.ensures.grows c.requires.partial.0
+    (c.add_use-in-Two.ensures.grows c.requires.partial.0 c.requires.partial.1).partial) c.add_use-in-Two.ensures.covers c.add_use-in-Two-2.ensures.covers
+
+pub add_use-requires-in-Two-2-clause-partial : goal.add_use-requires-in-Two-2-clause-partial
+add_use-requires-in-Two-2-clause-partial c =
+    (c.requires.partial.0, (c.add_use-in-Two.ensures.grows c.requires.partial.0 c.requires.partial.1).partial)
+
+pub returns-in-Two-clause-grows : goal.returns-in-Two-clause-grows
+returns-in-Two-clause-grows c rule partial =
+    let first = c.add_use-in-Two.ensures.grows rule partial in
+    grows_then rule _ _ _ (graph_of c.add_use-in-Two.new.self) _ _ first
+    (c.add_use-in-Two-2.ensures.grows rule first.partial)

@@ -2,6 +2,7 @@ use Rattle.std.proofs.Common.{◌≡◌, ◌<◌, length, refl, ◌∙◌, ap, s
 use Rattle.std.proofs.lemmas.List.{get_or_default}
 use Rattle.iloc_ops.specs.declared.op.Op.TheVariants.{Nop}
 use Rattle.iloc_ops.specs.Registers.{defined}
+use Rattle.iloc_rules.specs.declared.memory_rule.MemoryRule.TheVariants.{Book}
 use Rattle.iloc_timed.specs.Kinds.{kind}
 use Rattle.iloc_sched.specs.Steps.Edges.PartialGraph.{IsPartialGraph}
 use Rattle.iloc_sched.specs.Steps.Views.{graph_of}
@@ -10,9 +11,9 @@ use Rattle.iloc_sched.proofs.edges.Edges.fill.Goals as goal
 
 pub loop-j-init : goal.loop-j-init
 loop-j-init c =
-    let size = (c.in_ok-clear.ensures.partial c.args.latencies.now c.args.operations.now.ops.now refl).size in
+    let size = (c.in_ok-clear.ensures.partial Book c.args.latencies.now c.args.operations.now.ops.now refl).size in
     record {
-      partial = c.in_ok-clear.ensures.partial c.args.latencies.now c.args.operations.now.ops.now refl;
+      partial = c.in_ok-clear.ensures.partial Book c.args.latencies.now c.args.operations.now.ops.now refl;
       lasts = c.clear-2.ensures.lasts c.args.operations.now.ops.now;
       starts = c.in_ok-clear.ensures.starts;
       capacity = let capacity = c.in_ok-clear.ensures.capacity in record {
@@ -44,5 +45,5 @@ pub returns : goal.returns
 returns c =
     let at_end : c.loop-j.j ≡ length c.args.operations.now.ops.now = omega arith in
     kept_at_end c.args.latencies.now c.args.operations.now.ops.now (graph_of c.loop-j.self)
-    (subst (λ n. IsPartialGraph c.args.latencies.now c.args.operations.now.ops.now (graph_of c.loop-j.self) n) at_end
+    (subst (λ n. IsPartialGraph Book c.args.latencies.now c.args.operations.now.ops.now (graph_of c.loop-j.self) n) at_end
     c.loop-j.invariant.partial)

@@ -1,4 +1,5 @@
 use Rattle.std.proofs.Common.{◌≡◌, ◌+◌, ◌*◌, ◌≤◌, length}
+use Rattle.iloc_rules.specs.declared.memory_rule.MemoryRule.TheVariants.{Book}
 use Rattle.iloc_sched.specs.Steps.Edges.Lasts.{IsLasts}
 use Rattle.iloc_sched.specs.Steps.Edges.PartialGraph.{HasCapacity, IsPartialGraph}
 use Rattle.iloc_sched.specs.Steps.Views.{graph_of}
@@ -6,7 +7,7 @@ use Rattle.iloc_sched.proofs.edges.Edges.fill.Given as goal
 
 abbrev pub invariant-loop-j : goal.invariant-loop-j
 invariant-loop-j l = record {
-  partial : IsPartialGraph l.latencies l.operations.ops.now (graph_of l.self) l.j;
+  partial : IsPartialGraph Book l.latencies l.operations.ops.now (graph_of l.self) l.j;
   lasts : IsLasts l.operations.ops.now l.lasts l.j;
   starts : length l.self.starts.items ≡ l.j + 1;
   capacity : HasCapacity l.self (length l.self.heads.items);

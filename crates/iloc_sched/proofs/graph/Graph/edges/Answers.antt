@@ -5,7 +5,7 @@ use Rattle.iloc_sched.specs.declared.edges.Edge.{Edge}
 use Rattle.iloc_rules.specs.Delays.{IsDelayPair}
 use Rattle.iloc_sched.specs.Steps.Graph.{IsGraphOf}
 use Rattle.iloc_sched.specs.Steps.Views.{graph_of, no_edge}
-use Rattle.iloc_sched.proofs.KeptEdges.BookGraphs.{book_graph}
+use Rattle.iloc_sched.proofs.KeptEdges.SoundGraphs.{book_graph}
 use Rattle.iloc_sched.proofs.KeptEdges.EdgesInto.{all_edges}
 use Rattle.iloc_sched.proofs.graph.Graph.edges.Goals as goal
 

@@ -1,4 +1,4 @@
-use Rattle.iloc_sched.proofs.KeptEdges.BookGraphs.{none_is_of_block}
+use Rattle.iloc_sched.proofs.KeptEdges.SoundGraphs.{none_is_of_block}
 use Rattle.iloc_sched.proofs.graph.RuledGraph.new.Goals as goal
 
 pub invariant_of-result : goal.invariant_of-result

@@ -1,4 +1,5 @@
 use Rattle.std.proofs.Common.{◌≡◌, [], length, map, sym, ◌∙◌, ap, subst, arith}
+use Rattle.iloc_rules.specs.declared.memory_rule.MemoryRule.TheVariants.{Book}
 use Rattle.iloc_timed.specs.Kinds.{kind}
 use Rattle.iloc_timed.specs.Latency.{latency}
 use Rattle.iloc_sched.specs.Steps.Edges.Lasts.{IsLasts}
@@ -15,8 +16,8 @@ returns-clause-filling c =
     record {
       kinds = kinds ∙ ap (map kind) (sym ops);
       own = own ∙ ap (map (latency c.args.self.now.latencies)) (sym ops);
-      partial = subst (λ n. IsPartialGraph c.args.self.now.latencies c.reserve.new.self.items (graph_of c.empty.new.self) n)
-          (sym none) (c.in_ok-empty.ensures.partial c.args.self.now.latencies c.reserve.new.self.items none);
+      partial = subst (λ n. IsPartialGraph Book c.args.self.now.latencies c.reserve.new.self.items (graph_of c.empty.new.self) n)
+          (sym none) (c.in_ok-empty.ensures.partial Book c.args.self.now.latencies c.reserve.new.self.items none);
       known = subst (λ n. IsLasts c.reserve.new.self.items c.clear-4.new.self n) (sym none)
           (c.clear-4.ensures.lasts c.reserve.new.self.items);
       starts = omega (arith, c.in_ok-empty.ensures.starts);

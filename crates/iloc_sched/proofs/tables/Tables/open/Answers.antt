@@ -1,5 +1,5 @@
 use Rattle.std.proofs.Common.{refl}
-use Rattle.iloc_sched.proofs.KeptEdges.BookGraphs.{book_is_sound}
+use Rattle.iloc_sched.proofs.KeptEdges.SoundGraphs.{book_is_sound}
 use Rattle.iloc_sched.proofs.tables.Tables.open.Goals as goal
 
 pub returns-clause-sound : goal.returns-clause-sound

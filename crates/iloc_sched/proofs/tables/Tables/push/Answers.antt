@@ -4,6 +4,7 @@ use Rattle.iloc_sched.specs.declared.edges.Edge.{Edge}
 use Rattle.iloc_ops.specs.declared.op.Op.{Op}
 use Rattle.iloc_ops.specs.Registers.{defined}
 use Rattle.iloc_meaning.specs.Trace.{op_at}
+use Rattle.iloc_rules.specs.declared.memory_rule.MemoryRule.TheVariants.{Book}
 use Rattle.iloc_timed.specs.Kinds.{kind}
 use Rattle.iloc_timed.specs.Latency.{latency_of}
 use Rattle.iloc_sched.specs.Steps.Edges.Lasts.{IsLasts}
@@ -60,8 +61,8 @@ returns-clause-filling c =
           (c.push_reserved-3.ensures.items ∙ ap (λ n. c.args.self.now.own.items ++ n ∷ [])
           (c.of.ensures.latency ∙ ap (latency_of lat) c.of-kind.ensures))
           c.requires.filling.own;
-      partial = subst (λ n. IsPartialGraph lat ops (graph_of c.add_all.new.self) n) size
-          (subst (λ xs. IsPartialGraph lat xs (graph_of c.add_all.new.self) (c.len-j.result + 1)) read
+      partial = subst (λ n. IsPartialGraph Book lat ops (graph_of c.add_all.new.self) n) size
+          (subst (λ xs. IsPartialGraph Book lat xs (graph_of c.add_all.new.self) (c.len-j.result + 1)) read
           c.add_all.ensures.partial);
       known = subst (λ n. IsLasts ops c.note.new.self n) size
           (c.in_ok-note.ensures.lasts ops (c.of-kind.ensures ∙ ap kind (sym last))

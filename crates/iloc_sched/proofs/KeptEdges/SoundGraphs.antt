@@ -1,11 +1,13 @@
--- The tables of a graph by the book are sound; for `Tables::open` and the calls of `Graph`.
+-- The tables of a graph are sound, by the book and by address; for `Tables::open`, `open_by_address` and the calls of `Graph`.
 use Rattle.std.proofs.Common.{◌≡◌, ℕ, ◌<◌, List, [], length, map, inl, inr, sym, ◌∙◌, ap, subst, arith}
 use Rattle.std.proofs.lemmas.List.{get_or_past}
 use Rattle.iloc_ops.specs.declared.op.Op.{Op}
 use Rattle.iloc_timed.specs.declared.latencies.Latencies.{Latencies}
 use Rattle.iloc_timed.specs.Kinds.{kind}
 use Rattle.iloc_timed.specs.Latency.{latency}
-use Rattle.iloc_rules.specs.declared.memory_rule.MemoryRule.TheVariants.{Book}
+use Rattle.iloc_rules.specs.declared.memory_rule.MemoryRule.TheVariants.{Book, Address}
+use Rattle.iloc_rules.specs.declared.memory_rule.MemoryRule.{MemoryRule}
+use Rattle.iloc_rules.specs.Apart.{by_address}
 use Rattle.iloc_rules.specs.Delays.{all_count}
 use Rattle.iloc_rules.specs.Rule.{counts_by}
 use Rattle.iloc_sched.specs.declared.tables.Tables.{Tables}
@@ -35,6 +37,21 @@ book_is_sound t book is = record {
   graph = subst (λ rule. IsGraphWhere (counts_by rule t.ops.items) t.latencies t.ops.items (graph_of t.edges)) (sym book)
       (by_ways t.latencies t.ops.items (graph_of t.edges) is.graph);
   book = λ _. is.graph;
+}
+
+not_by_the_book : (rule : MemoryRule) → rule ≡ Address → rule ≡ Book → ⊥
+not_by_the_book rule address book = let same : Address ≡ Book = sym address ∙ book in cc
+
+-- so are those of one by address
+pub address_is_sound : (t : Tables) → t.rule ≡ Address → t.kinds.items ≡ map kind t.ops.items
+    → t.own.items ≡ map (latency t.latencies) t.ops.items
+    → IsGraphWhere (by_address t.ops.items) t.latencies t.ops.items (graph_of t.edges) → IsSound t
+address_is_sound t address kinds own graph = record {
+  kinds = kinds;
+  own = own;
+  graph = subst (λ rule. IsGraphWhere (counts_by rule t.ops.items) t.latencies t.ops.items (graph_of t.edges)) (sym address)
+      graph;
+  book = λ book. absurd (not_by_the_book t.rule address book);
 }
 
 none_by_the_book : (t : Tables) → t.ops.items ≡ [] → t.kinds.items ≡ [] → t.own.items ≡ [] → IsEmptied t.edges

@@ -1,0 +1,78 @@
+use Rattle.std.proofs.Common.{ℕ, ◌≡◌, ◌<◌, List, length, take, get_or, refl, sym, ◌∙◌, ap, ap₂, subst, arith}
+use Rattle.std.proofs.lemmas.List.{take_more, take_all, get_or_default}
+use Rattle.iloc_ops.specs.declared.op.Op.{Op}
+use Rattle.iloc_ops.specs.declared.op.Op.TheVariants.{Nop}
+use Rattle.iloc_meaning.specs.Trace.{op_at}
+use Rattle.iloc_timed.specs.Kinds.{kind}
+use Rattle.iloc_rules.specs.Apart.{by_address}
+use Rattle.iloc_rules.proofs.Basics.Members.{in_at}
+use Rattle.iloc_addresses.specs.Dependences.{AreSources}
+use Rattle.iloc_timed.specs.declared.latencies.Latencies.{Latencies}
+use Rattle.iloc_sched.specs.Steps.Edges.ByAddress.{delay_after, CoversSources}
+use Rattle.iloc_sched.specs.Steps.Edges.PartialGraph.{AddsFrom}
+use Rattle.iloc_sched.specs.Steps.Views.{graph_of}
+use Rattle.iloc_sched.proofs.KeptEdges.BySources.{source_pair, source_more}
+use Rattle.iloc_sched.proofs.edges.Edges.add_sources.Goals as goal
+
+pub loop-i-init : goal.loop-i-init
+loop-i-init c = record {
+  grows = record { partial = c.requires.partial; keeps = λ i d edge. edge };
+  covers = λ i none. absurd none;
+  count = omega arith;
+  frame = record {
+    heads = refl;
+    starts = refl;
+    capacity = record { starts = refl; heads = refl; edges = refl };
+  };
+}
+
+-- each source is an earlier operation
+earlier : (lat : Latencies) (ops : List Op) (j : ℕ) (sources : List ℕ) (k : ℕ) → AreSources (by_address ops) ops j sources
+    → j < length ops → k < length sources → get_or sources k 0 < j
+earlier lat ops j sources k are there below =
+    (source_pair lat ops j sources are there (get_or sources k 0) (in_at sources k 0 below)).order
+
+pub bounds-operations-i : goal.bounds-operations-i
+bounds-operations-i c =
+    let before = earlier c.args.latencies.now c.args.operations.now.ops.now c.args.j c.args.sources.now c.loop-i.i-index
+    c.requires.sources c.requires.there (omega arith) in
+    omega (arith, c.requires.there)
+
+pub add-requires-clause-there : goal.add-requires-clause-there
+add-requires-clause-there c =
+    let before = earlier c.args.latencies.now c.args.operations.now.ops.now c.args.j c.args.sources.now c.loop-i.i-index
+    c.requires.sources c.requires.there (omega arith) in
+    let size = c.loop-i.invariant.grows.partial.size in
+    omega (arith, c.requires.there)
+
+pub loop-i-preserved : goal.loop-i-preserved
+loop-i-preserved c =
+    let lat = c.args.latencies.now in
+    let ops = c.args.operations.now.ops.now in
+    let xs = c.args.sources.now in
+    let k : ℕ = c.loop-i.i-index in
+    let i : ℕ = get_or xs k 0 in
+    let below : k < length xs = omega arith in
+    let before : i < c.args.j = earlier lat ops c.args.j xs k c.requires.sources c.requires.there below in
+    let there : i < length ops = omega (arith, c.requires.there) in
+    let delay : c.delay_after.result ≡ delay_after lat (kind (op_at ops i)) (kind (op_at ops c.args.j)) =
+    c.delay_after.ensures ∙ ap₂ (delay_after lat) (c.of-first.ensures ∙ ap kind (get_or_default ops i _ Nop there)) c.requires.of in
+    let more = source_more lat ops c.args.j xs c.requires.sources c.requires.there (take k xs) i (graph_of c.args.self.now)
+    (graph_of c.loop-i.self) (graph_of c.add.new.self) (in_at xs k 0 below) c.loop-i.invariant.grows
+    c.loop-i.invariant.covers
+    (subst (AddsFrom (λ m. m ≡ i) (graph_of c.loop-i.self) (graph_of c.add.new.self) c.args.j) delay c.add.ensures.adds) in
+    record {
+      grows = more.0;
+      covers = subst (CoversSources lat ops (graph_of c.add.new.self) c.args.j) (sym (take_more xs k 0 below)) more.1;
+      count = omega (arith, c.add.ensures.count);
+      frame = record {
+        heads = omega arith;
+        starts = cc;
+        capacity = record { starts = omega arith; heads = omega arith; edges = omega arith };
+      };
+    }
+
+pub returns-clause-covers : goal.returns-clause-covers
+returns-clause-covers c =
+    subst (CoversSources c.args.latencies.now c.args.operations.now.ops.now (graph_of c.loop-i.self) c.args.j)
+    (take_all c.loop-i.i-index c.args.sources.now (omega arith)) c.loop-i.invariant.covers

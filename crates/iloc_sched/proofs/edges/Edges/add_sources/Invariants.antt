@@ -1,0 +1,14 @@
+use Rattle.std.proofs.Common.{◌≡◌, ◌+◌, length, take}
+use Rattle.iloc_rules.specs.declared.memory_rule.MemoryRule.TheVariants.{Address}
+use Rattle.iloc_sched.specs.Steps.Edges.ByAddress.{CoversSources}
+use Rattle.iloc_sched.specs.Steps.Edges.PartialGraph.{KeepsFrame, Grows}
+use Rattle.iloc_sched.specs.Steps.Views.{graph_of}
+use Rattle.iloc_sched.proofs.edges.Edges.add_sources.Given as goal
+
+abbrev pub invariant-loop-i : goal.invariant-loop-i
+invariant-loop-i l = record {
+  grows : Grows Address l.latencies l.operations.ops.now (graph_of l.fn.self) (graph_of l.self) l.j;
+  covers : CoversSources l.latencies l.operations.ops.now (graph_of l.self) l.j (take l.i-index l.sources);
+  count : length l.self.edges.items ≡ length l.fn.self.edges.items + l.i-index;
+  frame : KeepsFrame l.fn.self l.self;
+}

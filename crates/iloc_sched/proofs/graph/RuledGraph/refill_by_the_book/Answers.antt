@@ -1,6 +1,0 @@
-use Rattle.std.proofs.Common.{arith}
-use Rattle.iloc_sched.proofs.KeptEdges.BookGraphs.{none_is_of_block}
-use Rattle.iloc_sched.proofs.graph.RuledGraph.refill_by_the_book.Goals as goal
-
-pub invariant_of-self : goal.invariant_of-self
-invariant_of-self c = grind (arith, none_is_of_block)

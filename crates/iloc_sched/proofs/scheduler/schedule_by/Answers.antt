@@ -1,0 +1,29 @@
+use Rattle.std.proofs.Common.{length, subst, sym, ap, ◌∙◌}
+use Rattle.std.proofs.lemmas.Result.{IfOk-weaker}
+use Rattle.iloc_rules.specs.Greedy.{IsGreedyWhere}
+use Rattle.iloc_rules.specs.Priority.{priorities_where}
+use Rattle.iloc_rules.specs.Rule.{counts_by}
+use Rattle.iloc_rules.proofs.PriorityValues.LongestWhere.{length_where}
+use Rattle.iloc_sched.specs.Graph.GraphOf.{RuledGraphOf}
+use Rattle.iloc_sched.proofs.Choice.Scheduled.{the_schedule}
+use Rattle.iloc_sched.proofs.scheduler.schedule_by.Goals as goal
+
+pub lend_ruled-requires : goal.lend_ruled-requires
+lend_ruled-requires c =
+    let g = c.refill.new.self in
+    ap length (c.deref.ensures.value ∙ c.in_ok-chains.ensures) ∙ length_where (counts_by g.rule g.ops) g.latencies g.ops
+
+pub returns : goal.returns
+returns c =
+    let rule = c.args.rule in
+    let lat = c.args.latencies.now in
+    let block = c.args.block.now.ops in
+    IfOk-weaker c.lend_ruled.result _ _
+    (λ s lent.
+    let greedy = (lent rule lat block c.in_ok-refill.ensures.graph).greedy in
+    the_schedule rule (λ ops. priorities_where (counts_by rule ops) lat ops) lat block s
+    (subst (λ ranks. IsGreedyWhere (counts_by rule s.ops) ranks lat block s.ops s.rows)
+    (c.deref.ensures.value ∙ (c.in_ok-chains.ensures
+    ∙ (ap (λ (g : RuledGraphOf). priorities_where (counts_by g.rule g.ops) g.latencies g.ops) c.in_ok-refill.ensures.graph
+    ∙ ap (λ ops. priorities_where (counts_by rule ops) lat ops) (sym greedy.lawful.names)))) greedy))
+    c.lend_ruled.ensures

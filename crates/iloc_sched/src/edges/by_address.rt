@@ -1,0 +1,139 @@
+//! The kept edges where operations whose addresses are known to differ don't wait for each other by memory.
+ghost use Rattle.std.specs.Prelude.{ℕ, ◌≡◌, ◌≤◌, ◌<◌, ◌+◌, ◌*◌, length, map, OnOk, Contains};
+ghost use Rattle.std.specs.List.{range_with_len};
+ghost use Rattle.iloc_ops.specs.Registers.{used};
+ghost use Rattle.iloc_meaning.specs.Trace.{op_at};
+ghost use Rattle.iloc_timed.specs.Kinds.{kind as kind_of};
+ghost use Rattle.iloc_timed.specs.Latency.{latency};
+ghost use Rattle.iloc_rules.specs.Apart.{by_address, address_at};
+ghost use Rattle.iloc_rules.specs.declared.memory_rule.MemoryRule.TheVariants.{Address};
+ghost use Rattle.iloc_rules.specs.Renaming.{IsRenamed};
+ghost use Rattle.iloc_addresses.specs.Dependences.{AreSources};
+ghost use Rattle.iloc_sched.specs.Steps.Edges.ByAddress.{delay_after, CoversSources};
+ghost use Rattle.iloc_sched.specs.Steps.Edges.Lasts.{IsNext};
+ghost use Rattle.iloc_sched.specs.Steps.Edges.PartialGraph.{HasCapacity, IsPartialGraph, KeepsFrame, KeepsCapacity, Grows};
+ghost use Rattle.iloc_sched.specs.Steps.Graph.{IsGraphWhere};
+ghost use Rattle.iloc_sched.specs.Steps.Renaming.Registers.{listed};
+ghost use Rattle.iloc_sched.specs.Steps.Views.{graph_of};
+
+use crate::edges::Edges;
+use crate::edges::kinds::Operations;
+use crate::edges::lasts::Lasts;
+use crate::registers::{OperandRegisters, Uses};
+use iloc_addresses::MemoryDependences;
+use iloc_ops::{MAX_OPS, NoMemory};
+use iloc_rules::{Word, reads_stored};
+use iloc_timed::{Kind, Latencies};
+use std::alloc::Global;
+
+/// How long an operation of the second kind waits for one of the first, where it waits by memory or outputs.
+fn delay_after(latencies: &Latencies, first: Kind, second: Kind) -> u32
+    ensures { result ≡ delay_after latencies.now first second }
+{
+    if reads_stored(first, second) {
+        latencies.store
+    } else {
+        1
+    }
+}
+
+impl Edges {
+    /// Adds the edges into operation j from those that it has to wait for by memory and outputs.
+    fn add_sources(
+        &mut self,
+        operations: &Operations,
+        latencies: &Latencies,
+        sources: &[u32],
+        kind: Kind,
+        j: usize,
+    )
+        requires of { kind ≡ kind_of (op_at operations.now.ops.now j) }
+        requires there { j < length operations.now.ops.now }
+        requires few { length operations.now.ops.now ≤ MAX_OPS }
+        requires sources { AreSources (by_address operations.now.ops.now) operations.now.ops.now j sources.now }
+        requires space { length self.old.edges.items + length sources.now ≤ 5 * length self.old.heads.items }
+        requires capacity { HasCapacity self.old (length self.old.heads.items) }
+        requires partial { IsPartialGraph Address latencies.now operations.now.ops.now (graph_of self.old) j }
+        ensures grows { Grows Address latencies.now operations.now.ops.now (graph_of self.old) (graph_of self.new) j }
+        ensures covers { CoversSources latencies.now operations.now.ops.now (graph_of self.new) j sources.now }
+        ensures count { length self.new.edges.items ≡ length self.old.edges.items + length sources.now }
+        ensures frame { KeepsFrame self.old self.new }
+    {
+        for i in sources {
+            let first = Kind::of(&operations.ops[*i as usize]);
+            self.add(*i, j as u32, delay_after(latencies, first, kind));
+        }
+    }
+
+    /// Adds all edges into operation j.
+    fn add_by_address(
+        &mut self,
+        operations: &Operations,
+        latencies: &Latencies,
+        lasts: &Lasts,
+        sources: &[u32],
+        kind: Kind,
+        uses: Uses,
+        j: usize,
+    )
+        requires of { kind ≡ kind_of (op_at operations.now.ops.now j) }
+        requires uses { listed uses ≡ used (op_at operations.now.ops.now j) }
+        requires next { IsNext operations.now.ops.now lasts.now j }
+        requires own { operations.now.latencies.now ≡ map (latency latencies.now) operations.now.ops.now }
+        requires sources { AreSources (by_address operations.now.ops.now) operations.now.ops.now j sources.now }
+        requires space { length self.old.edges.items + 2 + length sources.now ≤ 5 * length self.old.heads.items }
+        requires capacity { HasCapacity self.old (length self.old.heads.items) }
+        requires starts { length self.old.starts.items ≡ j + 1 }
+        requires partial { IsPartialGraph Address latencies.now operations.now.ops.now (graph_of self.old) j }
+        ensures partial { IsPartialGraph Address latencies.now operations.now.ops.now (graph_of self.new) (j + 1) }
+        ensures count { length self.new.edges.items ≤ length self.old.edges.items + 2 + length sources.now }
+        ensures starts { length self.new.starts.items ≡ j + 2 }
+        ensures heads { length self.new.heads.items ≡ length self.old.heads.items }
+        ensures capacity { KeepsCapacity self.old self.new }
+    {
+        self.add_uses(operations, latencies, lasts, uses, j);
+        self.add_sources(operations, latencies, sources, kind, j);
+        self.starts.push_reserved(self.edges.len() as u32);
+    }
+
+    /// The kept edges of renamed operations with these addresses, found fastest where their registers are below the limit.
+    pub fn fill_by_address(
+        &mut self,
+        alloc: Global,
+        lasts: &mut Lasts,
+        operations: &Operations,
+        addresses: &[Option<Word>],
+        registers: usize,
+        latencies: &Latencies,
+    ) -> Result<(), NoMemory>
+        requires few { length operations.now.ops.now ≤ MAX_OPS }
+        requires renamed { IsRenamed operations.now.ops.now }
+        requires own { operations.now.latencies.now ≡ map (latency latencies.now) operations.now.ops.now }
+        requires addresses { addresses.now
+            ≡ map (address_at operations.now.ops.now) (range_with_len 0 (length operations.now.ops.now)) }
+        ensures { OnOk result (IsGraphWhere (by_address operations.now.ops.now) latencies.now operations.now.ops.now
+            (graph_of self.new)) }
+    {
+        self.clear(operations.ops.len())?;
+        lasts.clear(registers);
+        let mut dependences = MemoryDependences::new(alloc);
+        let mut sources = Vec::new(alloc);
+        for j in 0..operations.ops.len() {
+            let op = operations.ops[j];
+            let registers = OperandRegisters::of(&op);
+            let kind = Kind::of(&op);
+            dependences.take(kind, addresses[j], j as u32, &mut sources)?;
+            self.add_by_address(
+                operations,
+                latencies,
+                lasts,
+                &sources,
+                kind,
+                registers.uses,
+                j,
+            );
+            lasts.note(kind, registers.defines, j)?;
+        }
+        Ok(())
+    }
+}
