@@ -13,13 +13,9 @@ use Rattle.iloc_meaning.specs.Address.{LAST_ADDRESS}
 use Rattle.iloc_timed.specs.Limits.{LONGEST_LATENCY}
 use Rattle.iloc_args.proofs.Uses.{AllOurs, IsOurs, is_our_action}
 
--- an argument of this id has this parser
-abbrev pub Takes : ValueParser → Text → List Rule → Type 0
-Takes parser id rules = IfSome (arg_by_id rules id) (λ a. a.parser ≡ Some parser)
-
--- it takes numbers within these bounds
+-- an argument of this id takes numbers within these bounds
 abbrev pub TakesIn : ℕ → ℕ → Text → List Rule → Type 0
-TakesIn low high id rules = Takes (vp.Signed (pos low) (pos high)) id rules
+TakesIn low high id rules = IfSome (arg_by_id rules id) (λ a. a.parser ≡ Some (vp.Signed (pos low) (pos high)))
 
 -- the arguments are such as the walk keeps, and take what each request has
 pub record IsFit (rules : List Rule) : Type 0 where
@@ -31,14 +27,6 @@ pub record IsFit (rules : List Rule) : Type 0 where
   pub store : TakesIn 1 LONGEST_LATENCY (codes "store") rules
   pub mult : TakesIn 1 LONGEST_LATENCY (codes "mult") rules
   pub nodes : TakesIn 0 100000 (codes "nodes") rules
-  pub csv : Takes vp.Bool (codes "csv") rules
-  pub json : Takes vp.Bool (codes "json") rules
-  pub lawful : Takes vp.Bool (codes "lawful") rules
-  pub operations : Takes vp.Bool (codes "operations") rules
-  pub outputs : Takes vp.Bool (codes "outputs") rules
-  pub either_slot : Takes vp.Bool (codes "either-slot") rules
-  pub fault_place : Takes vp.Bool (codes "where") rules
-  pub by_cycle : Takes vp.Bool (codes "cycles") rules
 
 -- ---- the test
 
@@ -56,15 +44,8 @@ abbrev is_number_parser : ℕ → ℕ → Option ValueParser → Bool
 is_number_parser low high (Some (vp.Signed (pos a) (pos b))) = (a == low) && (b == high)
 is_number_parser low high _ = false
 
-abbrev is_flag_parser : Option ValueParser → Bool
-is_flag_parser (Some vp.Bool) = true
-is_flag_parser _ = false
-
-abbrev takes : (Option ValueParser → Bool) → Text → List Rule → Bool
-takes is id rules = option_map_or (λ (a : Rule). is a.parser) (arg_by_id rules id) true
-
 abbrev takes_in : ℕ → ℕ → Text → List Rule → Bool
-takes_in low high id rules = takes (is_number_parser low high) id rules
+takes_in low high id rules = option_map_or (λ (a : Rule). is_number_parser low high a.parser) (arg_by_id rules id) true
 
 abbrev takes_memory : List Rule → Bool
 takes_memory rules = takes_in 0 LAST_ADDRESS (codes "at") rules && takes_in 0 4294967295 (codes "words") rules
@@ -74,29 +55,11 @@ takes_latencies rules =
     takes_in 1 LONGEST_LATENCY (codes "load") rules
     && (takes_in 1 LONGEST_LATENCY (codes "store") rules && takes_in 1 LONGEST_LATENCY (codes "mult") rules)
 
-abbrev takes_more_flags : List Rule → Bool
-takes_more_flags rules = takes is_flag_parser (codes "outputs") rules && takes is_flag_parser (codes "cycles") rules
-
-abbrev takes_last_flags : List Rule → Bool
-takes_last_flags rules =
-    takes_more_flags rules
-    && (takes is_flag_parser (codes "either-slot") rules && takes is_flag_parser (codes "where") rules)
-
-abbrev takes_passing_flags : List Rule → Bool
-takes_passing_flags rules =
-    takes is_flag_parser (codes "lawful") rules && takes is_flag_parser (codes "operations") rules
-
-abbrev takes_forms : List Rule → Bool
-takes_forms rules = takes is_flag_parser (codes "csv") rules && takes is_flag_parser (codes "json") rules
-
-abbrev takes_flags : List Rule → Bool
-takes_flags rules = takes_forms rules && (takes_passing_flags rules && takes_last_flags rules)
-
 abbrev takes_shares : List Rule → Bool
 takes_shares rules = takes_in 1 8 (codes "workers") rules && takes_in 0 100000 (codes "nodes") rules
 
 abbrev takes_all : List Rule → Bool
-takes_all rules = takes_shares rules && (takes_memory rules && (takes_latencies rules && takes_flags rules))
+takes_all rules = takes_shares rules && (takes_memory rules && takes_latencies rules)
 
 abbrev pub is_fit : List Rule → Bool
 is_fit rules = have_own_ids rules && (are_ours rules && takes_all rules)
@@ -134,60 +97,29 @@ number_parser : (low high : ℕ) (o : Option ValueParser) → is_number_parser l
     → o ≡ Some (vp.Signed (pos low) (pos high))
 number_parser low high o e = grind (arith, and_parts, eqb-true, pos)
 
-flag_parser : (o : Option ValueParser) → is_flag_parser o ≡ true → o ≡ Some vp.Bool
-flag_parser (Some vp.Bool) e = refl
-flag_parser _ e = cc
-
-has_parser : (is : Option ValueParser → Bool) (parser : ValueParser)
-    → ((o : Option ValueParser) → is o ≡ true → o ≡ Some parser) → (id : Text) (rules : List Rule)
-    → takes is id rules ≡ true → Takes parser id rules
-has_parser is parser sound id rules e = grind arith
+number : (low high : ℕ) (id : Text) (rules : List Rule) → takes_in low high id rules ≡ true → TakesIn low high id rules
+number low high id rules e = grind (arith, number_parser)
 
 pub fits : (rules : List Rule) → is_fit rules ≡ true → IsFit rules
 fits rules e =
     let ids = and_parts (have_own_ids rules) (are_ours rules && takes_all rules) e in
     let ours = and_parts (are_ours rules) (takes_all rules) ids.1 in
-    let all = and_parts (takes_shares rules) (takes_memory rules && (takes_latencies rules && takes_flags rules)) ours.1 in
+    let all = and_parts (takes_shares rules) (takes_memory rules && takes_latencies rules) ours.1 in
     let shares = and_parts (takes_in 1 8 (codes "workers") rules) (takes_in 0 100000 (codes "nodes") rules) all.0 in
-    let memory = and_parts (takes_memory rules) (takes_latencies rules && takes_flags rules) all.1 in
+    let memory = and_parts (takes_memory rules) (takes_latencies rules) all.1 in
     let words = and_parts (takes_in 0 LAST_ADDRESS (codes "at") rules) (takes_in 0 4294967295 (codes "words") rules)
     memory.0 in
-    let both = and_parts (takes_latencies rules) (takes_flags rules) memory.1 in
     let load = and_parts (takes_in 1 LONGEST_LATENCY (codes "load") rules)
-    (takes_in 1 LONGEST_LATENCY (codes "store") rules && takes_in 1 LONGEST_LATENCY (codes "mult") rules) both.0 in
+    (takes_in 1 LONGEST_LATENCY (codes "store") rules && takes_in 1 LONGEST_LATENCY (codes "mult") rules) memory.1 in
     let store = and_parts (takes_in 1 LONGEST_LATENCY (codes "store") rules)
     (takes_in 1 LONGEST_LATENCY (codes "mult") rules) load.1 in
-    let listing = and_parts (takes_forms rules) (takes_passing_flags rules && takes_last_flags rules) both.1 in
-    let forms = and_parts (takes is_flag_parser (codes "csv") rules) (takes is_flag_parser (codes "json") rules) listing.0 in
-    let rest = and_parts (takes_passing_flags rules) (takes_last_flags rules) listing.1 in
-    let passing = and_parts (takes is_flag_parser (codes "lawful") rules)
-    (takes is_flag_parser (codes "operations") rules) rest.0 in
-    let flags = and_parts (takes_more_flags rules)
-    (takes is_flag_parser (codes "either-slot") rules && takes is_flag_parser (codes "where") rules) rest.1 in
-    let more = and_parts (takes is_flag_parser (codes "outputs") rules) (takes is_flag_parser (codes "cycles") rules)
-    flags.0 in
-    let last = and_parts (takes is_flag_parser (codes "either-slot") rules) (takes is_flag_parser (codes "where") rules)
-    flags.1 in
-    let number : (low high : ℕ) (id : Text) → takes_in low high id rules ≡ true → TakesIn low high id rules =
-    λ low high id. has_parser (is_number_parser low high) (vp.Signed (pos low) (pos high)) (number_parser low high) id
-    rules in
-    let flag : (id : Text) → takes is_flag_parser id rules ≡ true → Takes vp.Bool id rules =
-    λ id. has_parser is_flag_parser vp.Bool flag_parser id rules in
     record {
       ours = all_ours [] rules ids.0 ours.0;
-      workers = number 1 8 (codes "workers") shares.0;
-      nodes = number 0 100000 (codes "nodes") shares.1;
-      at = number 0 LAST_ADDRESS (codes "at") words.0;
-      words = number 0 4294967295 (codes "words") words.1;
-      load = number 1 LONGEST_LATENCY (codes "load") load.0;
-      store = number 1 LONGEST_LATENCY (codes "store") store.0;
-      mult = number 1 LONGEST_LATENCY (codes "mult") store.1;
-      csv = flag (codes "csv") forms.0;
-      json = flag (codes "json") forms.1;
-      lawful = flag (codes "lawful") passing.0;
-      operations = flag (codes "operations") passing.1;
-      outputs = flag (codes "outputs") more.0;
-      either_slot = flag (codes "either-slot") last.0;
-      fault_place = flag (codes "where") last.1;
-      by_cycle = flag (codes "cycles") more.1;
+      workers = number 1 8 (codes "workers") rules shares.0;
+      nodes = number 0 100000 (codes "nodes") rules shares.1;
+      at = number 0 LAST_ADDRESS (codes "at") rules words.0;
+      words = number 0 4294967295 (codes "words") rules words.1;
+      load = number 1 LONGEST_LATENCY (codes "load") rules load.0;
+      store = number 1 LONGEST_LATENCY (codes "store") rules store.0;
+      mult = number 1 LONGEST_LATENCY (codes "mult") rules store.1;
     }

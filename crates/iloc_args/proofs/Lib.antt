@@ -2,7 +2,6 @@ pub mod Arguments
 pub mod Commands
 pub mod Files
 pub mod Fits
-pub mod Flags
 pub mod Getters
 pub mod Leaves
 pub mod Matches

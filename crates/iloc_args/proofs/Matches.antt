@@ -1,4 +1,4 @@
--- The matches of a command hold numbers in their ranges and flags, where the parser finds no fault in the words.
+-- The matches of a command hold numbers in their ranges, where the parser finds no fault in the words.
 use Rattle.std.proofs.Common.{◌≡◌, ◌∙◌, ◌||◌, ◌++◌, ℕ, Bool, true, false, cond, pos, List, [], ◌∷◌, Some, None, Option, map, refl, sym, ap, subst, codes, arith}
 use Rattle.std.specs.Prelude.{Box, IfSome, find, option_and_then, option_map, slice_get, unwrap_or}
 use Rattle.std.specs.Box.{box_value}
@@ -10,12 +10,11 @@ use Rattle.std.proofs.lemmas.Slice.Eq.{bytes_eq-Decides}
 use Rattle.clap.specs.Faults.{entered_fault, level_fault, walk_fault}
 use Rattle.clap.specs.Kinds.{values_kinds}
 use Rattle.clap.specs.Simple.{Shape, built, built_leaf, entered, help_shape, inherited, label_of, names_of, rows_at, subcommand_of, subcommand_rows}
-use Rattle.clap.specs.Values.{read_as, reading_of}
+use Rattle.clap.specs.Values.{read_as}
 use Rattle.clap.specs.Walk.{Row, Rule, Text, answers_to, nothing_held, row_text, rows_after, stop_after, walk_from}
 use Rattle.clap.specs.declared.builder.value_parser.Reading.{Reading}
-use Rattle.clap.specs.declared.builder.value_parser.Reading.TheVariants.{AsWritten, WithoutMinus}
-use Rattle.clap.specs.declared.builder.value_parser.ValueParser.{ValueParser}
-use Rattle.clap.specs.declared.builder.value_parser.ValueParser.TheVariants.{Bool as BoolParser}
+use Rattle.clap.specs.declared.builder.value_parser.Reading.TheVariants.{WithoutMinus}
+use Rattle.clap.specs.declared.builder.value_parser.ValueParser.TheVariants.{Signed}
 use Rattle.clap.specs.declared.parser.matches.ArgMatches.TheViews.{out-SubCommand}
 use Rattle.clap.specs.declared.parser.matches.SubCommand.{SubCommand}
 use Rattle.iloc_meaning.specs.Address.{LAST_ADDRESS}
@@ -23,22 +22,20 @@ use Rattle.iloc_timed.specs.Limits.{LONGEST_LATENCY}
 use Rattle.iloc_args.specs.Asked.{asked, asked_as, asked_by, task_named}
 use Rattle.iloc_args.specs.Command.{Subcommand, entries, farm_app, shape}
 use Rattle.iloc_args.specs.Due.{faults_in}
-use Rattle.iloc_args.specs.Steps.Taken.{AreNumbersIn, HoldValues, HoldsFlag, HoldsIn, IsFlagText, IsNumberIn}
+use Rattle.iloc_args.specs.Steps.Taken.{AreNumbersIn, HoldValues, HoldsIn, IsNumberIn}
 use Rattle.iloc_args.specs.declared.request.Task.{Task}
-use Rattle.iloc_args.proofs.Fits.{IsFit, Takes, TakesIn, fits, is_fit}
-use Rattle.iloc_args.proofs.Flags.{taken_flag}
+use Rattle.iloc_args.proofs.Fits.{IsFit, TakesIn, fits, is_fit}
 use Rattle.iloc_args.proofs.Leaves.{found_kept, leaf_kept, row_in}
 use Rattle.iloc_args.proofs.Numbers.{taken_numbers}
 use Rattle.iloc_args.proofs.Rows.{IsKept, both_empty}
 use Rattle.iloc_args.proofs.Stops.{IsElsewhere, walk_elsewhere}
 
--- ---- numbers and flags in rows
+-- ---- numbers in rows
 
 -- the parser takes the values of a row, and they are read as it says
-row_taken : (p : ValueParser) (id : Text) (rules : List Rule) (r : Row) → Takes p id rules
-    → IsKept rules r × (r.id ≡ id)
-    → (r.reading ≡ reading_of p) × (ignore_case : Bool) × (values_kinds ignore_case p r.values ≡ [])
-row_taken p id rules r takes kept = grind arith
+row_taken : (low high : ℕ) (id : Text) (rules : List Rule) (r : Row) → TakesIn low high id rules → IsKept rules r × (r.id ≡ id)
+    → (r.reading ≡ WithoutMinus) × (ignore_case : Bool) × (values_kinds ignore_case (Signed (pos low) (pos high)) r.values ≡ [])
+row_taken low high id rules r takes kept = grind (arith, pos)
 
 -- the values of a row are numbers within these bounds
 row_read : (low high : ℕ) (id : Text) (rules : List Rule) (r : Row) → TakesIn low high id rules → IsKept rules r
@@ -66,19 +63,6 @@ values_read : (low high : ℕ) (id : Text) (rules : List Rule) (o : Option Row) 
 values_read low high id rules None takes kept = tt
 values_read low high id rules (Some r) takes kept = grind (arith, row_read)
 
-flag_taken : (id : Text) (rules : List Rule) (o : Option Row) → Takes BoolParser id rules
-    → IfSome o (λ r. IsKept rules r × (r.id ≡ id)) → IfSome (option_and_then row_text o) IsFlagText
-flag_taken id rules None takes kept = tt
-flag_taken id rules (Some r) takes kept =
-    let taken = row_taken BoolParser id rules r takes kept in go r.reading r.values taken.0 taken.1 taken.2
-  where
-    go : (how : Reading) (values : List Text) → how ≡ AsWritten → (ignore_case : Bool)
-        → values_kinds ignore_case BoolParser values ≡ []
-        → IfSome (option_map (read_as how) (slice_get values 0)) IsFlagText
-    go how [] reading ignore_case e = tt
-    go how (v ∷ vs) reading ignore_case e =
-        subst (λ (h : Reading). IsFlagText (read_as h v)) (sym reading) (taken_flag ignore_case v vs e)
-
 -- ---- a command, as the parser builds it
 
 abbrev built_of : Subcommand → Shape
@@ -91,8 +75,6 @@ leaf_holds s words fit e =
     let kept = leaf_kept s words fit.ours e in
     let number : (low high : ℕ) (id : Text) → TakesIn low high id s.rules → HoldsIn low high id rows =
     λ low high id takes. option_read low high id s.rules (row_in id rows) takes (found_kept s.rules id rows kept) in
-    let flag : (id : Text) → Takes BoolParser id s.rules → HoldsFlag id rows =
-    λ id takes. flag_taken id s.rules (row_in id rows) takes (found_kept s.rules id rows kept) in
     record {
       workers = number 1 8 (codes "workers") fit.workers;
       at = number 0 LAST_ADDRESS (codes "at") fit.at;
@@ -102,14 +84,6 @@ leaf_holds s words fit e =
       store = number 1 LONGEST_LATENCY (codes "store") fit.store;
       mult = number 1 LONGEST_LATENCY (codes "mult") fit.mult;
       nodes = number 0 100000 (codes "nodes") fit.nodes;
-      csv = flag (codes "csv") fit.csv;
-      json = flag (codes "json") fit.json;
-      lawful = flag (codes "lawful") fit.lawful;
-      operations = flag (codes "operations") fit.operations;
-      outputs = flag (codes "outputs") fit.outputs;
-      either_slot = flag (codes "either-slot") fit.either_slot;
-      fault_place = flag (codes "where") fit.fault_place;
-      by_cycle = flag (codes "cycles") fit.by_cycle;
     }
 
 every_fits : (es : List Subcommand) → list_all (λ (e : Subcommand). is_fit (built_of e).rules) es ≡ true

@@ -6,8 +6,10 @@ use Rattle.std.specs.Str.Parse.{digits_value, without_leading_plus}
 use Rattle.std.specs.String.{string_bytes}
 use Rattle.clap.specs.Words.{Row, Text, first_of, many_of, one_of, subcommand_of}
 use Rattle.iloc_args.specs.Command.{Subcommand, entries, farm_app}
+use Rattle.iloc_args.specs.Flags.{flag_word, has}
 use Rattle.iloc_args.specs.Priority.{priority_word}
 use Rattle.iloc_args.specs.Ranking.{ranks_by_own}
+use Rattle.iloc_args.specs.declared.flag.Flag.{Flag}
 use Rattle.iloc_args.specs.declared.request.Request.{Request}
 use Rattle.iloc_args.specs.declared.request.Task.{Task}
 
@@ -23,15 +25,8 @@ pub record Asked : Type 0 where
   pub priority : Text
   pub priorities_file : Option Text
   pub nodes : Option ℕ
-  pub csv : Bool
-  pub json : Bool
   pub task_file : Option Text
-  pub lawful : Bool
-  pub operations : Bool
-  pub outputs : Bool
-  pub either_slot : Bool
-  pub fault_place : Bool
-  pub by_cycle : Bool
+  pub flags : Flag → Bool
 
 -- what a request asks for
 abbrev pub asked_in : Request → Asked
@@ -46,15 +41,8 @@ asked_in r = record {
   priority = priority_word r.priority;
   priorities_file = option_map string_bytes r.priorities_file;
   nodes = r.nodes;
-  csv = r.csv;
-  json = r.json;
   task_file = option_map string_bytes r.task_file;
-  lawful = r.lawful;
-  operations = r.operations;
-  outputs = r.outputs;
-  either_slot = r.either_slot;
-  fault_place = r.fault_place;
-  by_cycle = r.by_cycle;
+  flags = has r.flags;
 }
 
 -- the number that a text of digits writes, where a plus may stand first
@@ -74,8 +62,8 @@ abbrev pub numbers_in : Text → List Row → List ℕ
 numbers_in id rows = map number_of (unwrap_or (many_of id rows) [])
 
 -- whether the matches have a flag
-abbrev pub flag_in : Text → List Row → Bool
-flag_in id rows = option_map_or (λ text. bytes_eq text (codes "true")) (one_of id rows) false
+abbrev pub flag_in : List Row → Flag → Bool
+flag_in rows flag = option_map_or (λ text. bytes_eq text (codes "true")) (first_of (flag_word flag) rows) false
 
 -- the text that the matches have for an option, or this one where the command does not take it
 abbrev pub text_or : Text → Text → List Row → Text
@@ -98,15 +86,8 @@ asked_as task rows = record {
   priority = text_or (codes "chain") (codes "priority") rows;
   priorities_file = priorities_in task rows;
   nodes = number_if (codes "nodes") rows;
-  csv = flag_in (codes "csv") rows;
-  json = flag_in (codes "json") rows;
   task_file = first_of (codes "task") rows;
-  lawful = flag_in (codes "lawful") rows;
-  operations = flag_in (codes "operations") rows;
-  outputs = flag_in (codes "outputs") rows;
-  either_slot = flag_in (codes "either-slot") rows;
-  fault_place = flag_in (codes "where") rows;
-  by_cycle = flag_in (codes "cycles") rows;
+  flags = flag_in rows;
 }
 
 -- the task of the first of these commands that has this name

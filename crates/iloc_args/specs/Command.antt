@@ -7,6 +7,9 @@ use Rattle.clap.specs.Words.{App, Rule, Shape, Text, new_rule}
 use Rattle.clap.specs.Simple.{new_shape}
 use Rattle.iloc_meaning.specs.Address.{LAST_ADDRESS}
 use Rattle.iloc_timed.specs.Limits.{LONGEST_LATENCY}
+use Rattle.iloc_args.specs.Flags.{flag_word}
+use Rattle.iloc_args.specs.declared.flag.Flag.{Flag}
+use Rattle.iloc_args.specs.declared.flag.Flag.TheVariants.{Csv, Json, Lawful, Operations, Outputs, EitherSlot, Where, Cycles}
 use Rattle.iloc_args.specs.declared.request.Task.{Task}
 use Rattle.iloc_args.specs.declared.request.Task.TheVariants.{Run, Simulate, Trace, Schedule, Counts, Compare, Optimize, Explain, Check, Graph, Lint}
 
@@ -58,8 +61,12 @@ words_rule = record (new_rule (codes "words")) {
 }
 
 -- `--NAME`
-abbrev pub flag_rule : Text → Rule
-flag_rule name = record (new_rule name) { long = Some name; action = Some SetTrue }
+abbrev pub bare_rule : Text → Rule
+bare_rule name = record (new_rule name) { long = Some name; action = Some SetTrue }
+
+-- that of a flag
+abbrev pub flag_rule : Flag → Rule
+flag_rule flag = bare_rule (flag_word flag)
 
 -- `--NAME VALUE`, any text
 abbrev pub text_rule : Text → Rule
@@ -73,41 +80,9 @@ priority_rule = record (text_rule (codes "priority")) { defaults = codes "chain"
 abbrev pub priorities_rule : Rule
 priorities_rule = text_rule (codes "priorities")
 
--- `--csv`
-abbrev pub csv_rule : Rule
-csv_rule = flag_rule (codes "csv")
-
--- `--json`
-abbrev pub json_rule : Rule
-json_rule = flag_rule (codes "json")
-
 -- `--task FILE`
 abbrev pub task_rule : Rule
 task_rule = text_rule (codes "task")
-
--- `--lawful`
-abbrev pub lawful_rule : Rule
-lawful_rule = flag_rule (codes "lawful")
-
--- `--operations`
-abbrev pub operations_rule : Rule
-operations_rule = flag_rule (codes "operations")
-
--- `--outputs`
-abbrev pub outputs_rule : Rule
-outputs_rule = flag_rule (codes "outputs")
-
--- `--where`
-abbrev pub where_rule : Rule
-where_rule = flag_rule (codes "where")
-
--- `--cycles`
-abbrev pub cycles_rule : Rule
-cycles_rule = flag_rule (codes "cycles")
-
--- `--either-slot`
-abbrev pub either_slot_rule : Rule
-either_slot_rule = flag_rule (codes "either-slot")
 
 -- a command: its name, the task that it asks for, and its arguments
 pub record Subcommand : Type 0 where
@@ -117,7 +92,7 @@ pub record Subcommand : Type 0 where
 
 -- `run [--at N] [WORD].. [--where]`
 abbrev pub run_entry : Subcommand
-run_entry = record { name = codes "run"; task = Run; rules = at_rule ∷ words_rule ∷ where_rule ∷ [] }
+run_entry = record { name = codes "run"; task = Run; rules = at_rule ∷ words_rule ∷ flag_rule Where ∷ [] }
 
 -- `simulate [--at N] [WORD].. [--load N] [--store N] [--mult N] [--priority NAME]`
 abbrev pub simulate_entry : Subcommand
@@ -132,7 +107,7 @@ abbrev pub trace_entry : Subcommand
 trace_entry = record {
   name = codes "trace";
   task = Trace;
-  rules = at_rule ∷ words_rule ∷ latency_rules ++ priority_rule ∷ task_rule ∷ either_slot_rule ∷ [];
+  rules = at_rule ∷ words_rule ∷ latency_rules ++ priority_rule ∷ task_rule ∷ flag_rule EitherSlot ∷ [];
 }
 
 -- `schedule [--workers N] [--load N] [--store N] [--mult N] [--priority NAME] [--priorities FILE]`
@@ -148,7 +123,7 @@ abbrev pub counts_entry : Subcommand
 counts_entry = record {
   name = codes "counts";
   task = Counts;
-  rules = workers_rule ∷ latency_rules ++ priority_rule ∷ priorities_rule ∷ csv_rule ∷ [];
+  rules = workers_rule ∷ latency_rules ++ priority_rule ∷ priorities_rule ∷ flag_rule Csv ∷ [];
 }
 
 -- `compare [--nodes N] [--workers N] [--load N] [--store N] [--mult N] [--priorities FILE] [--csv]`
@@ -156,7 +131,7 @@ abbrev pub compare_entry : Subcommand
 compare_entry = record {
   name = codes "compare";
   task = Compare;
-  rules = search_rule ∷ workers_rule ∷ latency_rules ++ priorities_rule ∷ csv_rule ∷ [];
+  rules = search_rule ∷ workers_rule ∷ latency_rules ++ priorities_rule ∷ flag_rule Csv ∷ [];
 }
 
 -- `optimize [--nodes N] [--workers N] [--load N] [--store N] [--mult N]`
@@ -172,7 +147,8 @@ abbrev pub explain_entry : Subcommand
 explain_entry = record {
   name = codes "explain";
   task = Explain;
-  rules = workers_rule ∷ latency_rules ++ priority_rule ∷ priorities_rule ∷ task_rule ∷ either_slot_rule ∷ cycles_rule ∷ [];
+  rules = workers_rule ∷ latency_rules ++ priority_rule ∷ priorities_rule ∷ task_rule
+      ∷ map flag_rule (EitherSlot ∷ Cycles ∷ []);
 }
 
 -- `check [--at N] [WORD].. [--load N] [--store N] [--mult N] [--nodes N] [--task FILE] [--either-slot] [--lawful] [--operations] [--outputs] [--csv] [--json]`
@@ -180,9 +156,8 @@ abbrev pub check_entry : Subcommand
 check_entry = record {
   name = codes "check";
   task = Check;
-  rules = at_rule ∷ words_rule
-      ∷ (latency_rules ++ search_rule ∷ task_rule ∷ either_slot_rule ∷ lawful_rule ∷ operations_rule ∷ outputs_rule ∷ csv_rule
-      ∷ json_rule ∷ []);
+  rules = at_rule ∷ words_rule ∷ latency_rules ++ search_rule ∷ task_rule
+      ∷ map flag_rule (EitherSlot ∷ Lawful ∷ Operations ∷ Outputs ∷ Csv ∷ Json ∷ []);
 }
 
 -- `graph [--load N] [--store N] [--mult N]`

@@ -8,6 +8,7 @@ use Rattle.iloc_meaning.specs.Memory.{WORDS}
 use Rattle.iloc_args.specs.Asked.{Asked, asked}
 use Rattle.iloc_args.specs.Command.{farm_app}
 use Rattle.iloc_args.specs.Priority.{IsNoPriority}
+use Rattle.iloc_args.specs.declared.flag.Flag.TheVariants.{Csv, Json}
 use Rattle.iloc_args.specs.declared.fault.LineFault.{LineFault}
 use Rattle.iloc_args.specs.declared.fault.LineFault.TheVariants.{Help, Refused, BadStart, TooManyWords, NoSuchPriority, TwoForms, TwoFiles, NoMemory}
 
@@ -41,7 +42,7 @@ pub record RanksByNone (a : Asked) : Type 0 where
 pub record AsksForTwoForms (a : Asked) : Type 0 where
   pub aligned : a.at % 4 ≡ 0
   pub fits : a.at + 4 * length a.words ≤ 4 * WORDS
-  pub both : a.csv && a.json ≡ true
+  pub both : a.flags Csv && a.flags Json ≡ true
 
 -- the words fit into the memory, and numbers are to rank the operations of blocks that are in a file of their own
 pub record AsksForTwoFiles (a : Asked) : Type 0 where

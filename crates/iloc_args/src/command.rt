@@ -5,10 +5,11 @@ ghost use Rattle.clap.specs.Simple.{new_shape};
 ghost use Rattle.std.specs.Str.{bytes_eq};
 ghost use Rattle.iloc_args.specs.declared.command.Entry.{Entry as entry_value};
 ghost use Rattle.iloc_args.specs.Asked.{task_among, task_named};
-ghost use Rattle.iloc_args.specs.Command.{at_rule, farm_app, flag_rule, latency_rule, nodes_rule, priority_rule, search_rule};
+ghost use Rattle.iloc_args.specs.Command.{at_rule, bare_rule, farm_app, latency_rule, nodes_rule, priority_rule, search_rule};
 ghost use Rattle.iloc_args.specs.Command.{text_rule, top_shape, words_rule, workers_rule};
 ghost use Rattle.iloc_args.specs.Steps.Building.{HasApp, HasRule, alone, default_rule, option_rule, rule_for, app_for, app_with, subcommand_for};
 
+use crate::flag::Flag;
 use crate::priority::HELP;
 use crate::request::Task;
 use clap::builder::ValueParser;
@@ -70,7 +71,7 @@ fn option_arg<'a>(alloc: Global, name: &'a str, help: &'a str, parser: ValuePars
 
 /// `--NAME`
 fn flag_arg<'a>(alloc: Global, name: &'a str, help: &'a str) -> Arg<'a>
-    ensures { HasRule (flag_rule name.entry.now) result }
+    ensures { HasRule (bare_rule name.entry.now) result }
 {
     Arg::new(alloc, name)
         .long(name)
@@ -192,8 +193,9 @@ enum Argument {
     NodesIfGiven,
     /// An option that names a file, and its help.
     File(&'static str, &'static str),
-    /// A flag and its help.
-    Flag(&'static str, &'static str),
+    Flag(Flag),
+    /// A flag with the command's own help.
+    FlagSaying(Flag, &'static str),
 }
 
 const LOAD: Argument = Argument::Latency("load", "Cycles that load and loadAI take, 1 to 16", "5");
@@ -222,43 +224,9 @@ const TASK: Argument = Argument::File(
     "Read the blocks from FILE, and only rows from standard input",
 );
 
-const CSV: Argument = Argument::Flag(
-    "csv",
-    "Print a table of comma-separated values, a row for each block",
-);
-
-const JSON: Argument = Argument::Flag("json", "Print a line of JSON for each block");
-
-const LAWFUL: Argument = Argument::Flag("lawful", "Pass only lawful schedules");
-
-const OPERATIONS: Argument = Argument::Flag(
-    "operations",
-    "Fail schedules that leave out or add operations",
-);
-
-const OUTPUTS: Argument = Argument::Flag(
-    "outputs",
-    "Compare only emitted words and faults, not memory",
-);
-
-const WHERE: Argument = Argument::Flag(
-    "where",
-    "Print which operation faults, and the address that it reaches",
-);
-
-const CYCLES: Argument = Argument::Flag(
-    "cycles",
-    "Print for each cycle what is ready, what is taken, and what is under way",
-);
-
-const EITHER_SLOT: Argument = Argument::Flag(
-    "either-slot",
-    "Accept rows whose operations fit only when swapped",
-);
-
 /// `--either-slot` of a command that reads rows with `--task` alone.
-const EITHER_SLOT_WITH_TASK: Argument = Argument::Flag(
-    "either-slot",
+const EITHER_SLOT_WITH_TASK: Argument = Argument::FlagSaying(
+    Flag::EitherSlot,
     "With --task, accept rows whose operations fit only when swapped",
 );
 
@@ -279,7 +247,7 @@ const COMMANDS: [Entry; 11] = [
         name: "run",
         about: "Run each block, one operation after the other",
         usage: "ilocfarm run [OPTIONS] [WORD]... < BLOCKS",
-        arguments: &[Argument::At, Argument::Words, WHERE],
+        arguments: &[Argument::At, Argument::Words, Argument::Flag(Flag::Where)],
     },
     Entry {
         task: Task::Simulate,
@@ -337,7 +305,7 @@ const COMMANDS: [Entry; 11] = [
             MULT,
             Argument::Priority,
             PRIORITIES,
-            CSV,
+            Argument::Flag(Flag::Csv),
         ],
     },
     Entry {
@@ -352,7 +320,7 @@ const COMMANDS: [Entry; 11] = [
             STORE,
             MULT,
             PRIORITIES_TOO,
-            CSV,
+            Argument::Flag(Flag::Csv),
         ],
     },
     Entry {
@@ -376,7 +344,7 @@ const COMMANDS: [Entry; 11] = [
             PRIORITIES,
             TASK,
             EITHER_SLOT_WITH_TASK,
-            CYCLES,
+            Argument::Flag(Flag::Cycles),
         ],
     },
     Entry {
@@ -392,12 +360,12 @@ const COMMANDS: [Entry; 11] = [
             MULT,
             Argument::NodesIfGiven,
             TASK,
-            EITHER_SLOT,
-            LAWFUL,
-            OPERATIONS,
-            OUTPUTS,
-            CSV,
-            JSON,
+            Argument::Flag(Flag::EitherSlot),
+            Argument::Flag(Flag::Lawful),
+            Argument::Flag(Flag::Operations),
+            Argument::Flag(Flag::Outputs),
+            Argument::Flag(Flag::Csv),
+            Argument::Flag(Flag::Json),
         ],
     },
     Entry {
@@ -430,7 +398,8 @@ impl Argument {
             Argument::Nodes => nodes_arg(alloc),
             Argument::NodesIfGiven => search_arg(alloc),
             Argument::File(name, help) => text_arg(alloc, name, "FILE", help),
-            Argument::Flag(name, help) => flag_arg(alloc, name, help),
+            Argument::Flag(flag) => flag_arg(alloc, flag.word(), flag.help()),
+            Argument::FlagSaying(flag, help) => flag_arg(alloc, flag.word(), help),
         }
     }
 }

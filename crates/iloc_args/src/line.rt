@@ -4,17 +4,18 @@ ghost use Rattle.std.specs.Option.{ForSome};
 ghost use Rattle.std.specs.String.{string_bytes};
 ghost use Rattle.clap.specs.Words.{first_of, found_of, has_subcommand, rows_of, subcommand_of};
 ghost use Rattle.clap.specs.Words.{subcommand_rows_of};
-ghost use Rattle.iloc_args.specs.Asked.{asked_as, asked_in, flag_in, number_if, number_or, numbers_in, priorities_in, text_or};
+ghost use Rattle.iloc_args.specs.Asked.{asked_as, asked_in, number_if, number_or, numbers_in, priorities_in, text_or};
 ghost use Rattle.iloc_args.specs.Command.{farm_app};
 ghost use Rattle.iloc_args.specs.Due.{Asks, IsDue, faults_in};
 ghost use Rattle.iloc_args.specs.Priority.{IsNoPriority, priority_word};
 ghost use Rattle.iloc_args.specs.Ranking.{ranks_by_own};
 ghost use Rattle.iloc_args.specs.Steps.Refusing.{IsOutOfRange, NamesTwo};
-ghost use Rattle.iloc_args.specs.Steps.Taken.{HoldValues, HoldsFlag, HoldsIn};
+ghost use Rattle.iloc_args.specs.Steps.Taken.{HoldValues, HoldsIn};
 ghost use Rattle.iloc_timed.specs.Latency.{IsLatency};
 
 use crate::command::{farm_command, task_of};
 use crate::fault::LineFault;
+use crate::flag::{Flag, flags_in};
 use crate::priority::heuristic_of;
 use crate::request::{Request, Task};
 use clap::ArgMatches;
@@ -93,9 +94,8 @@ fn request_in(alloc: Global, task: Task, given: &ArgMatches<'_>) -> Result<Reque
     let Some(priority) = priority_in(given) else {
         return Err(LineFault::NoSuchPriority);
     };
-    let csv = flag_in(given, "csv");
-    let json = flag_in(given, "json");
-    if are_both(csv, json) {
+    let flags = flags_in(given);
+    if are_both(flags.has(Flag::Csv), flags.has(Flag::Json)) {
         return Err(LineFault::TwoForms);
     }
     let (priorities_file, task_file) = files_in(alloc, task, given)?;
@@ -108,15 +108,8 @@ fn request_in(alloc: Global, task: Task, given: &ArgMatches<'_>) -> Result<Reque
         priority,
         priorities_file,
         nodes: nodes_in(given),
-        csv,
-        json,
         task_file,
-        lawful: flag_in(given, "lawful"),
-        operations: flag_in(given, "operations"),
-        outputs: flag_in(given, "outputs"),
-        either_slot: flag_in(given, "either-slot"),
-        fault_place: flag_in(given, "where"),
-        by_cycle: flag_in(given, "cycles"),
+        flags,
     })
 }
 
@@ -201,14 +194,6 @@ fn priority_in(given: &ArgMatches<'_>) -> Option<Heuristic>
         ≡ text_or (codes "chain") (codes "priority") (rows_of (found_of given.now))) }
 {
     heuristic_of(given.get_str("priority").unwrap_or(DEFAULT_PRIORITY))
-}
-
-/// Whether a flag is given.
-fn flag_in(given: &ArgMatches<'_>, flag: &str) -> bool
-    requires { HoldsFlag flag.now (rows_of (found_of given.now)) }
-    ensures { result ≡ flag_in flag.now (rows_of (found_of given.now)) }
-{
-    given.get_flag(flag)
 }
 
 /// Whether a task can rank by somebody's own numbers.

@@ -3,8 +3,11 @@ ghost use Rattle.std.specs.Prelude.{◌≡◌, ◌+◌, ◌*◌, ◌%◌, ◌≤
 ghost use Rattle.std.specs.Option.{ForSome};
 ghost use Rattle.iloc_meaning.specs.Address.{LAST_ADDRESS};
 ghost use Rattle.iloc_meaning.specs.Memory.{WORDS};
+ghost use Rattle.iloc_args.specs.Flags.{has};
 ghost use Rattle.iloc_args.specs.Ranking.{ranks_by_own};
+ghost use Rattle.iloc_args.specs.declared.flag.Flag.TheVariants.{Csv, Json};
 
+use crate::flag::Flags;
 use iloc_rules::Heuristic;
 use iloc_timed::Latencies;
 
@@ -55,29 +58,15 @@ pub struct Request {
     pub priorities_file: Option<String>,
     /// How many nodes a search for the best schedule has for each number of cycles that is tried, if there is a search.
     pub nodes: Option<u32>,
-    /// Whether the listing is a table of comma-separated values.
-    pub csv: bool,
-    /// Whether the listing has a value of JSON for each block, on a line of its own; never beside `csv`.
-    pub json: bool,
     /// The name of the file that holds the blocks, apart from the rows.
     pub task_file: Option<String>,
-    /// Whether nothing passes but rows that are a schedule of their block.
-    pub lawful: bool,
-    /// Whether nothing passes that leaves operations of its block out or adds some, up to registers.
-    pub operations: bool,
-    /// Whether rows are compared with their block by what is emitted alone, whatever they leave in memory.
-    pub outputs: bool,
-    /// Whether a row that breaks the rules of the units, and keeps them with its operations exchanged, is read so.
-    pub either_slot: bool,
-    /// Whether it is listed where a block faults.
-    pub fault_place: bool,
-    /// Whether a schedule is explained cycle by cycle.
-    pub by_cycle: bool,
+    /// Which flags are given.
+    pub flags: Flags,
     ghost some_worker: { 1 ≤ workers },
     ghost few_workers: { workers ≤ 8 },
     ghost aligned: { at % 4 ≡ 0 },
     ghost in_memory: { at ≤ LAST_ADDRESS },
-    ghost one_form: { csv && json ≡ false },
+    ghost one_form: { has flags Csv && has flags Json ≡ false },
     ghost ranks: { ForSome priorities_file (λ _. ranks_by_own task ≡ true) },
     ghost one_file: { is_some priorities_file && is_some task_file ≡ false },
     ghost fits: { at + 4 * length words.items ≤ 4 * WORDS },

@@ -14,6 +14,8 @@ use Rattle.iloc_meaning.specs.Outcome.{outcome, shown}
 use Rattle.iloc_meaning.specs.declared.outcome.Outcome.{Outcome}
 use Rattle.iloc_timed.specs.Timed.{timed_outcome}
 use Rattle.iloc_rules.proofs.Outcome.LawfulOutcomes.{lawful_same_outcome}
+use Rattle.iloc_args.specs.Flags.{has}
+use Rattle.iloc_args.specs.declared.flag.Flag.TheVariants.{Csv, Where}
 use Rattle.iloc_args.specs.declared.request.Request.{Request}
 use Rattle.iloc_block_commands.specs.Compare.{IsCompareEntry, IsCompareListing, IsComparedCycles, compare_line, ending_for, opening_for}
 use Rattle.iloc_block_commands.specs.Counts.{IsCountEntry, IsCountListing, count_ending, count_header}
@@ -50,7 +52,7 @@ one_shown asked ops memory came text text' is is' = grind (arith, one_place)
 
 module _ (request : Request) (k : ℕ) (b : Block) (text more : List ℕ) (name : Option (List ℕ)) (named : name ≡ b.name) where
   pub run_listed : (words : Option (List ℤ)) → words ≡ shown (outcome b.ops (initial_memory request))
-      → (request.fault_place && is_none words) ≡ false → more ≡ text ++ shown_entry k name words
+      → (has request.flags Where && is_none words) ≡ false → more ≡ text ++ shown_entry k name words
       → Adds (IsRunEntry request k b) text more tt
   run_listed words are plain added = grind (arith, shown_plainly)
 
@@ -122,26 +124,26 @@ gone_over entry opening text i blocks blocks' found all same so_far =
 pub counted_listing : (request : Request) (own : Own) (blocks : List Block) (found : List ℕ) (text : List ℕ)
     → AreListed (by_own (λ own k b c. IsCountBy (ranks request.priority request.latencies own) request.latencies b c) own) blocks
     found
-    → text ≡ (opening_as request.csv count_header ++ entries (count_line request.csv) 1 blocks found)
-    ++ count_ending request.csv found
+    → text ≡ (opening_as (has request.flags Csv) count_header ++ entries (count_line (has request.flags Csv)) 1 blocks found)
+    ++ count_ending (has request.flags Csv) found
     → IsCountListing request own blocks text
 counted_listing request own blocks found text are whole =
     lined_listing (λ k. IsCountEntry request (own_of own k) k)
-    (λ k. IsCountBy (ranks request.priority request.latencies (own_of own k)) request.latencies) (count_line request.csv)
+    (λ k. IsCountBy (ranks request.priority request.latencies (own_of own k)) request.latencies) (count_line (has request.flags Csv))
     (λ k b c count. record {
       schedule = count.schedule;
       greedy = count.greedy;
-      listed = ap (count_line request.csv k b.name) count.counted;
+      listed = ap (count_line (has request.flags Csv) k b.name) count.counted;
       counted = count.counted;
-    }) (opening_as request.csv count_header) (count_ending request.csv) blocks found text are whole
+    }) (opening_as (has request.flags Csv) count_header) (count_ending (has request.flags Csv)) blocks found text are whole
 
 -- and of what was compared
 pub compared_listing : (request : Request) (own : Own) (blocks : List Block) (found : List ComparedCycles) (text : List ℕ)
     → AreListed (by_own (λ own k b c. IsComparedCycles request.latencies request.nodes own b c) own) blocks found
-    → text ≡ (opening_for request ++ entries (compare_line request.csv) 1 blocks found) ++ ending_for request found
+    → text ≡ (opening_for request ++ entries (compare_line (has request.flags Csv)) 1 blocks found) ++ ending_for request found
     → IsCompareListing request own blocks text
 compared_listing request own blocks found text are whole =
     lined_listing (λ k. IsCompareEntry request (own_of own k) k)
-    (λ k. IsComparedCycles request.latencies request.nodes (own_of own k)) (compare_line request.csv)
+    (λ k. IsComparedCycles request.latencies request.nodes (own_of own k)) (compare_line (has request.flags Csv))
     (λ k b c compares. record { compares = compares; listed = refl }) (opening_for request) (ending_for request) blocks found
     text are whole

@@ -13,6 +13,8 @@ use Rattle.iloc_rules.specs.declared.heuristic.Heuristic.TheVariants.{Chain}
 use Rattle.iloc_rules.specs.declared.sought.Sought.{Sought}
 use Rattle.iloc_rules.specs.Heuristics.Listed.{heuristics}
 use Rattle.iloc_args.specs.Priority.{priority_word}
+use Rattle.iloc_args.specs.Flags.{has}
+use Rattle.iloc_args.specs.declared.flag.Flag.TheVariants.{Csv}
 use Rattle.iloc_args.specs.declared.request.Request.{Request}
 use Rattle.iloc_block_commands.specs.declared.compare.ComparedCycles.{ComparedCycles}
 use Rattle.iloc_driver.specs.Entries.{IsListingAfter}
@@ -109,7 +111,7 @@ compare_line csv k name c =
 pub record IsCompareEntry (request : Request) (own : Option (List ℕ)) (k : ℕ) (b : Block) (entry : List ℕ)
     (found : ComparedCycles) : Type 0 where
   pub compares : IsComparedCycles request.latencies request.nodes own b found
-  pub listed : entry ≡ compare_line request.csv k b.name found
+  pub listed : entry ≡ compare_line (has request.flags Csv) k b.name found
 
 -- the words for the heuristics, each after a comma
 abbrev pub names : List ℕ
@@ -170,10 +172,10 @@ compare_ending false nodes own found = compare_totals nodes own found
 
 -- what comes before the blocks for a request, and after them
 abbrev pub opening_for : Request → List ℕ
-opening_for request = opening_as request.csv (compare_header request.nodes (is_some request.priorities_file))
+opening_for request = opening_as (has request.flags Csv) (compare_header request.nodes (is_some request.priorities_file))
 
 abbrev pub ending_for : Request → List ComparedCycles → List ℕ
-ending_for request found = compare_ending request.csv request.nodes (is_some request.priorities_file) found
+ending_for request found = compare_ending (has request.flags Csv) request.nodes (is_some request.priorities_file) found
 
 -- the listing of these blocks for the request, with their own priorities if there are some
 abbrev pub IsCompareListing : Request → Own → List Block → List ℕ → Type 0
@@ -183,7 +185,7 @@ IsCompareListing request own blocks text =
 -- that of blocks of which this is compared
 abbrev pub listing_of_compared : Request → List Block → List ComparedCycles → List ℕ
 listing_of_compared request blocks found =
-    (opening_for request ++ entries (compare_line request.csv) 1 blocks found) ++ ending_for request found
+    (opening_for request ++ entries (compare_line (has request.flags Csv)) 1 blocks found) ++ ending_for request found
 
 -- workers hand back all that is compared
 abbrev pub compare_command : Command

@@ -2,6 +2,8 @@
 use Rattle.std.specs.Prelude.{◌≡◌, ◌++◌, ℕ, Bool, true, false, List, [], Option, codes}
 use Rattle.iloc_ops.specs.declared.file.Block.{Block}
 use Rattle.iloc_timed.specs.Schedule.{Table}
+use Rattle.iloc_args.specs.Flags.{has}
+use Rattle.iloc_args.specs.declared.flag.Flag.TheVariants.{Csv}
 use Rattle.iloc_args.specs.declared.request.Request.{Request}
 use Rattle.iloc_driver.specs.Entries.{IsListingAfter}
 use Rattle.iloc_listing.specs.Listing.{count_line, cycles_of, entries, opening_as, total_of_all}
@@ -15,7 +17,7 @@ pub record IsCountEntry (request : Request) (own : Option (List ℕ)) (k : ℕ) 
     : Type 0 where
   pub schedule : Table
   pub greedy : IsTheGreedyBy (ranks request.priority request.latencies own) request.latencies b schedule
-  pub listed : entry ≡ count_line request.csv k b.name (cycles_of request.latencies schedule)
+  pub listed : entry ≡ count_line (has request.flags Csv) k b.name (cycles_of request.latencies schedule)
   pub counted : cycles ≡ cycles_of request.latencies schedule
 
 -- what a table begins with
@@ -30,8 +32,8 @@ count_ending false cycles = total_of_all cycles
 -- the listing of these blocks for the request, with their own priorities if there are some
 abbrev pub IsCountListing : Request → Own → List Block → List ℕ → Type 0
 IsCountListing request own blocks text =
-    IsListingAfter (λ k. IsCountEntry request (own_of own k) k) (opening_as request.csv count_header)
-    (count_ending request.csv) blocks text
+    IsListingAfter (λ k. IsCountEntry request (own_of own k) k) (opening_as (has request.flags Csv) count_header)
+    (count_ending (has request.flags Csv)) blocks text
 
 -- that of blocks of which these are the cycles
 abbrev pub listing_of_counts : Bool → List Block → List ℕ → List ℕ
@@ -42,4 +44,4 @@ listing_of_counts csv blocks cycles =
 abbrev pub counts_command : Command
 counts_command =
     shared_by (λ request own k b c. IsCountBy (ranks request.priority request.latencies own) request.latencies b c) (λ c. c)
-    (λ request. listing_of_counts request.csv) IsCountListing
+    (λ request. listing_of_counts (has request.flags Csv)) IsCountListing

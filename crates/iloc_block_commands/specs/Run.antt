@@ -10,6 +10,8 @@ use Rattle.iloc_meaning.specs.Outcome.{outcome}
 use Rattle.iloc_meaning.specs.Trace.{op_at}
 use Rattle.iloc_meaning.specs.declared.outcome.Outcome.{Outcome}
 use Rattle.iloc_meaning.specs.declared.outcome.Outcome.TheVariants.{Finished, Fault}
+use Rattle.iloc_args.specs.Flags.{has}
+use Rattle.iloc_args.specs.declared.flag.Flag.TheVariants.{Where}
 use Rattle.iloc_args.specs.declared.request.Request.{Request}
 use Rattle.iloc_listing.specs.Listing.{block_head, words_or_fault}
 use Rattle.iloc_driver.specs.Command.{Command, initial_memory, of_files}
@@ -35,7 +37,7 @@ IsShownOf true ops memory Fault text =
 -- The entry of block k: its number and its name, and what is shown of it on the request's memory. No more is found of it.
 pub record IsRunEntry (request : Request) (k : ℕ) (block : Block) (entry : List ℕ) (found : Unit {0}) : Type 0 where
   pub text : List ℕ
-  pub shows : IsShownOf request.fault_place block.ops (initial_memory request) (outcome block.ops (initial_memory request)) text
+  pub shows : IsShownOf (has request.flags Where) block.ops (initial_memory request) (outcome block.ops (initial_memory request)) text
   pub listed : entry ≡ block_head k block.name ++ codes "\n" ++ text
 
 abbrev pub run_command : Command

@@ -13,7 +13,7 @@ ghost use Rattle.iloc_block_commands.specs.Compare.{AreCounts, IsOwnCount};
 ghost use Rattle.iloc_listing.specs.Schedules.{IsCount, IsCountBy};
 ghost use Rattle.iloc_block_commands.specs.Steps.Tallies.{added, counted};
 
-use iloc_args::{Request, priority_name};
+use iloc_args::{Flag, Request, priority_name};
 use iloc_bound::least_of;
 use iloc_driver::FarmedLister;
 use iloc_listing::{Listing, count_of, push_field, push_head, push_numbered};
@@ -344,7 +344,7 @@ fn push_totals(
     requires { length found.now ≤ MAX_BLOCKS }
     ensures { OnOk result (text.new.items ≡ text.old.items ++ compare.ending_for request.now found.now) }
 {
-    if request.csv {
+    if request.flags.has(Flag::Csv) {
         return Ok(());
     }
     let own = request.priorities_file.is_some();
@@ -395,7 +395,7 @@ fn push_header(text: &mut Vec<u8>, nodes: Option<u32>, own: bool) -> Result<(), 
 fn push_opening(text: &mut Vec<u8>, request: &Request) -> Result<(), NoMemory>
     ensures { OnOk result (text.new.items ≡ text.old.items ++ compare.opening_for request.now) }
 {
-    if request.csv {
+    if request.flags.has(Flag::Csv) {
         push_header(text, request.nodes, request.priorities_file.is_some())?;
     }
     Ok(())
@@ -523,11 +523,12 @@ impl FarmedLister for CompareLister {
             → AreListed (by_own (λ own _ block each. IsComparedCycles request.now.latencies request.now.nodes own block each) own)
             blocks found.items → IsCompareListing request.now own blocks text) }
     {
+        let csv = request.flags.has(Flag::Csv);
         let mut text = Vec::new(alloc);
         push_opening(&mut text, request)?;
         for (index, block) in blocks.as_slice().iter().enumerate() {
             let name = block.name.as_ref();
-            push_comparison(&mut text, request.csv, index + 1, name, &found[index])?;
+            push_comparison(&mut text, csv, index + 1, name, &found[index])?;
         }
         push_totals(&mut text, request, &found)?;
         Ok(Listing::of_text(alloc, text))

@@ -4,7 +4,7 @@ ghost use Rattle.iloc_ops.specs.Limits.{MAX_BLOCKS};
 ghost use Rattle.iloc_block_commands.specs.Counts.{count_ending};
 
 use crate::schedule::lend;
-use iloc_args::Request;
+use iloc_args::{Flag, Request};
 use iloc_driver::FarmedLister;
 use iloc_listing::{Listing, count_of, push_count, push_opening, push_total_of};
 use iloc_ops::{Block, Blocks, NoMemory};
@@ -33,6 +33,8 @@ pub struct CountLister {
 }
 
 impl FarmedLister for CountLister {
+    ghost use Rattle.iloc_args.specs.Flags.{has};
+    ghost use Rattle.iloc_args.specs.declared.flag.Flag.TheVariants.{Csv};
     ghost use Rattle.iloc_block_commands.specs.Counts.{IsCountListing, listing_of_counts};
     ghost use Rattle.iloc_driver.specs.Entries.{AreListed};
     ghost use Rattle.iloc_driver.specs.Priorities.{Own};
@@ -46,7 +48,7 @@ impl FarmedLister for CountLister {
 
     ghost cycles_in = { λ cycles. cycles };
 
-    ghost made_of = { λ request. listing_of_counts request.csv };
+    ghost made_of = { λ request. listing_of_counts (has request.flags Csv) };
 
     ghost lists = { IsCountListing };
 
@@ -84,19 +86,20 @@ impl FarmedLister for CountLister {
     ) -> Result<Listing, NoMemory>
         requires few { length blocks ≤ MAX_BLOCKS }
         requires many { length cycles.items ≡ length blocks }
-        ensures made { IfOk result (λ text. text ≡ listing_of_counts request.now.csv blocks cycles.items) }
+        ensures made { IfOk result (λ text. text ≡ listing_of_counts (has request.now.flags Csv) blocks cycles.items) }
         ensures right { IfOk result (λ text. (own : Own)
             → AreListed (by_own (λ own _ block count. IsCountBy (ranks request.now.priority request.now.latencies own)
             request.now.latencies block count) own) blocks cycles.items → IsCountListing request.now own blocks text) }
     {
+        let csv = request.flags.has(Flag::Csv);
         let mut text = Vec::new(alloc);
-        push_opening(&mut text, request.csv, HEADER)?;
+        push_opening(&mut text, csv, HEADER)?;
         for (index, block) in blocks.as_slice().iter().enumerate() {
             let count = u64::from(cycles[index]);
             let name = block.name.as_ref();
-            push_count(&mut text, request.csv, index + 1, name, count)?;
+            push_count(&mut text, csv, index + 1, name, count)?;
         }
-        push_ending(&mut text, request.csv, &cycles)?;
+        push_ending(&mut text, csv, &cycles)?;
         Ok(Listing::of_text(alloc, text))
     }
 }

@@ -1,6 +1,8 @@
 //! `run`: what comes of blocks, one operation after another.
 ghost use Rattle.std.specs.Option.{option_copied};
 ghost use Rattle.std.specs.Prelude.{◌&&◌, is_none, ◌≡◌, ◌≤◌, ◌<◌, ◌+◌, ◌^◌, ◌++◌, length, IfOk, OnOk, codes};
+ghost use Rattle.iloc_args.specs.Flags.{has};
+ghost use Rattle.iloc_args.specs.declared.flag.Flag.TheVariants.{Where};
 ghost use Rattle.iloc_fault.specs.Place.{IsFaultPlace};
 ghost use Rattle.iloc_fault.specs.declared.place.FaultPlace.{FaultPlace as place_value};
 ghost use Rattle.iloc_meaning.specs.Outcome.{outcome};
@@ -11,7 +13,7 @@ ghost use Rattle.iloc_driver.specs.Command.{initial_memory};
 ghost use Rattle.iloc_meaning.specs.Trace.{op_at};
 ghost use Rattle.iloc_listing.specs.Listing.{block_head};
 
-use iloc_args::Request;
+use iloc_args::{Flag, Request};
 use iloc_driver::{Lister, initial_memory};
 use iloc_fault::{FaultFinder, FaultPlace};
 use iloc_listing::{push_block_head, push_outcome};
@@ -84,9 +86,9 @@ fn push_faulting(
 
 /// Whether it is listed where a block faults that emitted these words, or none.
 fn is_placed(request: &Request, words: Option<&[i32]>) -> bool
-    ensures { result ≡ (request.now.fault_place && is_none (option_copied words.entry)) }
+    ensures { result ≡ (has request.now.flags Where && is_none (option_copied words.entry)) }
 {
-    request.fault_place && words.is_none()
+    request.flags.has(Flag::Where) && words.is_none()
 }
 
 /// Runs each block, and lists what comes of it.

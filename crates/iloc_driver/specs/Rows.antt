@@ -4,6 +4,8 @@ use Rattle.std.specs.List.{list_all, zip}
 use Rattle.iloc_ops.specs.declared.file.Block.{Block}
 use Rattle.iloc_rows.specs.declared.proposal.Proposed.{Proposed}
 use Rattle.iloc_rows.specs.EitherSlot.{placed}
+use Rattle.iloc_args.specs.Flags.{has}
+use Rattle.iloc_args.specs.declared.flag.Flag.TheVariants.{EitherSlot}
 use Rattle.iloc_args.specs.declared.request.Request.{Request}
 use Rattle.iloc_driver.specs.Entries.{AreEntries}
 use Rattle.iloc_driver.specs.Fault.{finding_of}
@@ -26,4 +28,4 @@ abbrev pub ListsProposed : {F : Type 0} → (Request → ℕ → Block × Propos
     → (Request → List F → List ℕ) → (Request → F → Bool) → Request → List Block → List Proposed → Finding → List ℕ → Type 0
 ListsProposed lists opening ending passes request blocks proposals finding text =
     ListsRows (lists request) (opening request) (ending request) (passes request) blocks
-    (placed request.either_slot proposals) finding text
+    (placed (has request.flags EitherSlot) proposals) finding text

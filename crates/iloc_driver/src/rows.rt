@@ -20,7 +20,7 @@ use crate::commands::{Finding, Listed};
 use crate::fault::RunFault;
 use crate::reading::task::submission_apart;
 use crate::reading::texts::Texts;
-use iloc_args::Request;
+use iloc_args::{Flag, Request};
 use iloc_listing::Listing;
 use iloc_ops::{Block, NoMemory};
 use iloc_rows::laws::{placed_rows_are_within_limits, submissions_are_within_limits};
@@ -107,7 +107,8 @@ fn listed_rows<L: RowLister>(
 {
     placed_rows_are_within_limits();
     let blocks = submission.blocks.into_vec();
-    let proposals = submission.proposals.placed(request.either_slot).into_vec();
+    let either_slot = request.flags.has(Flag::EitherSlot);
+    let proposals = submission.proposals.placed(either_slot).into_vec();
     let mut lister = L::new(alloc, request, blocks.len())?;
     let mut text = Vec::new(alloc);
     let mut found = Vec::new(alloc);

@@ -11,6 +11,8 @@ use Rattle.iloc_graph.specs.Listing.{IsCluster}
 use Rattle.iloc_graph.proofs.OneText.{one_cluster}
 use Rattle.iloc_meaning.specs.Memory.{words_from}
 use Rattle.iloc_meaning.specs.Outcome.{outcome, shown}
+use Rattle.iloc_args.specs.Flags.{has}
+use Rattle.iloc_args.specs.declared.flag.Flag.TheVariants.{Csv, Cycles, Where}
 use Rattle.iloc_args.specs.declared.request.Request.{Request}
 use Rattle.iloc_args.specs.declared.request.Task.{Task}
 use Rattle.iloc_args.specs.declared.request.Task.TheVariants as task
@@ -87,15 +89,15 @@ module _ (r q : Request) (alike : AskAlike r q) (k : ℕ) (b : Block) where
       let same : c ≡ c' = one_comparison q.latencies own b c c'
       (transport (λ i. IsComparedCycles (alike.latencies i) (settled i) own b c) is.compares)
       (transport (λ i. IsComparedCycles q.latencies (none i) own b c') is'.compares) in
-      (is.listed ∙ (ap₂ (λ csv x. compare_line csv k b.name x) alike.csv same ∙ sym is'.listed), same)
+      (is.listed ∙ (ap₂ (λ flags x. compare_line (has flags Csv) k b.name x) alike.flags same ∙ sym is'.listed), same)
 
   explain_same : (own : Option (List ℕ)) (e e' : List ℕ) (c c' : ℕ) → IsExplainEntry r own k b e c
       → IsExplainEntry q own k b e' c' → (e ≡ e') × (c ≡ c')
   explain_same own e e' c c' is is' =
       let same = same_ranked own is.schedule is'.schedule is.greedy is'.greedy in
       let text : is.text ≡ is'.text =
-      one_said q.by_cycle (ranks q.priority q.latencies own is'.schedule.ops) q.latencies b.ops is'.schedule is.text is'.text
-      (transport (λ i. IsSaid (alike.by_cycle i) (ranks (alike.priority i) (alike.latencies i) own (same i).ops)
+      one_said (has q.flags Cycles) (ranks q.priority q.latencies own is'.schedule.ops) q.latencies b.ops is'.schedule is.text is'.text
+      (transport (λ i. IsSaid (has (alike.flags i) Cycles) (ranks (alike.priority i) (alike.latencies i) own (same i).ops)
       (alike.latencies i) b.ops (same i) is.text) is.said) is'.said in (
         is.listed ∙ (ap (λ t. block_head k b.name ++ codes "\n" ++ t) text ∙ sym is'.listed),
         cycles_same is.schedule is'.schedule c c' same is.counted is'.counted,
@@ -131,15 +133,15 @@ of_one_task task.Schedule r q alike settled own blocks text text' lists lists' =
     (λ k b. schedule_same r q alike k b (own_of own k)) total_of_all blocks text text' lists lists'
 of_one_task task.Counts r q alike settled own blocks text text' lists lists' =
     one_listing_after (λ k. IsCountEntry r (own_of own k) k) (λ k. IsCountEntry q (own_of own k) k)
-    (λ k b. count_same r q alike k b (own_of own k)) (opening_as r.csv count_header)
-    (opening_as q.csv count_header) (count_ending r.csv) (count_ending q.csv) blocks text text'
-    (ap (λ csv. opening_as csv count_header) alike.csv) (ap count_ending alike.csv) lists lists'
+    (λ k b. count_same r q alike k b (own_of own k)) (opening_as (has r.flags Csv) count_header)
+    (opening_as (has q.flags Csv) count_header) (count_ending (has r.flags Csv)) (count_ending (has q.flags Csv)) blocks text text'
+    (ap (λ flags. opening_as (has flags Csv) count_header) alike.flags) (ap (λ flags. count_ending (has flags Csv)) alike.flags) lists lists'
 of_one_task task.Compare r q alike settled own blocks text text' lists lists' =
     one_listing_after (λ k. IsCompareEntry r (own_of own k) k) (λ k. IsCompareEntry q (own_of own k) k)
     (λ k b. compare_same r q alike k b (own_of own k) (without_nodes r.nodes settled)) (opening_for r) (opening_for q)
     (ending_for r) (ending_for q) blocks text text'
-    (λ i. opening_as (alike.csv i) (compare_header (alike.nodes i) (is_some (alike.priorities_file i))))
-    (λ i. compare_ending (alike.csv i) (alike.nodes i) (is_some (alike.priorities_file i))) lists lists'
+    (λ i. opening_as (has (alike.flags i) Csv) (compare_header (alike.nodes i) (is_some (alike.priorities_file i))))
+    (λ i. compare_ending (has (alike.flags i) Csv) (alike.nodes i) (is_some (alike.priorities_file i))) lists lists'
 of_one_task task.Optimize r q alike settled own blocks text text' lists lists' = absurd cc
 of_one_task task.Explain r q alike settled own blocks text text' lists lists' =
     one_listing (λ k. IsExplainEntry r (own_of own k) k) (λ k. IsExplainEntry q (own_of own k) k)
@@ -154,7 +156,7 @@ simulating_lists_runs request own blocks text plain lists =
     let memory = initial_memory request in
     listing_also (IsSimulateEntry request) (IsRunEntry request) (λ k b entry found is. record {
       text = words_or_fault (shown (outcome b.ops memory));
-      shows = shown_plainly request.fault_place b.ops memory (outcome b.ops memory) (shown (outcome b.ops memory)) refl
+      shows = shown_plainly (has request.flags Where) b.ops memory (outcome b.ops memory) (shown (outcome b.ops memory)) refl
           (ap (λ asked. asked && is_none (shown (outcome b.ops memory))) plain);
       listed = is.plain;
     }) no_ending blocks text lists

@@ -7,6 +7,8 @@ use Rattle.std.specs.declared.string.String.{String}
 use Rattle.iloc_ops.specs.declared.file.Block.{Block}
 use Rattle.iloc_text.proofs.Answer.{one_answer}
 use Rattle.iloc_rows.specs.EitherSlot.{placed}
+use Rattle.iloc_args.specs.Flags.{has}
+use Rattle.iloc_args.specs.declared.flag.Flag.TheVariants.{Csv, EitherSlot}
 use Rattle.iloc_args.specs.declared.request.Request.{Request}
 use Rattle.iloc_args.specs.declared.request.Task.{Task}
 use Rattle.iloc_args.specs.declared.request.Task.TheVariants as task
@@ -45,8 +47,8 @@ compared_alike : (r q : Request) → AskAlike r q → (own : Own) (blocks : List
     → IsCompareListing r own blocks text → IsCompareListing q own blocks text
 compared_alike r q alike own blocks text is =
     transport (λ i. IsListingAfter (λ k. IsCompareEntry q (own_of own k) k)
-    (opening_as (alike.csv i) (compare_header (alike.nodes i) (is_some (alike.priorities_file i))))
-    (compare_ending (alike.csv i) (alike.nodes i) (is_some (alike.priorities_file i))) blocks text)
+    (opening_as (has (alike.flags i) Csv) (compare_header (alike.nodes i) (is_some (alike.priorities_file i))))
+    (compare_ending (has (alike.flags i) Csv) (alike.nodes i) (is_some (alike.priorities_file i))) blocks text)
     (listing_after_also (λ k. IsCompareEntry r (own_of own k) k) (λ k. IsCompareEntry q (own_of own k) k)
     (λ k. compares_alike r q alike (own_of own k) k) (opening_for r) (ending_for r) blocks text is)
 
@@ -74,12 +76,12 @@ one_check r q alike = grind (arith, one_memory)
 -- one explanation of rows
 explained_alike : (r q : Request) → AskAlike r q → Explains r ≡ Explains q
 explained_alike r q alike = λ i. λ blocks proposals finding text.
-    ExplainsRows (alike.priority i) (alike.latencies i) blocks (placed (alike.either_slot i) proposals) finding text
+    ExplainsRows (alike.priority i) (alike.latencies i) blocks (placed (has (alike.flags i) EitherSlot) proposals) finding text
 
 -- and one trace of them
 traced_alike : (r q : Request) → AskAlike r q → Traces r ≡ Traces q
 traced_alike r q alike = λ i. λ blocks proposals finding text.
-    TracesRows (alike.latencies i) (one_memory r q alike i) blocks (placed (alike.either_slot i) proposals) finding text
+    TracesRows (alike.latencies i) (one_memory r q alike i) blocks (placed (has (alike.flags i) EitherSlot) proposals) finding text
 
 as_alike : (held : Held) (r q : Request) → AskAlike r q → (t : Task) (file : Option (String Global))
     → IsTrue (takes_rows command_of t file) → (old new : Option (List ℕ)) (finding : Finding) (text : List ℕ)

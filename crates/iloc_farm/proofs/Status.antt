@@ -13,6 +13,8 @@ use Rattle.iloc_rows.specs.declared.proposal.Proposed.{Proposed}
 use Rattle.iloc_judge.specs.Checked.{DoTheSame, MayPass}
 use Rattle.iloc_args.specs.Asked.{Asked, asked_in}
 use Rattle.iloc_args.specs.declared.fault.LineFault.TheVariants as line
+use Rattle.iloc_args.specs.Flags.{has}
+use Rattle.iloc_args.specs.declared.flag.Flag.TheVariants.{EitherSlot, Outputs}
 use Rattle.iloc_args.specs.declared.request.Request.{Request}
 use Rattle.iloc_args.specs.declared.request.Task.{Task}
 use Rattle.iloc_args.specs.declared.request.Task.TheVariants as task
@@ -23,9 +25,9 @@ use Rattle.iloc_driver.specs.Run.Apart.{Held}
 use Rattle.iloc_farm.specs.Commands.{command_of}
 use Rattle.iloc_driver.specs.Fault.{status_of_finding}
 use Rattle.iloc_driver.specs.Command.{initial_memory}
-use Rattle.iloc_farm.specs.Laws.{options_in, ReadsRows, ReadsTheSame, Status0MeansTheSame}
+use Rattle.iloc_farm.specs.Laws.{ReadsRows, ReadsTheSame, Status0MeansTheSame}
 use Rattle.iloc_driver.specs.Program.{Args, AskFor, IsListed, MakeNone}
-use Rattle.iloc_row_commands.specs.Check.{Checks, options_of}
+use Rattle.iloc_row_commands.specs.Check.{Checks, options_by, options_of}
 use Rattle.iloc_driver.specs.Run.{ListsAs}
 use Rattle.iloc_farm.proofs.Checks.{passed_keep_outcomes, passed_may_pass}
 
@@ -70,12 +72,12 @@ listed_same held words read_old read_new finding text a listed passed asks check
     judges held request read_old read_new finding text request.task request.task_file refl is refl listed.listed in
     let Q : Finding → Type 0 = λ f. Checks request judged.blocks judged.proposals f text in
     let T : Asked → Type 0 = λ x.
-    AllZip (λ (b : Block) (p : Proposed). DoTheSame x.outputs request.latencies b.ops p.ops p.rows) judged.blocks
-    (placed x.either_slot judged.proposals) in
+    AllZip (λ (b : Block) (p : Proposed). DoTheSame (x.flags Outputs) request.latencies b.ops p.ops p.rows) judged.blocks
+    (placed (x.flags EitherSlot) judged.proposals) in
     let R : Option (List ℕ) → Type 0 = λ file. ReadsRows held file read_old read_new judged.blocks judged.proposals in
     let S : Asked → Type 0 = λ x. AllZip (λ (b : Block) (p : Proposed).
-    MayPass (options_in x) request.latencies (words_from x.at x.words) b.ops p.ops p.rows) judged.blocks
-    (placed x.either_slot judged.proposals) in
+    MayPass (options_by x.flags) request.latencies (words_from x.at x.words) b.ops p.ops p.rows) judged.blocks
+    (placed (x.flags EitherSlot) judged.proposals) in
     record {
       blocks = judged.blocks;
       proposals = judged.proposals;
@@ -86,9 +88,9 @@ listed_same held words read_old read_new finding text a listed passed asks check
       mult = ap (λ (x : Asked). x.mult) same;
       same = subst T same
           (passed_keep_outcomes (options_of request) request.nodes request.latencies (initial_memory request)
-          judged.blocks (placed request.either_slot judged.proposals) text (subst Q passed judged.checked));
+          judged.blocks (placed (has request.flags EitherSlot) judged.proposals) text (subst Q passed judged.checked));
       told = subst S same (passed_may_pass (options_of request) request.nodes request.latencies
-          (initial_memory request) judged.blocks (placed request.either_slot judged.proposals) text (subst Q passed judged.checked));
+          (initial_memory request) judged.blocks (placed (has request.flags EitherSlot) judged.proposals) text (subst Q passed judged.checked));
     }
 
 pub status_0_means_the_same : Status0MeansTheSame

@@ -22,6 +22,8 @@ use Rattle.iloc_comparison.specs.declared.task.CheckOptions.{CheckOptions}
 use Rattle.iloc_rows.specs.EitherSlot.{placed}
 use Rattle.iloc_rows.specs.Submissions as submissions
 use Rattle.iloc_args.specs.Asked.{Asked}
+use Rattle.iloc_args.specs.Flags.{has}
+use Rattle.iloc_args.specs.declared.flag.Flag.TheVariants.{EitherSlot, Outputs, Where}
 use Rattle.iloc_args.specs.declared.request.Request.{Request}
 use Rattle.iloc_args.specs.declared.request.Task.{Task}
 use Rattle.iloc_args.specs.declared.request.Task.TheVariants as task
@@ -30,7 +32,7 @@ use Rattle.iloc_driver.specs.declared.commands.Finding.{Finding}
 use Rattle.iloc_driver.specs.declared.commands.Finding.TheVariants.{Passed}
 use Rattle.iloc_driver.specs.declared.program.Ending.{Ending}
 use Rattle.iloc_driver.specs.Run.Apart.{Held, ReadsApart}
-use Rattle.iloc_row_commands.specs.Check.{ListsChecked, form_as}
+use Rattle.iloc_row_commands.specs.Check.{ListsChecked, options_by}
 use Rattle.iloc_block_commands.specs.Compare.{IsComparedCycles, optimal}
 use Rattle.iloc_block_commands.specs.Optimize.{IsOptimizeEntry}
 use Rattle.iloc_block_commands.specs.declared.compare.ComparedCycles.{ComparedCycles}
@@ -50,14 +52,7 @@ pub record AskAlike (r q : Request) : Type 0 where
   pub priorities_file : r.priorities_file ≡ q.priorities_file
   pub nodes : r.nodes ≡ q.nodes
   pub task_file : r.task_file ≡ q.task_file
-  pub csv : r.csv ≡ q.csv
-  pub json : r.json ≡ q.json
-  pub either_slot : r.either_slot ≡ q.either_slot
-  pub lawful : r.lawful ≡ q.lawful
-  pub operations : r.operations ≡ q.operations
-  pub outputs : r.outputs ≡ q.outputs
-  pub fault_place : r.fault_place ≡ q.fault_place
-  pub by_cycle : r.by_cycle ≡ q.by_cycle
+  pub flags : r.flags ≡ q.flags
 
 -- whether a request with this task and these nodes searches for schedules of the blocks of a file
 abbrev pub searches : Task → Option ℕ → Bool
@@ -96,7 +91,7 @@ CountedOptimaAreOptimal = (lat : Latencies) (nodes : Option ℕ) (numbers : Opti
 -- what is listed of blocks as what comes of their schedules is what is listed as what comes of them, where it isn't asked at
 -- which place they fault
 abbrev pub SimulatingListsRuns : Type 0
-SimulatingListsRuns = (request : Request) (own : Own) (blocks : List Block) (text : List ℕ) → request.fault_place ≡ false
+SimulatingListsRuns = (request : Request) (own : Own) (blocks : List Block) (text : List ℕ) → has request.flags Where ≡ false
     → IsListingFor command_of task.Simulate request own blocks text → IsListingFor command_of task.Run request own blocks text
 
 -- what one of such requests may list where rows are read, so may the other
@@ -129,15 +124,6 @@ abbrev pub ReadsRows : Held → Option (List ℕ) → Option (List ℕ) → Opti
 ReadsRows held None old new blocks proposals = ReadsSubmission old new blocks proposals
 ReadsRows held (Some name) old new blocks proposals = ReadsApart (held name) old new blocks proposals
 
--- what is asked of rows
-abbrev pub options_in : Asked → CheckOptions
-options_in asked = record {
-  lawful = asked.lawful;
-  operations = asked.operations;
-  outputs_alone = asked.outputs;
-  form = form_as asked.csv asked.json;
-}
-
 -- Blocks were read, and rows that are proposed for them. With the latencies that are asked for, and in either slot if that is
 -- asked for, the rows for each block keep the rules of the units and have its outcome on every memory or, where it is asked to
 -- compare outputs alone, show what it shows. They are by the book; or, where that isn't asked for, the block finishes on the
@@ -151,11 +137,11 @@ pub record ReadsTheSame (held : Held) (asked : Asked) (old new : Option (List �
   pub load : latencies.load ≡ asked.load
   pub store : latencies.store ≡ asked.store
   pub mult : latencies.mult ≡ asked.mult
-  pub same : AllZip (λ (b : Block) (p : Proposed). DoTheSame asked.outputs latencies b.ops p.ops p.rows) blocks
-      (placed asked.either_slot proposals)
+  pub same : AllZip (λ (b : Block) (p : Proposed). DoTheSame (asked.flags Outputs) latencies b.ops p.ops p.rows) blocks
+      (placed (asked.flags EitherSlot) proposals)
   pub told : AllZip (λ (b : Block) (p : Proposed).
-      MayPass (options_in asked) latencies (words_from asked.at asked.words) b.ops p.ops p.rows) blocks
-      (placed asked.either_slot proposals)
+      MayPass (options_by asked.flags) latencies (words_from asked.at asked.words) b.ops p.ops p.rows) blocks
+      (placed (asked.flags EitherSlot) proposals)
 
 -- so it is where the program ends with status 0 and its words ask for a check
 abbrev pub Status0MeansTheSame : Type 0

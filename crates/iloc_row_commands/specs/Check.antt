@@ -22,6 +22,9 @@ use Rattle.iloc_listing.specs.Listing.{head_as}
 use Rattle.iloc_driver.specs.Rows.{ListsRows}
 use Rattle.iloc_listing.specs.Schedules.{IsTheGreedy}
 use Rattle.iloc_driver.specs.declared.commands.Finding.{Finding}
+use Rattle.iloc_args.specs.Flags.{has}
+use Rattle.iloc_args.specs.declared.flag.Flag.{Flag}
+use Rattle.iloc_args.specs.declared.flag.Flag.TheVariants.{Csv, EitherSlot, Json, Lawful, Operations, Outputs}
 use Rattle.iloc_args.specs.declared.request.Request.{Request}
 use Rattle.iloc_rows.specs.EitherSlot.{placed}
 use Rattle.iloc_driver.specs.Command.{Command, of_rows, initial_memory}
@@ -34,16 +37,20 @@ form_as true false = forms.Table
 form_as false false = forms.Lines
 
 abbrev pub form_of : Request → Form
-form_of request = form_as request.csv request.json
+form_of request = form_as (has request.flags Csv) (has request.flags Json)
 
--- what a request asks of rows
-abbrev pub options_of : Request → CheckOptions
-options_of request = record {
-  lawful = request.lawful;
-  operations = request.operations;
-  outputs_alone = request.outputs;
-  form = form_of request;
+-- what flags ask of rows, by whether each is given
+abbrev pub options_by : (Flag → Bool) → CheckOptions
+options_by is_given = record {
+  lawful = is_given Lawful;
+  operations = is_given Operations;
+  outputs_alone = is_given Outputs;
+  form = form_as (is_given Csv) (is_given Json);
 }
+
+-- what a request asks of them
+abbrev pub options_of : Request → CheckOptions
+options_of request = options_by (has request.flags)
 
 -- What is found of a proposal, and said of it, is right: where this row can't be read, that; else what is said of its rows.
 abbrev pub IsSaid : Option Unread → CheckOptions → Latencies → List ℤ → List Op → Table → Proposed → Checked → List ℕ → Type 0
@@ -134,7 +141,7 @@ ListsChecked options nodes lat memory blocks proposals finding text =
 abbrev pub Checks : Request → List Block → List Proposed → Finding → List ℕ → Type 0
 Checks request blocks proposals finding text =
     ListsChecked (options_of request) request.nodes request.latencies (initial_memory request) blocks
-    (placed request.either_slot proposals) finding text
+    (placed (has request.flags EitherSlot) proposals) finding text
 
 abbrev pub check_command : Command
 check_command = of_rows Checks

@@ -11,6 +11,8 @@ use Rattle.iloc_listing.specs.Listing.{block_head, total_of}
 use Rattle.iloc_driver.specs.Rows.{ListsRows}
 use Rattle.iloc_listing.specs.Schedules.{IsTheGreedy}
 use Rattle.iloc_driver.specs.declared.commands.Finding.{Finding}
+use Rattle.iloc_args.specs.Flags.{has}
+use Rattle.iloc_args.specs.declared.flag.Flag.TheVariants.{EitherSlot}
 use Rattle.iloc_args.specs.declared.request.Request.{Request}
 use Rattle.iloc_rows.specs.EitherSlot.{placed}
 pub mod Departure
@@ -39,4 +41,4 @@ ExplainsRows heuristic lat blocks proposals finding text =
 -- the text explains, with this finding, what is proposed for blocks, with leave for either slot if the request gives that
 abbrev pub Explains : Request → List Block → List Proposed → Finding → List ℕ → Type 0
 Explains request blocks proposals finding text =
-    ExplainsRows request.priority request.latencies blocks (placed request.either_slot proposals) finding text
+    ExplainsRows request.priority request.latencies blocks (placed (has request.flags EitherSlot) proposals) finding text

@@ -9,6 +9,8 @@ use Rattle.iloc_timed.specs.Schedule.{IsFirstBadRow}
 use Rattle.iloc_rows.specs.declared.proposal.Proposed.{Proposed}
 use Rattle.iloc_rows.specs.declared.proposal.unread.Unread.{Unread}
 use Rattle.iloc_rows.specs.EitherSlot.{placed}
+use Rattle.iloc_args.specs.Flags.{has}
+use Rattle.iloc_args.specs.declared.flag.Flag.TheVariants.{EitherSlot}
 use Rattle.iloc_args.specs.declared.request.Request.{Request}
 use Rattle.iloc_verdict.specs.Entry.Listing.{bad_row}
 use Rattle.iloc_verdict.specs.Unread.{IsUnreadLine}
@@ -52,4 +54,4 @@ TracesRows lat memory blocks proposals finding text =
 -- the text says, with this finding, what is proposed for blocks does, with leave for either slot if the request gives that
 abbrev pub Traces : Request → List Block → List Proposed → Finding → List ℕ → Type 0
 Traces request blocks proposals finding text =
-    TracesRows request.latencies (initial_memory request) blocks (placed request.either_slot proposals) finding text
+    TracesRows request.latencies (initial_memory request) blocks (placed (has request.flags EitherSlot) proposals) finding text

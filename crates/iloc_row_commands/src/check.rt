@@ -8,7 +8,7 @@ ghost use Rattle.iloc_ops.specs.Limits.{MAX_BLOCKS};
 
 use crate::json::push_json_head;
 use crate::totals::Totals;
-use iloc_args::Request;
+use iloc_args::{Flag, Request};
 use iloc_bound::least_of;
 use iloc_comparison::{CheckOptions, Form, Judging, Task};
 use iloc_driver::{Finding, RowLister, initial_memory};
@@ -55,7 +55,7 @@ fn header(nodes: Option<u32>) -> &'static [u8]
 fn form_of(request: &Request) -> Form
     ensures { result ≡ form_of request.now }
 {
-    match (request.csv, request.json) {
+    match (request.flags.has(Flag::Csv), request.flags.has(Flag::Json)) {
         (_, true) => Form::Json,
         (true, false) => Form::Table,
         (false, false) => Form::Lines,
@@ -67,9 +67,9 @@ fn options_of(request: &Request) -> CheckOptions
     ensures { result ≡ options_of request.now }
 {
     CheckOptions {
-        lawful: request.lawful,
-        operations: request.operations,
-        outputs_alone: request.outputs,
+        lawful: request.flags.has(Flag::Lawful),
+        operations: request.flags.has(Flag::Operations),
+        outputs_alone: request.flags.has(Flag::Outputs),
         form: form_of(request),
     }
 }
@@ -142,6 +142,8 @@ fn push_judged(
 
 impl RowLister for CheckLister {
     ghost use Rattle.iloc_row_commands.specs.Check.{IsCheckEntry, check_ending, check_opening, form_of, options_of, IsSmall};
+    ghost use Rattle.iloc_args.specs.Flags.{has};
+    ghost use Rattle.iloc_args.specs.declared.flag.Flag.TheVariants.{Lawful};
     ghost use Rattle.iloc_driver.specs.Command.{initial_memory};
     ghost use Rattle.iloc_verdict.specs.Checked.{passes};
 
@@ -154,7 +156,7 @@ impl RowLister for CheckLister {
 
     ghost ending = { λ request. check_ending (form_of request) request.nodes };
 
-    ghost passes = { λ request. passes request.lawful };
+    ghost passes = { λ request. passes (has request.flags Lawful) };
 
     ghost fits = { IsSmall };
 
@@ -216,7 +218,7 @@ impl RowLister for CheckLister {
     }
 
     fn finding(request: &Request, found: &[Checked]) -> Finding {
-        let lawful = request.lawful;
+        let lawful = request.flags.has(Flag::Lawful);
         Finding::of(found.iter().all(|checked| checked.passes(lawful)))
     }
 }

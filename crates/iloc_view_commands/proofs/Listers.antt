@@ -16,6 +16,8 @@ use Rattle.iloc_explain.specs.declared.measures.Measures.{Measures}
 use Rattle.iloc_graph.specs.Listing.{IsCluster}
 use Rattle.iloc_trace.specs.Events.{events}
 use Rattle.iloc_trace.specs.Listing.{trace_lines}
+use Rattle.iloc_args.specs.Flags.{has}
+use Rattle.iloc_args.specs.declared.flag.Flag.TheVariants.{Cycles}
 use Rattle.iloc_args.specs.declared.request.Request.{Request}
 use Rattle.iloc_view_commands.specs.Explain.{IsExplainEntry, IsSaid}
 use Rattle.iloc_view_commands.specs.Graph.{IsGraphEntry, opening_at}
@@ -85,7 +87,7 @@ entry_grown start head line whole said k b name empty opened named ended grown =
 -- what was said of the schedule that is greedy by the numbers found is the entry
 pub explain_is : (request : Request) (own : Option (List ℕ)) (k : ℕ) (b : Block) (s : Table) (g : GraphOf) (found said : List ℕ)
     → g ≡ of_block request.latencies b.ops → found ≡ ranks request.priority g.latencies own g.ops
-    → IsGreedyBy found request.latencies b.ops s.ops s.rows → IsSaid request.by_cycle found request.latencies b.ops s said
+    → IsGreedyBy found request.latencies b.ops s.ops s.rows → IsSaid (has request.flags Cycles) found request.latencies b.ops s said
     → (entry : List ℕ) (cycles : ℕ) → entry ≡ block_head k b.name ++ codes "\n" ++ said
     → cycles ≡ cycles_of request.latencies s → IsExplainEntry request own k b entry cycles
 explain_is request own k b s g found said is ranked greedy says entry cycles listed counted =
@@ -93,7 +95,7 @@ explain_is request own k b s g found said is ranked greedy says entry cycles lis
     let by : found ≡ ranks request.priority request.latencies own s.ops =
     ranked ∙ ap₂ (λ lat ops. ranks request.priority lat own ops) (ap (λ (x : GraphOf). x.latencies) is) ops in
     let P : List ℕ → Type 0 = λ prios. IsGreedyBy prios request.latencies b.ops s.ops s.rows in
-    let Q : List ℕ → Type 0 = λ prios. IsSaid request.by_cycle prios request.latencies b.ops s said in
+    let Q : List ℕ → Type 0 = λ prios. IsSaid (has request.flags Cycles) prios request.latencies b.ops s said in
     record {
       schedule = s;
       greedy = the_greedy_by (ranks request.priority request.latencies own) request.latencies b s (subst P by greedy);

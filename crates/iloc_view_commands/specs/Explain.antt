@@ -6,6 +6,8 @@ use Rattle.iloc_timed.specs.Schedule.{Table}
 use Rattle.iloc_timed.specs.declared.latencies.Latencies.{Latencies}
 use Rattle.iloc_explain.specs.CycleLines.{ready_listing}
 use Rattle.iloc_explain.specs.Listing.{IsExplanation}
+use Rattle.iloc_args.specs.Flags.{has}
+use Rattle.iloc_args.specs.declared.flag.Flag.TheVariants.{Cycles}
 use Rattle.iloc_args.specs.declared.request.Request.{Request}
 use Rattle.iloc_driver.specs.Command.{Command, shared_by}
 use Rattle.iloc_driver.specs.Entries.{IsListingOf}
@@ -26,7 +28,7 @@ pub record IsExplainEntry (request : Request) (own : Option (List ℕ)) (k : ℕ
   pub schedule : Table
   pub greedy : IsTheGreedyBy (ranks request.priority request.latencies own) request.latencies b schedule
   pub text : List ℕ
-  pub said : IsSaid request.by_cycle (ranks request.priority request.latencies own schedule.ops) request.latencies b.ops schedule
+  pub said : IsSaid (has request.flags Cycles) (ranks request.priority request.latencies own schedule.ops) request.latencies b.ops schedule
       text
   pub listed : entry ≡ block_head k b.name ++ codes "\n" ++ text
   pub counted : cycles ≡ cycles_of request.latencies schedule

@@ -8,7 +8,7 @@ ghost use Rattle.iloc_explain.specs.Measures.{AreMeasures};
 ghost use Rattle.iloc_listing.specs.Schedules.{ranks as all_ranks};
 ghost use Rattle.iloc_view_commands.specs.Explain.{IsSaid};
 
-use iloc_args::Request;
+use iloc_args::{Flag, Request};
 use iloc_bound::least_of;
 use iloc_driver::FarmedLister;
 use iloc_explain::{Measures, push_explanation, push_ready_list};
@@ -156,7 +156,7 @@ impl FarmedLister for ExplainLister {
         let measures = measure(alloc, &self.graph, ranks)?;
         let schedule = self.scheduler.lend(&self.graph, &measures.ranks)?;
         let cycles = count_of(&schedule, latencies);
-        let by_cycle = request.by_cycle;
+        let by_cycle = request.flags.has(Flag::Cycles);
         self.text.clear();
         push_block_head(&mut self.text, number, block.name.as_ref())?;
         self.text.push(b'\n')?;

@@ -8,7 +8,7 @@ use Rattle.clap.specs.Words.{App, Rule, Shape, Text, app_of, new_rule, rule_of, 
 use Rattle.clap.specs.Simple.{new_shape}
 use Rattle.iloc_args.specs.Command.{Subcommand, at_rule, flag_rule, latency_rule, nodes_rule, priority_rule, search_rule, shape, top_shape, text_rule, words_rule, workers_rule}
 use Rattle.iloc_args.specs.declared.command.Argument.{Argument}
-use Rattle.iloc_args.specs.declared.command.Argument.TheVariants.{At, Words, Workers, Latency, Priority, Nodes, NodesIfGiven, File, Flag}
+use Rattle.iloc_args.specs.declared.command.Argument.TheVariants.{At, Words, Workers, Latency, Priority, Nodes, NodesIfGiven, File, Flag, FlagSaying}
 use Rattle.iloc_args.specs.declared.command.Entry.{Entry}
 
 -- `--NAME N`, a number that this parser takes
@@ -46,7 +46,8 @@ rule_for Priority = priority_rule
 rule_for Nodes = nodes_rule
 rule_for NodesIfGiven = search_rule
 rule_for (File name help) = text_rule name.now
-rule_for (Flag name help) = flag_rule name.now
+rule_for (Flag flag) = flag_rule flag
+rule_for (FlagSaying flag help) = flag_rule flag
 
 -- the command that an entry of the table stands for
 abbrev pub subcommand_for : Entry → Subcommand

@@ -1,5 +1,5 @@
 -- The matches of arguments that the parser has taken.
-use Rattle.std.specs.Prelude.{◌≡◌, ◌⊎◌, ℕ, ◌≤◌, List, [], ◌∷◌, IfSome, codes, unwrap_or}
+use Rattle.std.specs.Prelude.{ℕ, ◌≤◌, List, [], ◌∷◌, IfSome, codes, unwrap_or}
 use Rattle.std.specs.Str.Parse.{IsNumeral, without_leading_plus}
 use Rattle.clap.specs.Words.{Row, Text, many_of, one_of}
 use Rattle.iloc_meaning.specs.Address.{LAST_ADDRESS}
@@ -21,15 +21,7 @@ AreNumbersIn low high (text ∷ rest) = IsNumberIn low high text × AreNumbersIn
 abbrev pub HoldsIn : ℕ → ℕ → Text → List Row → Type 0
 HoldsIn low high id rows = IfSome (one_of id rows) (IsNumberIn low high)
 
--- the text says whether a flag is given
-abbrev pub IsFlagText : Text → Type 0
-IsFlagText text = (text ≡ codes "true") ⊎ (text ≡ codes "false")
-
--- the matches have nothing for this flag, or such a text
-abbrev pub HoldsFlag : Text → List Row → Type 0
-HoldsFlag id rows = IfSome (one_of id rows) IsFlagText
-
--- each option that the matches have is in its range, each word has 32 bits, and each flag is given or not
+-- each option that the matches have is in its range, and each word has 32 bits
 pub record HoldValues (rows : List Row) : Type 0 where
   pub workers : HoldsIn 1 8 (codes "workers") rows
   pub at : HoldsIn 0 LAST_ADDRESS (codes "at") rows
@@ -38,11 +30,3 @@ pub record HoldValues (rows : List Row) : Type 0 where
   pub store : HoldsIn 1 LONGEST_LATENCY (codes "store") rows
   pub mult : HoldsIn 1 LONGEST_LATENCY (codes "mult") rows
   pub nodes : HoldsIn 0 100000 (codes "nodes") rows
-  pub csv : HoldsFlag (codes "csv") rows
-  pub json : HoldsFlag (codes "json") rows
-  pub lawful : HoldsFlag (codes "lawful") rows
-  pub operations : HoldsFlag (codes "operations") rows
-  pub outputs : HoldsFlag (codes "outputs") rows
-  pub either_slot : HoldsFlag (codes "either-slot") rows
-  pub fault_place : HoldsFlag (codes "where") rows
-  pub by_cycle : HoldsFlag (codes "cycles") rows

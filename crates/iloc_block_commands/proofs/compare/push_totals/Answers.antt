@@ -1,6 +1,9 @@
+use Rattle.std.proofs.Common.{◌∙◌, sym}
 use Rattle.std.specs.Prelude.{is_some}
 use Rattle.std.proofs.lemmas.Result.{on_ok_weaker}
 use Rattle.iloc_block_commands.proofs.Comparisons.{totals_pushed}
+use Rattle.iloc_args.specs.Flags.{has}
+use Rattle.iloc_args.specs.declared.flag.Flag.TheVariants.{Csv}
 use Rattle.iloc_block_commands.proofs.compare.push_totals.Goals as goal
 
 pub returns : goal.returns
@@ -8,6 +11,6 @@ returns c =
     let request = c.args.request.now in
     on_ok_weaker c.push_tally_line-2.result
     (λ pushed.
-    totals_pushed request.csv request.nodes c.is_some-own.result (is_some request.priorities_file) c.args.found.now
-    c.args.text.now.items _ _ _ c.if-request.false c.is_some-own.ensures c.in_ok-push_sums_line.ensures
+    totals_pushed (has request.flags Csv) request.nodes c.is_some-own.result (is_some request.priorities_file) c.args.found.now
+    c.args.text.now.items _ _ _ (sym c.has.ensures ∙ c.if-has.false) c.is_some-own.ensures c.in_ok-push_sums_line.ensures
     c.in_ok-push_tally_line.ensures pushed) c.push_tally_line-2.ensures

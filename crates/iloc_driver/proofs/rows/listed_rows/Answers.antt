@@ -3,6 +3,8 @@ use Rattle.std.specs.List.{list_all, zip}
 use Rattle.std.proofs.lemmas.Slice.Zip.{length-zip}
 use Rattle.iloc_ops.specs.Limits.{MAX_BLOCKS}
 use Rattle.iloc_rows.specs.EitherSlot.{placed}
+use Rattle.iloc_args.specs.Flags.{has}
+use Rattle.iloc_args.specs.declared.flag.Flag.TheVariants.{EitherSlot}
 use Rattle.iloc_driver.specs.Fault.{finding_of}
 use Rattle.iloc_driver.proofs.RowListing.{all_listed, both_next, found_few, none_listed, one_listed}
 use Rattle.iloc_driver.proofs.rows.listed_rows.Goals as goal
@@ -13,10 +15,11 @@ loop-block-init g c =
     ap (λ z. z.a.rest.items) c.into_iter-block-iterator.ensures.into_iter_gives
     ∙ (ap (λ i. i.rest.items) c.zip-block-items.ensures.first ∙ (c.into_iter.ensures.rest ∙ c.into_vec-blocks.ensures)) in
     let proposals : c.into_iter-block-iterator.result.b.rest.items
-    ≡ placed c.args.request.now.either_slot c.args.submission.proposals =
+    ≡ placed (has c.args.request.now.flags EitherSlot) c.args.submission.proposals =
     ap (λ z. z.b.rest.items) c.into_iter-block-iterator.ensures.into_iter_gives
-    ∙ (c.zip-block-items.ensures.second.0 ∙ (c.into_vec-proposals.ensures ∙ c.placed.ensures)) in
-    let limits = c.placed_rows_are_within_limits.ensures c.args.request.now.either_slot c.args.submission.blocks
+    ∙ (c.zip-block-items.ensures.second.0 ∙ (c.into_vec-proposals.ensures ∙ (c.placed.ensures
+    ∙ ap (λ either. placed either c.args.submission.proposals) c.has-either_slot.ensures))) in
+    let limits = c.placed_rows_are_within_limits.ensures (has c.args.request.now.flags EitherSlot) c.args.submission.blocks
     c.args.submission.proposals c.requires in
     record {
       so_far = none_listed (g.L.RowLister.lists c.args.request.now) g.L.RowLister.fits
@@ -33,7 +36,7 @@ list-requires-clause-short g c = (rw c.in-Some.ensures.steps.0.0 at c.loop-block
 pub list-requires-clause-number : goal.list-requires-clause-number
 list-requires-clause-number g c =
     let few = found_few _ _ _ _ _ _ _ c.loop-block.invariant.so_far in
-    let many = length-zip c.args.submission.blocks (placed c.args.request.now.either_slot c.args.submission.proposals) in
+    let many = length-zip c.args.submission.blocks (placed (has c.args.request.now.flags EitherSlot) c.args.submission.proposals) in
     let most : length c.args.submission.blocks ≤ MAX_BLOCKS = c.requires.few_blocks in
     omega arith
 
@@ -73,14 +76,14 @@ loop-block-preserved-in_ok-push g c =
 pub push_ending-requires-clause-few : goal.push_ending-requires-clause-few
 push_ending-requires-clause-few g c =
     let few = found_few _ _ _ _ _ _ _ c.loop-block.invariant.so_far in
-    let many = length-zip c.args.submission.blocks (placed c.args.request.now.either_slot c.args.submission.proposals) in
+    let many = length-zip c.args.submission.blocks (placed (has c.args.request.now.flags EitherSlot) c.args.submission.proposals) in
     let most : length c.args.submission.blocks ≤ MAX_BLOCKS = c.requires.few_blocks in
     omega (arith, ap length c.deref.ensures.value)
 
 pub returns : goal.returns
 returns g c =
     let request = c.args.request.now in
-    let limits = c.placed_rows_are_within_limits.ensures request.either_slot c.args.submission.blocks
+    let limits = c.placed_rows_are_within_limits.ensures (has request.flags EitherSlot) c.args.submission.blocks
     c.args.submission.proposals c.requires in
     let blocks = c.loop-block.block-iterator.a.rest in
     let proposals = c.loop-block.block-iterator.b.rest in
@@ -90,7 +93,7 @@ returns g c =
     ] in
     all_listed (g.L.RowLister.lists request) g.L.RowLister.fits (g.L.RowLister.opening request)
     (g.L.RowLister.ending request) (g.L.RowLister.passes request) c.args.submission.blocks blocks.items
-    (placed request.either_slot c.args.submission.proposals) proposals.items c.loop-block.text.items _
+    (placed (has request.flags EitherSlot) c.args.submission.proposals) proposals.items c.loop-block.text.items _
     c.loop-block.found.items _ limits.as_many none c.loop-block.invariant.so_far
     (c.of_text.ensures ∙ (c.in_ok-push_ending.ensures
     ∙ ap (λ fs. c.loop-block.text.items ++ g.L.RowLister.ending request fs) c.deref.ensures.value))

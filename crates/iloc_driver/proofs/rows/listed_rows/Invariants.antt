@@ -2,6 +2,8 @@ use Rattle.std.proofs.Common.{◌≡◌, ◌≤◌, length}
 use Rattle.std.specs.List.{AllByRecursion, zip}
 use Rattle.iloc_ops.specs.Limits.{MAX_OPS}
 use Rattle.iloc_rows.specs.EitherSlot.{placed}
+use Rattle.iloc_args.specs.Flags.{has}
+use Rattle.iloc_args.specs.declared.flag.Flag.TheVariants.{EitherSlot}
 use Rattle.iloc_driver.specs.Command.{initial_memory}
 use Rattle.iloc_driver.specs.Steps.Listed.{AreListedTo}
 use Rattle.iloc_driver.proofs.rows.listed_rows.Given as goal
@@ -12,7 +14,7 @@ invariant-loop-block g l =
     let proposals = l.block-iterator.b.rest.items in
     record {
       so_far : AreListedTo (g.L.RowLister.lists l.request) g.L.RowLister.fits (g.L.RowLister.opening l.request)
-          (zip l.fn.submission.blocks (placed l.request.either_slot l.fn.submission.proposals)) (zip blocks proposals)
+          (zip l.fn.submission.blocks (placed (has l.request.flags EitherSlot) l.fn.submission.proposals)) (zip blocks proposals)
           l.text.items l.found.items;
       starts : g.L.RowLister.memory l.request l.lister ≡ initial_memory l.request;
       beside : length proposals ≡ length blocks;

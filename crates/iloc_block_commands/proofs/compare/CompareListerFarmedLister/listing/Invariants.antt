@@ -6,5 +6,5 @@ use Rattle.iloc_block_commands.proofs.compare.CompareListerFarmedLister.listing.
 abbrev pub invariant-loop-index : goal.invariant-loop-index
 invariant-loop-index l =
     l.text.items
-    ++ entries (compare_line l.request.csv) (l.index + 1) (drop l.index l.block-items) (drop l.index l.found.items)
-    ≡ opening_for l.request ++ entries (compare_line l.request.csv) 1 l.block-items l.found.items
+    ++ entries (compare_line l.csv) (l.index + 1) (drop l.index l.block-items) (drop l.index l.found.items)
+    ≡ opening_for l.request ++ entries (compare_line l.csv) 1 l.block-items l.found.items

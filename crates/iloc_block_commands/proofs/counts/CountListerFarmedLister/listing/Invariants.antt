@@ -6,5 +6,5 @@ use Rattle.iloc_block_commands.proofs.counts.CountListerFarmedLister.listing.Giv
 abbrev pub invariant-loop-index : goal.invariant-loop-index
 invariant-loop-index l =
     l.text.items
-    ++ entries (count_line l.request.csv) (l.index + 1) (drop l.index l.block-items) (drop l.index l.cycles.items)
-    ≡ opening_as l.request.csv count_header ++ entries (count_line l.request.csv) 1 l.block-items l.cycles.items
+    ++ entries (count_line l.csv) (l.index + 1) (drop l.index l.block-items) (drop l.index l.cycles.items)
+    ≡ opening_as l.csv count_header ++ entries (count_line l.csv) 1 l.block-items l.cycles.items

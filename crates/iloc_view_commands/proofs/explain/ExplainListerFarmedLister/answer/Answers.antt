@@ -33,7 +33,7 @@ returns c =
     c.in_ok-measures.measures.ranks.items said.0 c.in_ok-refill.ensures.graph
     (c.in_ok-measures.ensures.ranks ∙ c.in_ok-ranks.ensures)
     (rw c.deref.ensures.value at (c.in_ok-schedule.ensures request.latencies block.ops c.in_ok-refill.ensures.graph).greedy)
-    said.1 entry.text entry.cycles
+    (rw c.has-by_cycle.ensures at said.1) entry.text entry.cycles
     (c.in_ok-entry.ensures.text
     ∙ (c.deref-2.ensures.value
     ∙ entry_grown _ _ _ _ said.0 c.args.number block _ c.clear.ensures.items c.in_ok-push_block_head.ensures
