@@ -9,7 +9,7 @@ use Rattle.iloc_bound.specs.declared.share.Share.{Share}
 use Rattle.iloc_optimum.specs.Timing.{Within, Crowd, between, belongs}
 use Rattle.iloc_optimum.specs.Steps.Inside.{is_inside, count_inside}
 use Rattle.iloc_bound.specs.Shares.{width}
-use Rattle.iloc_sched.proofs.Basics.CountedRanges.{count_range}
+use Rattle.iloc_rules.proofs.Basics.CountedRanges.{count_range}
 use Rattle.iloc_rules.proofs.Basics.Members.{from_range}
 use Rattle.iloc_rules.proofs.Basics.Slots.{count_by-cons}
 use Rattle.iloc_bound.proofs.Counting.{at_least, count-mono}

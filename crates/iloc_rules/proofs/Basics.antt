@@ -7,3 +7,4 @@ pub mod Registers
 pub mod Slots
 pub mod IssueCycles
 pub mod Kinds
+pub mod CountedRanges

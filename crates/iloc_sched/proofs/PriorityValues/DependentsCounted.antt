@@ -15,7 +15,7 @@ use Rattle.iloc_meaning.proofs.Cases.{by_bool}
 use Rattle.iloc_rules.specs.Delays.{Counts}
 use Rattle.iloc_rules.specs.Heuristics.{depends_on_where, descendants_where}
 use Rattle.iloc_sched.specs.Steps.Ranking.Dependents.{AreMarked}
-use Rattle.iloc_sched.proofs.Basics.CountedRanges.{count_range, none_in_range}
+use Rattle.iloc_rules.proofs.Basics.CountedRanges.{count_range, none_in_range}
 use Rattle.iloc_sched.proofs.PriorityValues.Dependents.{depends_within}
 
 -- a set of 64 bits is the mask of what depends on the operation

@@ -19,7 +19,7 @@ use Rattle.iloc_rules.specs.Steps.Members.{In}
 use Rattle.iloc_sched.specs.Graph.Near.{IsNear}
 use Rattle.iloc_sched.specs.Steps.Ranking.Successors.{waits_by_kind, waits_by_use, waiting_for, from_on, AreNoted, AreCounted}
 use Rattle.iloc_sched.proofs.Basics.Cases.{by_eq}
-use Rattle.iloc_sched.proofs.Basics.CountedRanges.{count_first, count_range, none_in_range, count_sum, count_most}
+use Rattle.iloc_rules.proofs.Basics.CountedRanges.{count_first, count_range, none_in_range, count_sum, count_most}
 use Rattle.iloc_rules.proofs.Basics.Members.{contains_from, in_left}
 
 -- there is a delay just where the result is used, or memory or outputs ask for one
