@@ -7,3 +7,5 @@ pub mod LastOnes
 pub mod Waited
 pub mod Sources
 pub mod Taken
+pub mod AddressesCounted
+pub mod SuccessorsCounted

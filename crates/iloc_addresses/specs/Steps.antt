@@ -1,3 +1,4 @@
 pub mod Registers
 pub mod ByConstant
 pub mod Dependences
+pub mod Successors

@@ -6,8 +6,10 @@ mod addresses;
 mod dependences;
 pub mod laws;
 mod registers;
+mod successors;
 mod words;
 
 pub use addresses::known_addresses;
 pub use dependences::MemoryDependences;
+pub use successors::count_successors;
 pub use words::are_apart;

@@ -3,6 +3,7 @@ ghost use Rattle.std.specs.Prelude.{◌≡◌, ◌*ℤ◌};
 ghost use Rattle.iloc_meaning.specs.Arithmetic.{wrapped, shifted_left as shifted_to_the_left, shifted_right as shifted_to_the_right};
 ghost use Rattle.iloc_rules.specs.Apart as meant;
 ghost use Rattle.iloc_addresses.specs.Steps.Dependences as seen;
+ghost use Rattle.iloc_addresses.specs.Steps.Successors as counted;
 
 use iloc_meaning::arithmetic;
 use iloc_rules::Word;
@@ -101,6 +102,16 @@ pub(crate) fn constant_of(word: Word) -> i32
 {
     match word {
         Word::Known(c) | Word::Based(_, c) => c,
+    }
+}
+
+/// The base of a word, if it has one.
+pub(crate) fn base_of(word: Word) -> Option<u32>
+    ensures { result ≡ counted.base_of word }
+{
+    match word {
+        Word::Known(_) => None,
+        Word::Based(base, _) => Some(base),
     }
 }
 

@@ -1,0 +1,68 @@
+use Rattle.std.proofs.Common.{ℕ, ◌≡◌, ◌<◌, length, sym, ◌∙◌, ap, arith}
+use Rattle.std.proofs.lemmas.List.{get_or_read, get_or_default}
+use Rattle.iloc_ops.specs.declared.op.Op.TheVariants.{Nop}
+use Rattle.iloc_timed.specs.Kinds.{kind}
+use Rattle.iloc_addresses.specs.Steps.Successors.{is_by_memory}
+use Rattle.iloc_addresses.proofs.SuccessorsCounted.{is_its, listed_size, address_read, waits_read, use_counted, use_skipped}
+use Rattle.iloc_addresses.proofs.successors.uses.count_use.Goals as goal
+
+pub bounds-ops-i : goal.bounds-ops-i
+bounds-ops-i c =
+    let before = c.requires.source c.in-Some.i (is_its c.in-Some.i c.args.source c.in-Some.is) in
+    omega (arith, before, c.requires.there)
+
+pub bounds-addresses-i : goal.bounds-addresses-i
+bounds-addresses-i c =
+    let before = c.requires.source c.in-Some.i (is_its c.in-Some.i c.args.source c.in-Some.is) in
+    omega (arith, before, c.requires.there, listed_size c.args.ops.now c.args.addresses.now c.requires.addresses)
+
+pub bounds-addresses-j : goal.bounds-addresses-j
+bounds-addresses-j c =
+    omega (arith, c.requires.there, listed_size c.args.ops.now c.args.addresses.now c.requires.addresses)
+
+pub index_mut-requires : goal.index_mut-requires
+index_mut-requires c =
+    let before = c.requires.source c.in-Some.i (is_its c.in-Some.i c.args.source c.in-Some.is) in
+    omega (arith, before, c.requires.there, c.requires.size)
+
+pub overflow_add-index_mut : goal.overflow_add-index_mut
+overflow_add-index_mut c =
+    let i : ℕ = c.in-Some.i in
+    let before = c.requires.source i (is_its i c.args.source c.in-Some.is) in
+    let read = get_or_read c.args.found.now.items i c.index_mut.result.now
+    (omega (arith, before, c.requires.there, c.requires.size)) c.index_mut.ensures.value 0 in
+    omega (arith, read, c.requires.small i)
+
+pub returns-then-not-waits_by_memory-clause-each : goal.returns-then-not-waits_by_memory-clause-each
+returns-then-not-waits_by_memory-clause-each c =
+    let ops = c.args.ops.now in
+    let i : ℕ = c.in-Some.i in
+    let before : i < c.args.j = c.requires.source i (is_its i c.args.source c.in-Some.is) in
+    let there = c.requires.there in
+    let within : i < length ops = omega arith in
+    let waits : c.waits_by_memory.result ≡ is_by_memory ops i c.args.j =
+    waits_read ops i c.args.j _ _ _ _ c.waits_by_memory.result c.waits_by_memory.ensures
+    (c.of.ensures ∙ ap kind (sym (get_or_default ops i Nop _ within)))
+    (address_read ops c.args.addresses.now i _ c.requires.addresses within)
+    (c.of-in-Some.ensures ∙ ap kind (sym (get_or_default ops c.args.j Nop _ there)))
+    (address_read ops c.args.addresses.now c.args.j _ c.requires.addresses there) in
+    let inside : i < length c.args.found.now.items = omega (arith, c.requires.size) in
+    use_counted ops c.args.found.now.items i c.args.j c.args.source c.in-Some.is c.index_mut.result.now inside
+    (get_or_read c.args.found.now.items i c.index_mut.result.now inside c.index_mut.ensures.value 0)
+    (sym waits ∙ c.if-not-waits_by_memory.true)
+
+pub returns-else-not-waits_by_memory-clause-each : goal.returns-else-not-waits_by_memory-clause-each
+returns-else-not-waits_by_memory-clause-each c =
+    let ops = c.args.ops.now in
+    let i : ℕ = c.in-Some.i in
+    let before : i < c.args.j = c.requires.source i (is_its i c.args.source c.in-Some.is) in
+    let there = c.requires.there in
+    let within : i < length ops = omega arith in
+    let waits : c.waits_by_memory.result ≡ is_by_memory ops i c.args.j =
+    waits_read ops i c.args.j _ _ _ _ c.waits_by_memory.result c.waits_by_memory.ensures
+    (c.of.ensures ∙ ap kind (sym (get_or_default ops i Nop _ within)))
+    (address_read ops c.args.addresses.now i _ c.requires.addresses within)
+    (c.of-in-Some.ensures ∙ ap kind (sym (get_or_default ops c.args.j Nop _ there)))
+    (address_read ops c.args.addresses.now c.args.j _ c.requires.addresses there) in
+    use_skipped ops c.args.found.now.items i c.args.j c.args.source c.in-Some.is
+    (sym waits ∙ c.if-not-waits_by_memory.false)
