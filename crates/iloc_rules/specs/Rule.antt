@@ -6,6 +6,8 @@ use Rattle.iloc_rules.specs.declared.memory_rule.MemoryRule.{MemoryRule}
 use Rattle.iloc_rules.specs.declared.memory_rule.MemoryRule.TheVariants.{Book, Address}
 use Rattle.iloc_rules.specs.Apart.{by_address}
 use Rattle.iloc_rules.specs.Delays.{Counts, all_count}
+use Rattle.iloc_rules.specs.Heuristics.{priorities_by, priorities_by_where}
+use Rattle.iloc_rules.specs.declared.heuristic.Heuristic.{Heuristic}
 use Rattle.iloc_rules.specs.Priority.{priority, priority_where}
 
 -- the pairs that count by a rule
@@ -17,3 +19,8 @@ counts_by Address ops = by_address ops
 abbrev pub priority_under : MemoryRule → Latencies → List Op → ℕ → ℕ
 priority_under Book lat ops i = priority lat ops i
 priority_under Address lat ops i = priority_where (by_address ops) lat ops i
+
+-- the priorities of renamed operations by a rule and a heuristic
+abbrev pub priorities_under : MemoryRule → Heuristic → Latencies → List Op → List ℕ
+priorities_under Book heuristic lat ops = priorities_by heuristic lat ops
+priorities_under Address heuristic lat ops = priorities_by_where (by_address ops) heuristic lat ops

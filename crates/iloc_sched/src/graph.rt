@@ -4,7 +4,6 @@ ghost use Rattle.iloc_ops.specs.declared.op.Op.{Op};
 ghost use Rattle.iloc_timed.specs.Kinds.{kind};
 ghost use Rattle.iloc_rules.specs.Delays.{IsDelayPair};
 ghost use Rattle.iloc_sched.specs.Graph.GraphOf.{GraphOf, RuledGraphOf, of_block, of_block_by};
-ghost use Rattle.iloc_rules.specs.declared.heuristic.Heuristic.TheVariants.{Successors};
 ghost use Rattle.iloc_rules.specs.declared.memory_rule.MemoryRule.TheVariants.{Book};
 ghost use Rattle.iloc_rules.specs.Heuristics.{priorities_by, priorities_by_where};
 ghost use Rattle.iloc_sched.specs.Graph.Near.{IsNearPair};
@@ -127,7 +126,6 @@ impl RuledGraph {
     /// (`Heuristic::Successors`) is counted by the book alone.
     #[inline(always)]
     pub fn rank(&self, heuristic: Heuristic, found: &mut Vec<u32>) -> Result<(), NoMemory>
-        requires { heuristic ≡ Successors → self.now.rule ≡ Book }
         ensures { OnOk result (found.new.items
             ≡ priorities_by_where (counts_by self.now.rule self.now.ops) heuristic self.now.latencies self.now.ops) }
     {

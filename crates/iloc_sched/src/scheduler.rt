@@ -8,7 +8,7 @@ ghost use Rattle.iloc_rules.specs.Greedy.{IsGreedyWhere};
 ghost use Rattle.iloc_rules.specs.Heuristics.{priorities_by};
 ghost use Rattle.iloc_rules.specs.Priority.{priorities, priorities_where};
 ghost use Rattle.iloc_rules.specs.Renaming.{renamed};
-ghost use Rattle.iloc_rules.specs.Rule.{counts_by};
+ghost use Rattle.iloc_rules.specs.Rule.{counts_by, priorities_under};
 ghost use Rattle.iloc_sched.specs.Scheduled.{IsTheSchedule, IsTheScheduleBy};
 ghost use Rattle.iloc_sched.specs.Steps.Cycle.SoFar.{IsPlan, counts_of};
 
@@ -96,9 +96,24 @@ impl Scheduler {
         ensures { IfOk result (λ s. (lat : latencies_value) (block : List Op) → graph.now ≡ of_block lat block
             → IsTheSchedule (priorities_by heuristic lat) lat block s) }
     {
+        self.lend_ruled_as(graph.ruled(), heuristic)
+    }
+
+    /// The same by a graph's rule of memory.
+    ///
+    /// Promise: It is the only schedule of the block that is greedy by the heuristic's priorities and by the graph's rule, with
+    /// the block's outcome, whatever graphs came before.
+    pub fn lend_ruled_as(
+        &mut self,
+        graph: &RuledGraph,
+        heuristic: Heuristic,
+    ) -> Result<Schedule, NoMemory>
+        ensures { IfOk result (λ s. (rule : rule_value) (lat : latencies_value) (block : List Op) →
+            graph.now ≡ of_block_by rule lat block → IsTheScheduleBy rule (priorities_under rule heuristic lat) lat block s) }
+    {
         let mut ranks = mem::replace(&mut self.ranks, Vec::new(self.alloc));
         graph.rank(heuristic, &mut ranks)?;
-        let lent = self.lend(graph, &ranks);
+        let lent = self.lend_ruled(graph, &ranks);
         self.ranks = ranks;
         lent
     }

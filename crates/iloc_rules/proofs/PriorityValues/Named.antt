@@ -12,6 +12,9 @@ use Rattle.iloc_rules.specs.Delays.{Counts, all_count}
 use Rattle.iloc_rules.specs.Starts.{start}
 use Rattle.iloc_rules.specs.Heuristics.{priorities_by, priorities_by_where}
 use Rattle.iloc_rules.specs.Heuristics.Listed.{heuristics}
+use Rattle.iloc_rules.specs.declared.memory_rule.MemoryRule.{MemoryRule}
+use Rattle.iloc_rules.specs.declared.memory_rule.MemoryRule.TheVariants.{Book, Address}
+use Rattle.iloc_rules.specs.Rule.{counts_by, priorities_under}
 use Rattle.iloc_rules.specs.Steps.Members.{In}
 use Rattle.iloc_rules.proofs.PriorityValues.Longest.{length-priorities}
 use Rattle.iloc_rules.proofs.PriorityValues.LongestWhere.{length_where, priorities_all}
@@ -39,3 +42,9 @@ priorities_by_all H.Descendants lat ops = refl
 priorities_by_all H.Successors lat ops = refl
 priorities_by_all H.Latency lat ops = refl
 priorities_by_all H.Order lat ops = refl
+
+-- by a rule these are its priorities
+pub ruled_priorities : (rule : MemoryRule) (heuristic : Heuristic) (lat : Latencies) (ops : List Op)
+    → priorities_by_where (counts_by rule ops) heuristic lat ops ≡ priorities_under rule heuristic lat ops
+ruled_priorities Book heuristic lat ops = priorities_by_all heuristic lat ops
+ruled_priorities Address heuristic lat ops = refl

@@ -7,11 +7,17 @@ use Rattle.iloc_timed.specs.Schedule.{Table}
 use Rattle.iloc_rules.specs.declared.memory_rule.MemoryRule.{MemoryRule}
 use Rattle.iloc_rules.specs.Greedy.{IsGreedyWhere}
 use Rattle.iloc_rules.specs.Rule.{counts_by}
+use Rattle.iloc_rules.specs.declared.memory_rule.MemoryRule.TheVariants.{Book}
+use Rattle.iloc_sched.specs.Graph.GraphOf.{GraphOf, RuledGraphOf}
 use Rattle.iloc_sched.specs.Scheduled.{IsTheScheduleBy}
 use Rattle.iloc_rules.proofs.Bounds.PriorityBound.{ruled_priority_bound}
 use Rattle.iloc_rules.proofs.Bounds.BusyCycles.{busy_bound_where}
 use Rattle.iloc_rules.proofs.Outcome.LawfulOutcomes.{ruled_same_outcome}
 use Rattle.iloc_rules.proofs.Choice.OneGreedy.{greedy_same_where}
+
+-- a graph by the book, with its rule
+unfoldable pub by_the_book : GraphOf → RuledGraphOf
+by_the_book g = record { rule = Book; ops = g.ops; latencies = g.latencies }
 
 -- the same operations and rows in other places
 pub handed_out : (rule : MemoryRule) (prios : List ℕ) (lat : Latencies) (block ops ops' : List Op) (rows rows' : List Row)

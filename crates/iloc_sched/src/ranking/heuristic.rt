@@ -1,7 +1,6 @@
 //! The priorities of a graph by each heuristic.
-ghost use Rattle.std.specs.Prelude.{◌≡◌, replicate, OnOk};
-ghost use Rattle.iloc_rules.specs.declared.heuristic.Heuristic.TheVariants.{Successors};
-ghost use Rattle.iloc_rules.specs.declared.memory_rule.MemoryRule.TheVariants.{Book};
+ghost use Rattle.std.specs.Prelude.{◌≡◌, ◌≤◌, length, replicate, OnOk};
+ghost use Rattle.iloc_rules.specs.Renaming.{IsRenamed};
 ghost use Rattle.iloc_rules.specs.Heuristics.{priorities_by_where};
 ghost use Rattle.iloc_rules.specs.Rule.{counts_by};
 ghost use Rattle.iloc_sched.specs.Steps.Edges.SoundGraph.{IsSound};
@@ -9,9 +8,9 @@ ghost use Rattle.iloc_sched.specs.Steps.Edges.SoundGraph.{IsSound};
 use crate::ranking::descendants::count_descendants;
 use crate::ranking::priority::{copy_latencies, fill_chains};
 use crate::ranking::slack::fill_through;
-use crate::ranking::successors::count_successors;
+use crate::ranking::successors::fill_successors;
 use crate::tables::Tables;
-use iloc_ops::NoMemory;
+use iloc_ops::{MAX_OPS, NoMemory};
 use iloc_rules::Heuristic;
 use std::alloc::Global;
 
@@ -33,7 +32,8 @@ pub(crate) fn fill_ranks(
     tables: &Tables,
 ) -> Result<(), NoMemory>
     requires sound { IsSound tables.now }
-    requires book { heuristic ≡ Successors → tables.now.rule ≡ Book }
+    requires renamed { IsRenamed tables.now.ops.items }
+    requires few { length tables.now.ops.items ≤ MAX_OPS }
     ensures { OnOk result (found.new.items
         ≡ priorities_by_where (counts_by tables.now.rule tables.now.ops.items) heuristic tables.now.latencies tables.now.ops.items) }
 {
@@ -41,11 +41,7 @@ pub(crate) fn fill_ranks(
         Heuristic::Chain => fill_chains(found, tables),
         Heuristic::Slack => fill_through(found, alloc, tables),
         Heuristic::Descendants => count_descendants(found, alloc, tables),
-        Heuristic::Successors => {
-            fill_zeros(found, tables.edges.op_count())?;
-            count_successors(found, tables);
-            Ok(())
-        }
+        Heuristic::Successors => fill_successors(found, alloc, tables),
         Heuristic::Latency => copy_latencies(found, tables),
         Heuristic::Order => fill_zeros(found, tables.ops.len()),
     }

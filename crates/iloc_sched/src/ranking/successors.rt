@@ -1,16 +1,20 @@
 //! How many operations wait for each directly.
-ghost use Rattle.std.specs.Prelude.{ℕ, ◌≡◌, ◌≤◌, ◌<◌, ◌+◌, ◌*◌, if◌then◌else◌, length, map, slice_index, replicate};
+ghost use Rattle.std.specs.Prelude.{ℕ, ◌≡◌, ◌≤◌, ◌<◌, ◌+◌, ◌*◌, if◌then◌else◌, length, map, slice_index, replicate, OnOk};
 ghost use Rattle.std.specs.List.{range_with_len};
-ghost use Rattle.iloc_rules.specs.Heuristics.{successors};
-ghost use Rattle.iloc_sched.specs.Steps.Edges.SoundGraph.{IsByTheBook};
+ghost use Rattle.iloc_rules.specs.Heuristics.{successors, successors_where};
+ghost use Rattle.iloc_rules.specs.Renaming.{IsRenamed};
+ghost use Rattle.iloc_rules.specs.Rule.{counts_by};
+ghost use Rattle.iloc_sched.specs.Steps.Edges.SoundGraph.{IsByTheBook, IsSound};
 ghost use Rattle.iloc_sched.specs.Steps.Ranking.Successors.{waits_by_kind, waits_by_use, adds_one};
 ghost use Rattle.iloc_sched.specs.Steps.Views.{graph_of};
 
 use crate::edges::later::Later;
+use crate::ranking::heuristic::fill_zeros;
 use crate::tables::Tables;
-use iloc_ops::MAX_OPS;
-use iloc_rules::{keeps_order, reads_stored};
+use iloc_ops::{MAX_OPS, NoMemory};
+use iloc_rules::{MemoryRule, keeps_order, reads_stored};
 use iloc_timed::Kind;
+use std::alloc::Global;
 
 /// Whether an operation of the second kind waits for each earlier one of the first.
 fn waits_by_kind(first: Kind, second: Kind) -> bool
@@ -66,4 +70,26 @@ pub(crate) fn count_successors(found: &mut Vec<u32>, tables: &Tables)
         count_uses(found, tables, j);
         later.note(kind);
     }
+}
+
+/// Fills a list with how many operations wait for each directly, by the rule of the tables.
+pub(crate) fn fill_successors(
+    found: &mut Vec<u32>,
+    alloc: Global,
+    tables: &Tables,
+) -> Result<(), NoMemory>
+    requires sound { IsSound tables.now }
+    requires renamed { IsRenamed tables.now.ops.items }
+    requires few { length tables.now.ops.items ≤ MAX_OPS }
+    ensures { OnOk result (found.new.items ≡ map (successors_where (counts_by tables.now.rule tables.now.ops.items)
+        tables.now.latencies tables.now.ops.items) (range_with_len 0 (length tables.now.ops.items))) }
+{
+    match tables.rule {
+        MemoryRule::Book => {
+            fill_zeros(found, tables.edges.op_count())?;
+            count_successors(found, tables);
+        }
+        MemoryRule::Address => *found = iloc_addresses::count_successors(alloc, &tables.ops)?,
+    }
+    Ok(())
 }

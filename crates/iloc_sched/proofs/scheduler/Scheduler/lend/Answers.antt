@@ -1,11 +1,8 @@
 use Rattle.std.proofs.Common.{ap, ◌∙◌}
 use Rattle.std.proofs.lemmas.Result.{IfOk-weaker}
 use Rattle.iloc_rules.specs.declared.memory_rule.MemoryRule.TheVariants.{Book}
-use Rattle.iloc_sched.specs.Graph.GraphOf.{GraphOf, RuledGraphOf}
+use Rattle.iloc_sched.proofs.Choice.Scheduled.{by_the_book}
 use Rattle.iloc_sched.proofs.scheduler.Scheduler.lend.Goals as goal
-
-by_the_book : GraphOf → RuledGraphOf
-by_the_book g = record { rule = Book; ops = g.ops; latencies = g.latencies }
 
 pub returns : goal.returns
 unfolding by_the_book

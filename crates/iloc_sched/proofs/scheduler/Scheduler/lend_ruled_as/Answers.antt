@@ -1,0 +1,28 @@
+use Rattle.std.proofs.Common.{ap, length, subst, sym, ◌∙◌}
+use Rattle.std.proofs.lemmas.Result.{IfOk-weaker}
+use Rattle.iloc_rules.specs.Greedy.{IsGreedyWhere}
+use Rattle.iloc_rules.specs.Rule.{counts_by, priorities_under}
+use Rattle.iloc_rules.proofs.PriorityValues.Named.{length-priorities_by_where, ruled_priorities}
+use Rattle.iloc_sched.specs.Graph.GraphOf.{RuledGraphOf}
+use Rattle.iloc_sched.proofs.Choice.Scheduled.{the_schedule}
+use Rattle.iloc_sched.proofs.scheduler.Scheduler.lend_ruled_as.Goals as goal
+
+pub lend_ruled-lent-requires : goal.lend_ruled-lent-requires
+lend_ruled-lent-requires c =
+    let g = c.args.graph.now in
+    ap length (c.deref.ensures.value ∙ c.in_ok-rank.ensures)
+    ∙ length-priorities_by_where (counts_by g.rule g.ops) c.args.heuristic g.latencies g.ops
+
+pub returns : goal.returns
+returns c =
+    let g = c.args.graph.now in
+    let heuristic = c.args.heuristic in
+    IfOk-weaker c.lend_ruled-lent.result _ _
+    (λ s lent rule lat block is.
+    let greedy = (lent rule lat block is).greedy in
+    the_schedule rule (priorities_under rule heuristic lat) lat block s
+    (subst (λ ranks. IsGreedyWhere (counts_by rule s.ops) ranks lat block s.ops s.rows)
+    (c.deref.ensures.value ∙ (c.in_ok-rank.ensures ∙ (ruled_priorities g.rule heuristic g.latencies g.ops
+    ∙ (ap (λ (v : RuledGraphOf). priorities_under v.rule heuristic v.latencies v.ops) is
+    ∙ ap (priorities_under rule heuristic lat) (sym greedy.lawful.names))))) greedy))
+    c.lend_ruled-lent.ensures
