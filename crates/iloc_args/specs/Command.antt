@@ -9,7 +9,7 @@ use Rattle.iloc_meaning.specs.Address.{LAST_ADDRESS}
 use Rattle.iloc_timed.specs.Limits.{LONGEST_LATENCY}
 use Rattle.iloc_args.specs.Flags.{flag_word}
 use Rattle.iloc_args.specs.declared.flag.Flag.{Flag}
-use Rattle.iloc_args.specs.declared.flag.Flag.TheVariants.{Csv, Json, Lawful, Operations, Outputs, EitherSlot, Where, Cycles}
+use Rattle.iloc_args.specs.declared.flag.Flag.TheVariants.{Csv, Json, Lawful, Operations, Outputs, EitherSlot, Where, Cycles, Disambiguate}
 use Rattle.iloc_args.specs.declared.request.Task.{Task}
 use Rattle.iloc_args.specs.declared.request.Task.TheVariants.{Run, Simulate, Trace, Schedule, Counts, Compare, Optimize, Explain, Check, Graph, Lint}
 
@@ -94,12 +94,12 @@ pub record Subcommand : Type 0 where
 abbrev pub run_entry : Subcommand
 run_entry = record { name = codes "run"; task = Run; rules = at_rule ∷ words_rule ∷ flag_rule Where ∷ [] }
 
--- `simulate [--at N] [WORD].. [--load N] [--store N] [--mult N] [--priority NAME]`
+-- `simulate [--at N] [WORD].. [--load N] [--store N] [--mult N] [--priority NAME] [--disambiguate]`
 abbrev pub simulate_entry : Subcommand
 simulate_entry = record {
   name = codes "simulate";
   task = Simulate;
-  rules = at_rule ∷ words_rule ∷ latency_rules ++ priority_rule ∷ [];
+  rules = at_rule ∷ words_rule ∷ latency_rules ++ priority_rule ∷ flag_rule Disambiguate ∷ [];
 }
 
 -- `trace [--at N] [WORD].. [--load N] [--store N] [--mult N] [--priority NAME] [--task FILE] [--either-slot]`
@@ -110,20 +110,20 @@ trace_entry = record {
   rules = at_rule ∷ words_rule ∷ latency_rules ++ priority_rule ∷ task_rule ∷ flag_rule EitherSlot ∷ [];
 }
 
--- `schedule [--workers N] [--load N] [--store N] [--mult N] [--priority NAME] [--priorities FILE]`
+-- `schedule [--workers N] [--load N] [--store N] [--mult N] [--priority NAME] [--priorities FILE] [--disambiguate]`
 abbrev pub schedule_entry : Subcommand
 schedule_entry = record {
   name = codes "schedule";
   task = Schedule;
-  rules = workers_rule ∷ latency_rules ++ priority_rule ∷ priorities_rule ∷ [];
+  rules = workers_rule ∷ latency_rules ++ priority_rule ∷ priorities_rule ∷ flag_rule Disambiguate ∷ [];
 }
 
--- `counts [--workers N] [--load N] [--store N] [--mult N] [--priority NAME] [--priorities FILE] [--csv]`
+-- `counts [--workers N] [--load N] [--store N] [--mult N] [--priority NAME] [--priorities FILE] [--disambiguate] [--csv]`
 abbrev pub counts_entry : Subcommand
 counts_entry = record {
   name = codes "counts";
   task = Counts;
-  rules = workers_rule ∷ latency_rules ++ priority_rule ∷ priorities_rule ∷ flag_rule Csv ∷ [];
+  rules = workers_rule ∷ latency_rules ++ priority_rule ∷ priorities_rule ∷ map flag_rule (Disambiguate ∷ Csv ∷ []);
 }
 
 -- `compare [--nodes N] [--workers N] [--load N] [--store N] [--mult N] [--priorities FILE] [--csv]`

@@ -4,7 +4,7 @@ use Rattle.std.specs.List.{position_or_len}
 use Rattle.std.specs.Str.{bytes_eq}
 use Rattle.clap.specs.Words.{Text}
 use Rattle.iloc_args.specs.declared.flag.Flag.{Flag}
-use Rattle.iloc_args.specs.declared.flag.Flag.TheVariants.{Csv, Json, Lawful, Operations, Outputs, EitherSlot, Where, Cycles}
+use Rattle.iloc_args.specs.declared.flag.Flag.TheVariants.{Csv, Json, Lawful, Operations, Outputs, EitherSlot, Where, Cycles, Disambiguate}
 use Rattle.iloc_args.specs.declared.flag.Flags.{Flags}
 
 -- the word that gives a flag
@@ -17,10 +17,11 @@ flag_word Outputs = codes "outputs"
 flag_word EitherSlot = codes "either-slot"
 flag_word Where = codes "where"
 flag_word Cycles = codes "cycles"
+flag_word Disambiguate = codes "disambiguate"
 
 -- the flags that there are
 abbrev pub every_flag : List Flag
-every_flag = Csv ∷ Json ∷ Lawful ∷ Operations ∷ Outputs ∷ EitherSlot ∷ Where ∷ Cycles ∷ []
+every_flag = Csv ∷ Json ∷ Lawful ∷ Operations ∷ Outputs ∷ EitherSlot ∷ Where ∷ Cycles ∷ Disambiguate ∷ []
 
 -- how many stand before a flag
 abbrev pub place : Flag → ℕ

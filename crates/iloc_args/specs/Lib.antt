@@ -5,4 +5,5 @@ pub mod Fault
 pub mod Flags
 pub mod Priority
 pub mod Ranking
+pub mod Rule
 pub mod Steps

@@ -261,6 +261,7 @@ const COMMANDS: [Entry; 11] = [
             STORE,
             MULT,
             Argument::Priority,
+            Argument::Flag(Flag::Disambiguate),
         ],
     },
     Entry {
@@ -291,6 +292,7 @@ const COMMANDS: [Entry; 11] = [
             MULT,
             Argument::Priority,
             PRIORITIES,
+            Argument::Flag(Flag::Disambiguate),
         ],
     },
     Entry {
@@ -305,6 +307,7 @@ const COMMANDS: [Entry; 11] = [
             MULT,
             Argument::Priority,
             PRIORITIES,
+            Argument::Flag(Flag::Disambiguate),
             Argument::Flag(Flag::Csv),
         ],
     },

@@ -25,10 +25,12 @@ pub enum Flag {
     Where,
     /// A schedule is explained cycle by cycle.
     Cycles,
+    /// Blocks are scheduled by address: loads and outputs don't wait for stores that are known to go elsewhere.
+    Disambiguate,
 }
 
 /// How many flags there are.
-const FLAG_COUNT: usize = 8;
+const FLAG_COUNT: usize = 9;
 
 /// The flags, in their order.
 const FLAGS: [Flag; FLAG_COUNT] = [
@@ -40,6 +42,7 @@ const FLAGS: [Flag; FLAG_COUNT] = [
     Flag::EitherSlot,
     Flag::Where,
     Flag::Cycles,
+    Flag::Disambiguate,
 ];
 
 impl Flag {
@@ -56,6 +59,7 @@ impl Flag {
             Flag::EitherSlot => "either-slot",
             Flag::Where => "where",
             Flag::Cycles => "cycles",
+            Flag::Disambiguate => "disambiguate",
         }
     }
 
@@ -71,6 +75,8 @@ impl Flag {
             Flag::Where => "Print which operation faults, and the address that it reaches",
             Flag::Cycles =>
                 "Print for each cycle what is ready, what is taken, and what is under way",
+            Flag::Disambiguate =>
+                "Compare addresses: loads and outputs pass stores that go elsewhere",
         }
     }
 }

@@ -7,8 +7,8 @@ ghost use Rattle.iloc_args.specs.Flags.{has};
 ghost use Rattle.iloc_args.specs.Ranking.{ranks_by_own};
 ghost use Rattle.iloc_args.specs.declared.flag.Flag.TheVariants.{Csv, Json};
 
-use crate::flag::Flags;
-use iloc_rules::Heuristic;
+use crate::flag::{Flag, Flags};
+use iloc_rules::{Heuristic, MemoryRule};
 use iloc_timed::Latencies;
 
 /// The command: what is done with each block.
@@ -70,4 +70,19 @@ pub struct Request {
     ghost ranks: { ForSome priorities_file (λ _. ranks_by_own task ≡ true) },
     ghost one_file: { is_some priorities_file && is_some task_file ≡ false },
     ghost fits: { at + 4 * length words.items ≤ 4 * WORDS },
+}
+
+impl Request {
+    ghost use Rattle.iloc_args.specs.Rule.{memory_rule};
+
+    /// Promise: the rule by which operations wait for each other by memory: by address with `--disambiguate`, else by the book.
+    pub fn memory_rule(&self) -> MemoryRule
+        ensures { result ≡ memory_rule self.now }
+    {
+        if self.flags.has(Flag::Disambiguate) {
+            MemoryRule::Address
+        } else {
+            MemoryRule::Book
+        }
+    }
 }

@@ -13,7 +13,7 @@ use Rattle.iloc_optimum.specs.Optimum.{IsOptimumOf}
 use Rattle.iloc_meaning.specs.Outcome.{outcome, shown}
 use Rattle.iloc_meaning.specs.declared.outcome.Outcome.{Outcome}
 use Rattle.iloc_timed.specs.Timed.{timed_outcome}
-use Rattle.iloc_rules.proofs.Outcome.LawfulOutcomes.{lawful_same_outcome}
+use Rattle.iloc_rules.proofs.Outcome.LawfulOutcomes.{ruled_same_outcome}
 use Rattle.iloc_args.specs.Flags.{has}
 use Rattle.iloc_args.specs.declared.flag.Flag.TheVariants.{Csv, Where}
 use Rattle.iloc_args.specs.declared.request.Request.{Request}
@@ -26,17 +26,20 @@ use Rattle.iloc_driver.specs.Command.{initial_memory}
 use Rattle.iloc_block_commands.specs.Schedule.{IsScheduleEntry}
 use Rattle.iloc_block_commands.specs.Simulate.{IsSimulateEntry}
 use Rattle.iloc_driver.specs.Priorities.{Own, own_of}
-use Rattle.iloc_listing.specs.Schedules.{IsCount, IsCountBy, IsGreedyAs, ranks}
+use Rattle.iloc_listing.specs.Schedules.{IsCount, IsCountBy, IsCountUnder, IsGreedyAs, ranks_under}
 use Rattle.iloc_driver.specs.Work.{by_own}
-use Rattle.iloc_rules.specs.Greedy.{IsGreedyBy}
-use Rattle.iloc_rules.specs.Renaming.{numbering, without_nops}
+use Rattle.iloc_rules.specs.declared.memory_rule.MemoryRule.{MemoryRule}
+use Rattle.iloc_rules.specs.declared.memory_rule.MemoryRule.TheVariants.{Book}
+use Rattle.iloc_rules.specs.Rule.{counts_by, priorities_under}
+use Rattle.iloc_rules.specs.Greedy.{IsGreedyBy, IsGreedyWhere}
+use Rattle.iloc_args.specs.Rule.{memory_rule}
+use Rattle.iloc_rules.specs.Renaming.{numbering, renamed, without_nops}
 use Rattle.iloc_rules.proofs.Renamed.MentionedSources.{length-renamed_by}
-use Rattle.iloc_sched.specs.Graph.GraphOf.{GraphOf, of_block}
 use Rattle.iloc_rules.specs.Heuristics.{priorities_by}
 use Rattle.iloc_driver.specs.Entries.{AreListed, Adds}
 use Rattle.iloc_block_commands.specs.declared.compare.ComparedCycles.{ComparedCycles}
 use Rattle.iloc_driver.proofs.Entries.{lined_listing}
-use Rattle.iloc_listing.proofs.Schedules.{the_greedy, the_greedy_by}
+use Rattle.iloc_listing.proofs.Schedules.{the_greedy_under}
 
 -- the words, or that there is a fault, are what is shown, unless the place of the fault is asked for
 pub shown_plainly : (asked : Bool) (ops : List Op) (memory : List ℤ) (came : Outcome) (words : Option (List ℤ))
@@ -56,7 +59,8 @@ module _ (request : Request) (k : ℕ) (b : Block) (text more : List ℕ) (name 
       → Adds (IsRunEntry request k b) text more tt
   run_listed words are plain added = grind (arith, shown_plainly)
 
-  module _ (s : Table) (greedy : IsGreedyAs request.priority request.latencies b.ops s) where
+  module _ (s : Table) (greedy : IsGreedyWhere (counts_by (memory_rule request) s.ops)
+      (priorities_under (memory_rule request) request.priority request.latencies s.ops) request.latencies b.ops s.ops s.rows) where
     pub simulate_listed : (words : Option (List ℤ))
         → words ≡ shown (timed_outcome request.latencies s.ops s.rows (initial_memory request))
         → more ≡ text ++ shown_entry k name words → Adds (IsSimulateEntry request k b) text more tt
@@ -64,29 +68,32 @@ module _ (request : Request) (k : ℕ) (b : Block) (text more : List ℕ) (name 
       entry = outcome_entry k b.name (timed_outcome request.latencies s.ops s.rows (initial_memory request));
       right = record {
         schedule = s;
-        greedy = the_greedy request.priority request.latencies b s greedy;
+        greedy = the_greedy_under (memory_rule request)
+            (priorities_under (memory_rule request) request.priority request.latencies) request.latencies b s greedy;
         timed = refl;
         plain = ap (outcome_entry k b.name)
-            (lawful_same_outcome request.latencies b.ops s.ops s.rows (initial_memory request) greedy.lawful);
+            (ruled_same_outcome (memory_rule request) request.latencies b.ops s.ops s.rows (initial_memory request) greedy.lawful);
       };
       added = added ∙ ap₂ (λ n w. text ++ shown_entry k n w) named are;
     }
 
 -- each operation of the graph has a number of the block's own
-pub each_ranked : (own : Option (List ℕ)) (lat : Latencies) (b : Block) (g : GraphOf) → g ≡ of_block lat b.ops
-    → IfSome own (λ numbers. length numbers ≡ length (without_nops b.ops)) → IfSome own (λ numbers. length numbers ≡ length g.ops)
-each_ranked None lat b g is each = tt
-each_ranked (Some numbers) lat b g is each =
-    each ∙ (sym (length-renamed_by (without_nops b.ops) (numbering (without_nops b.ops))) ∙ ap (λ (x : GraphOf). length x.ops) (sym is))
+pub each_ranked : (own : Option (List ℕ)) (b : Block) (ops : List Op) → ops ≡ renamed b.ops
+    → IfSome own (λ numbers. length numbers ≡ length (without_nops b.ops)) → IfSome own (λ numbers. length numbers ≡ length ops)
+each_ranked None b ops is each = tt
+each_ranked (Some numbers) b ops is each =
+    each ∙ (sym (length-renamed_by (without_nops b.ops) (numbering (without_nops b.ops))) ∙ ap length (sym is))
 
 -- what was made of the greedy schedule is the entry
 pub schedule_is : (request : Request) (own : Option (List ℕ)) (k : ℕ) (b : Block) (s : Table)
-    → IsGreedyBy (ranks request.priority request.latencies own s.ops) request.latencies b.ops s.ops s.rows
+    → IsGreedyWhere (counts_by (memory_rule request) s.ops)
+    (ranks_under (memory_rule request) request.priority request.latencies own s.ops) request.latencies b.ops s.ops s.rows
     → (entry : List ℕ) (cycles : ℕ) → entry ≡ schedule_entry request.latencies k b.name s ++ []
     → cycles ≡ cycles_of request.latencies s → IsScheduleEntry request own k b entry cycles
 schedule_is request own k b s greedy entry cycles listed counted = record {
   schedule = s;
-  greedy = the_greedy_by (ranks request.priority request.latencies own) request.latencies b s greedy;
+  greedy = the_greedy_under (memory_rule request) (ranks_under (memory_rule request) request.priority request.latencies own)
+      request.latencies b s greedy;
   listed = listed ∙ append-nil (schedule_entry request.latencies k b.name s);
   counted = counted;
 }
@@ -98,13 +105,18 @@ pub optimum_is : (lat : Latencies) (k : ℕ) (b : Block) (best : Optimum) → Is
 optimum_is lat k b best found entry cycles listed counted = grind arith
 
 -- the cycles that were found are those of the greedy schedule
-pub is_count_by : (prios : List Op → List ℕ) (lat : Latencies) (b : Block) (s : Table)
-    → IsGreedyBy (prios s.ops) lat b.ops s.ops s.rows → (cycles : ℕ) → cycles ≡ cycles_of lat s → IsCountBy prios lat b cycles
-is_count_by prios lat b s greedy cycles counted = record {
+pub is_count_under : (rule : MemoryRule) (prios : List Op → List ℕ) (lat : Latencies) (b : Block) (s : Table)
+    → IsGreedyWhere (counts_by rule s.ops) (prios s.ops) lat b.ops s.ops s.rows → (cycles : ℕ) → cycles ≡ cycles_of lat s
+    → IsCountUnder rule prios lat b cycles
+is_count_under rule prios lat b s greedy cycles counted = record {
   schedule = s;
-  greedy = the_greedy_by prios lat b s greedy;
+  greedy = the_greedy_under rule prios lat b s greedy;
   counted = counted;
 }
+
+pub is_count_by : (prios : List Op → List ℕ) (lat : Latencies) (b : Block) (s : Table)
+    → IsGreedyBy (prios s.ops) lat b.ops s.ops s.rows → (cycles : ℕ) → cycles ≡ cycles_of lat s → IsCountBy prios lat b cycles
+is_count_by prios lat b s greedy cycles counted = is_count_under Book prios lat b s greedy cycles counted
 
 pub is_count : (heuristic : Heuristic) (lat : Latencies) (b : Block) (s : Table) → IsGreedyAs heuristic lat b.ops s
     → (cycles : ℕ) → cycles ≡ cycles_of lat s → IsCount heuristic lat b cycles
@@ -122,14 +134,15 @@ gone_over entry opening text i blocks blocks' found all same so_far =
 
 -- the listing of the cycles that were found
 pub counted_listing : (request : Request) (own : Own) (blocks : List Block) (found : List ℕ) (text : List ℕ)
-    → AreListed (by_own (λ own k b c. IsCountBy (ranks request.priority request.latencies own) request.latencies b c) own) blocks
-    found
+    → AreListed (by_own (λ own k b c. IsCountUnder (memory_rule request)
+    (ranks_under (memory_rule request) request.priority request.latencies own) request.latencies b c) own) blocks found
     → text ≡ (opening_as (has request.flags Csv) count_header ++ entries (count_line (has request.flags Csv)) 1 blocks found)
     ++ count_ending (has request.flags Csv) found
     → IsCountListing request own blocks text
 counted_listing request own blocks found text are whole =
     lined_listing (λ k. IsCountEntry request (own_of own k) k)
-    (λ k. IsCountBy (ranks request.priority request.latencies (own_of own k)) request.latencies) (count_line (has request.flags Csv))
+    (λ k. IsCountUnder (memory_rule request)
+    (ranks_under (memory_rule request) request.priority request.latencies (own_of own k)) request.latencies) (count_line (has request.flags Csv))
     (λ k b c count. record {
       schedule = count.schedule;
       greedy = count.greedy;

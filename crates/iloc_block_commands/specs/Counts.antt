@@ -5,18 +5,20 @@ use Rattle.iloc_timed.specs.Schedule.{Table}
 use Rattle.iloc_args.specs.Flags.{has}
 use Rattle.iloc_args.specs.declared.flag.Flag.TheVariants.{Csv}
 use Rattle.iloc_args.specs.declared.request.Request.{Request}
+use Rattle.iloc_args.specs.Rule.{memory_rule}
 use Rattle.iloc_driver.specs.Entries.{IsListingAfter}
 use Rattle.iloc_listing.specs.Listing.{count_line, cycles_of, entries, opening_as, total_of_all}
-use Rattle.iloc_listing.specs.Schedules.{IsCountBy, IsTheGreedyBy, ranks}
+use Rattle.iloc_listing.specs.Schedules.{IsCountUnder, IsTheGreedyUnder, ranks_under}
 use Rattle.iloc_driver.specs.Command.{Command, shared_by}
 use Rattle.iloc_driver.specs.Priorities.{Own, own_of}
 
--- the entry of block k: the cycles of its schedule, greedy by its own priorities if it has some or else as the request ranks,
--- which are found
+-- the entry of block k: the cycles of its schedule by the request's rule of memory, greedy by its own priorities if it has some
+-- or else as the request ranks, which are found
 pub record IsCountEntry (request : Request) (own : Option (List ℕ)) (k : ℕ) (b : Block) (entry : List ℕ) (cycles : ℕ)
     : Type 0 where
   pub schedule : Table
-  pub greedy : IsTheGreedyBy (ranks request.priority request.latencies own) request.latencies b schedule
+  pub greedy : IsTheGreedyUnder (memory_rule request) (ranks_under (memory_rule request) request.priority request.latencies own)
+      request.latencies b schedule
   pub listed : entry ≡ count_line (has request.flags Csv) k b.name (cycles_of request.latencies schedule)
   pub counted : cycles ≡ cycles_of request.latencies schedule
 
@@ -43,5 +45,6 @@ listing_of_counts csv blocks cycles =
 -- workers hand back the cycles
 abbrev pub counts_command : Command
 counts_command =
-    shared_by (λ request own k b c. IsCountBy (ranks request.priority request.latencies own) request.latencies b c) (λ c. c)
+    shared_by (λ request own k b c. IsCountUnder (memory_rule request)
+    (ranks_under (memory_rule request) request.priority request.latencies own) request.latencies b c) (λ c. c)
     (λ request. listing_of_counts (has request.flags Csv)) IsCountListing

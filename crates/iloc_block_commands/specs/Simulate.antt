@@ -4,17 +4,20 @@ use Rattle.iloc_ops.specs.declared.file.Block.{Block}
 use Rattle.iloc_meaning.specs.Outcome.{outcome}
 use Rattle.iloc_timed.specs.Schedule.{Table}
 use Rattle.iloc_timed.specs.Timed.{timed_outcome}
+use Rattle.iloc_rules.specs.Rule.{priorities_under}
 use Rattle.iloc_args.specs.declared.request.Request.{Request}
+use Rattle.iloc_args.specs.Rule.{memory_rule}
 use Rattle.iloc_driver.specs.Command.{initial_memory, Command, of_files}
 use Rattle.iloc_driver.specs.Entries.{no_ending, IsListingOf}
 use Rattle.iloc_listing.specs.Listing.{outcome_entry}
-use Rattle.iloc_listing.specs.Schedules.{IsTheGreedy}
+use Rattle.iloc_listing.specs.Schedules.{IsTheGreedyUnder}
 
--- The entry of block k: its number and its name, and what its greedy schedule emits on the request's memory, or that it
--- faults. It is what the block itself emits, or that it faults.
+-- The entry of block k: its number and its name, and what its greedy schedule by the request's rule of memory emits on
+-- the request's memory, or that it faults. It is what the block itself emits, or that it faults.
 pub record IsSimulateEntry (request : Request) (k : ℕ) (b : Block) (entry : List ℕ) (found : Unit {0}) : Type 0 where
   pub schedule : Table
-  pub greedy : IsTheGreedy request.priority request.latencies b schedule
+  pub greedy : IsTheGreedyUnder (memory_rule request) (priorities_under (memory_rule request) request.priority request.latencies)
+      request.latencies b schedule
   pub timed : entry ≡ outcome_entry k b.name
       (timed_outcome request.latencies schedule.ops schedule.rows (initial_memory request))
   pub plain : entry ≡ outcome_entry k b.name (outcome b.ops (initial_memory request))

@@ -8,7 +8,7 @@ use iloc_args::{Flag, Request};
 use iloc_driver::FarmedLister;
 use iloc_listing::{Listing, count_of, push_count, push_opening, push_total_of};
 use iloc_ops::{Block, Blocks, NoMemory};
-use iloc_sched::{Graph, Scheduler};
+use iloc_sched::{RuledGraph, Scheduler};
 use std::alloc::Global;
 
 /// What a table begins with.
@@ -28,7 +28,7 @@ fn push_ending(text: &mut Vec<u8>, csv: bool, cycles: &[u32]) -> Result<(), NoMe
 /// Schedules each block, and answers how many cycles its schedule takes.
 #[derive(Drop)]
 pub struct CountLister {
-    graph: Graph,
+    graph: RuledGraph,
     scheduler: Scheduler,
 }
 
@@ -38,13 +38,15 @@ impl FarmedLister for CountLister {
     ghost use Rattle.iloc_block_commands.specs.Counts.{IsCountListing, listing_of_counts};
     ghost use Rattle.iloc_driver.specs.Entries.{AreListed};
     ghost use Rattle.iloc_driver.specs.Priorities.{Own};
-    ghost use Rattle.iloc_listing.specs.Schedules.{IsCountBy, ranks};
+    ghost use Rattle.iloc_args.specs.Rule.{memory_rule};
+    ghost use Rattle.iloc_listing.specs.Schedules.{IsCountUnder, ranks_under};
     ghost use Rattle.iloc_driver.specs.Work.{by_own};
 
     type Answer = u32;
 
     ghost answers = { λ request own _ block cycles.
-        IsCountBy (ranks request.priority request.latencies own) request.latencies block cycles };
+        IsCountUnder (memory_rule request) (ranks_under (memory_rule request) request.priority request.latencies own)
+        request.latencies block cycles };
 
     ghost cycles_in = { λ cycles. cycles };
 
@@ -54,7 +56,7 @@ impl FarmedLister for CountLister {
 
     fn new(alloc: Global) -> CountLister {
         CountLister {
-            graph: Graph::new(alloc),
+            graph: RuledGraph::new(alloc),
             scheduler: Scheduler::new(alloc),
         }
     }
@@ -67,7 +69,8 @@ impl FarmedLister for CountLister {
         _number: usize,
         block: &Block,
     ) -> Result<u32, NoMemory> {
-        self.graph.refill(block, &request.latencies)?;
+        self.graph
+            .refill(request.memory_rule(), block, &request.latencies)?;
         let schedule = lend(&mut self.scheduler, &self.graph, own, request.priority)?;
         let cycles = count_of(&schedule, &request.latencies);
         self.scheduler.take_back(schedule);
@@ -88,7 +91,8 @@ impl FarmedLister for CountLister {
         requires many { length cycles.items ≡ length blocks }
         ensures made { IfOk result (λ text. text ≡ listing_of_counts (has request.now.flags Csv) blocks cycles.items) }
         ensures right { IfOk result (λ text. (own : Own)
-            → AreListed (by_own (λ own _ block count. IsCountBy (ranks request.now.priority request.now.latencies own)
+            → AreListed (by_own (λ own _ block count. IsCountUnder (memory_rule request.now)
+            (ranks_under (memory_rule request.now) request.now.priority request.now.latencies own)
             request.now.latencies block count) own) blocks cycles.items → IsCountListing request.now own blocks text) }
     {
         let csv = request.flags.has(Flag::Csv);

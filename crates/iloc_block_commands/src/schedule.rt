@@ -3,40 +3,43 @@ ghost use Rattle.std.specs.Prelude.{◌≡◌, ◌≤◌, List, length, option_c
 ghost use Rattle.iloc_ops.specs.Limits.{MAX_BLOCKS};
 ghost use Rattle.iloc_ops.specs.declared.op.Op.{Op};
 ghost use Rattle.iloc_timed.specs.declared.latencies.Latencies.{Latencies as latencies_value};
-ghost use Rattle.iloc_sched.specs.Graph.GraphOf.{of_block};
-ghost use Rattle.iloc_sched.specs.Scheduled.{IsTheSchedule};
-ghost use Rattle.iloc_listing.specs.Schedules.{ranks};
+ghost use Rattle.iloc_rules.specs.declared.memory_rule.MemoryRule.{MemoryRule as rule_value};
+ghost use Rattle.iloc_sched.specs.Graph.GraphOf.{of_block_by};
+ghost use Rattle.iloc_sched.specs.Scheduled.{IsTheScheduleBy};
+ghost use Rattle.iloc_listing.specs.Schedules.{ranks_under};
 
 use iloc_args::Request;
 use iloc_driver::FarmedLister;
 use iloc_listing::{EntryMaker, Listing, ScheduleEntry, with_total};
 use iloc_ops::{Block, Blocks, NoMemory};
 use iloc_rules::Heuristic;
-use iloc_sched::{Graph, Scheduler};
+use iloc_sched::{RuledGraph, Scheduler};
 use iloc_timed::Schedule;
 use std::alloc::Global;
 
-/// The schedule of this graph's block that is greedy by these numbers, if it has some of its own, or else by this heuristic.
+/// The schedule of this graph's block by its rule of memory that is greedy by these numbers, if it has some of its own, or else
+/// by this heuristic.
 pub(crate) fn lend(
     scheduler: &mut Scheduler,
-    graph: &Graph,
+    graph: &RuledGraph,
     own: Option<&[u32]>,
     heuristic: Heuristic,
 ) -> Result<Schedule, NoMemory>
     requires { IfSome (option_copied own) (λ numbers. length numbers ≡ length graph.now.ops) }
-    ensures { IfOk result (λ s. (lat : latencies_value) (block : List Op) → graph.now ≡ of_block lat block
-        → IsTheSchedule (ranks heuristic lat (option_copied own.entry)) lat block s) }
+    ensures { IfOk result (λ s. (rule : rule_value) (lat : latencies_value) (block : List Op)
+        → graph.now ≡ of_block_by rule lat block
+        → IsTheScheduleBy rule (ranks_under rule heuristic lat (option_copied own.entry)) lat block s) }
 {
     match own {
-        Some(numbers) => scheduler.lend(graph, numbers),
-        None => scheduler.lend_as(graph, heuristic),
+        Some(numbers) => scheduler.lend_ruled(graph, numbers),
+        None => scheduler.lend_ruled_as(graph, heuristic),
     }
 }
 
 /// Schedules each block, and lists its schedule.
 #[derive(Drop)]
 pub struct ScheduleLister {
-    graph: Graph,
+    graph: RuledGraph,
     scheduler: Scheduler,
     entries: EntryMaker,
 }
@@ -60,7 +63,7 @@ impl FarmedLister for ScheduleLister {
 
     fn new(alloc: Global) -> ScheduleLister {
         ScheduleLister {
-            graph: Graph::new(alloc),
+            graph: RuledGraph::new(alloc),
             scheduler: Scheduler::new(alloc),
             entries: EntryMaker::new(alloc),
         }
@@ -75,7 +78,7 @@ impl FarmedLister for ScheduleLister {
         block: &Block,
     ) -> Result<ScheduleEntry, NoMemory> {
         let latencies = &request.latencies;
-        self.graph.refill(block, latencies)?;
+        self.graph.refill(request.memory_rule(), block, latencies)?;
         let schedule = lend(&mut self.scheduler, &self.graph, own, request.priority)?;
         let entry = self
             .entries

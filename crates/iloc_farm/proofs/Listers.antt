@@ -1,7 +1,7 @@
 -- Requests that ask alike list one text.
 use Rattle.std.proofs.Common.{◌≡◌, ℕ, Bool, true, false, ◌&&◌, List, ◌++◌, Option, Some, None, is_none, refl, sym, ap, ap₂, ◌∙◌, arith}
 use Rattle.std.proofs.Math.Path.{transport}
-use Rattle.std.specs.Prelude.{codes, is_some}
+use Rattle.std.specs.Prelude.{codes, if◌then◌else◌, is_some}
 use Rattle.iloc_ops.specs.declared.file.Block.{Block}
 use Rattle.iloc_ops.specs.declared.op.Op.{Op}
 use Rattle.iloc_timed.specs.Schedule.{Table}
@@ -12,7 +12,7 @@ use Rattle.iloc_graph.proofs.OneText.{one_cluster}
 use Rattle.iloc_meaning.specs.Memory.{words_from}
 use Rattle.iloc_meaning.specs.Outcome.{outcome, shown}
 use Rattle.iloc_args.specs.Flags.{has}
-use Rattle.iloc_args.specs.declared.flag.Flag.TheVariants.{Csv, Cycles, Where}
+use Rattle.iloc_args.specs.declared.flag.Flag.TheVariants.{Csv, Cycles, Disambiguate, Where}
 use Rattle.iloc_args.specs.declared.request.Request.{Request}
 use Rattle.iloc_args.specs.declared.request.Task.{Task}
 use Rattle.iloc_args.specs.declared.request.Task.TheVariants as task
@@ -28,11 +28,15 @@ use Rattle.iloc_block_commands.specs.Simulate.{IsSimulateEntry}
 use Rattle.iloc_view_commands.specs.Trace.{IsTraceEntry}
 use Rattle.iloc_farm.specs.Commands.{command_of}
 use Rattle.iloc_farm.specs.Laws.{AskAlike, SimulatingListsRuns, searches}
-use Rattle.iloc_listing.specs.Listing.{block_head, cycles_of, opening_as, outcome_entry, total_of_all, words_or_fault}
+use Rattle.iloc_listing.specs.Listing.{block_head, count_line, cycles_of, opening_as, outcome_entry, schedule_entry, total_of_all, words_or_fault}
 use Rattle.iloc_driver.specs.Run.{IsListingFor}
 use Rattle.iloc_driver.specs.Priorities.{Own, own_of}
-use Rattle.iloc_listing.specs.Schedules.{IsTheGreedy, IsTheGreedyBy, ranks}
-use Rattle.iloc_rules.specs.Greedy.{IsGreedyBy}
+use Rattle.iloc_listing.specs.Schedules.{IsTheGreedy, IsTheGreedyBy, IsTheGreedyUnder, ranks, ranks_under}
+use Rattle.iloc_rules.specs.declared.memory_rule.MemoryRule.{MemoryRule}
+use Rattle.iloc_rules.specs.declared.memory_rule.MemoryRule.TheVariants.{Book, Address}
+use Rattle.iloc_rules.specs.Rule.{counts_by}
+use Rattle.iloc_rules.specs.Greedy.{IsGreedyWhere}
+use Rattle.iloc_args.specs.Rule.{memory_rule}
 use Rattle.iloc_block_commands.specs.declared.compare.ComparedCycles.{ComparedCycles}
 use Rattle.iloc_block_commands.proofs.Comparisons.{one_comparison}
 use Rattle.iloc_driver.proofs.Entries.{listing_also, one_listing, one_listing_after}
@@ -62,13 +66,21 @@ module _ (r q : Request) (alike : AskAlike r q) (k : ℕ) (b : Block) where
       → s ≡ s'
   same_schedule s s' is is' = grind (arith, transport)
 
-  -- also by numbers of the block's own
+  -- also by a rule of memory, and by numbers of the block's own
+  same_ruled : (rule rule' : MemoryRule) → rule ≡ rule' → (own : Option (List ℕ)) (s s' : Table)
+      → IsTheGreedyUnder rule (ranks_under rule r.priority r.latencies own) r.latencies b s
+      → IsTheGreedyUnder rule' (ranks_under rule' q.priority q.latencies own) q.latencies b s' → s ≡ s'
+  same_ruled rule rule' same own s s' is is' =
+      is'.only s (transport (λ i. IsGreedyWhere (counts_by (same i) s.ops)
+      (ranks_under (same i) (alike.priority i) (alike.latencies i) own s.ops) (alike.latencies i) b.ops s.ops s.rows) is.greedy)
+
   same_ranked : (own : Option (List ℕ)) (s s' : Table)
       → IsTheGreedyBy (ranks r.priority r.latencies own) r.latencies b s
       → IsTheGreedyBy (ranks q.priority q.latencies own) q.latencies b s' → s ≡ s'
-  same_ranked own s s' is is' =
-      is'.only s (transport (λ i. IsGreedyBy (ranks (alike.priority i) (alike.latencies i) own s.ops) (alike.latencies i) b.ops
-      s.ops s.rows) is.greedy)
+  same_ranked own s s' is is' = same_ruled Book Book refl own s s' is is'
+
+  rule_same : memory_rule r ≡ memory_rule q
+  rule_same = λ i. if has (alike.flags i) Disambiguate then Address else Book
 
   cycles_same : (s s' : Table) (c c' : ℕ) → s ≡ s' → c ≡ cycles_of r.latencies s → c' ≡ cycles_of q.latencies s' → c ≡ c'
   cycles_same s s' c c' same is is' =
@@ -76,11 +88,23 @@ module _ (r q : Request) (alike : AskAlike r q) (k : ℕ) (b : Block) where
 
   schedule_same : (own : Option (List ℕ)) (e e' : List ℕ) (c c' : ℕ) → IsScheduleEntry r own k b e c
       → IsScheduleEntry q own k b e' c' → (e ≡ e') × (c ≡ c')
-  schedule_same own e e' c c' is is' = grind (arith, cycles_same, same_ranked)
+  schedule_same own e e' c c' is is' =
+      let same : is.schedule ≡ is'.schedule =
+      same_ruled (memory_rule r) (memory_rule q) rule_same own is.schedule is'.schedule is.greedy is'.greedy in (
+        is.listed ∙ (ap₂ (λ lat s. schedule_entry lat k b.name s) alike.latencies same ∙ sym is'.listed),
+        cycles_same is.schedule is'.schedule c c' same is.counted is'.counted,
+      )
 
   count_same : (own : Option (List ℕ)) (e e' : List ℕ) (c c' : ℕ) → IsCountEntry r own k b e c → IsCountEntry q own k b e' c'
       → (e ≡ e') × (c ≡ c')
-  count_same own e e' c c' is is' = grind (arith, cycles_same, same_ranked)
+  count_same own e e' c c' is is' =
+      let same : is.schedule ≡ is'.schedule =
+      same_ruled (memory_rule r) (memory_rule q) rule_same own is.schedule is'.schedule is.greedy is'.greedy in
+      let as_many : cycles_of r.latencies is.schedule ≡ cycles_of q.latencies is'.schedule =
+      cycles_same is.schedule is'.schedule _ _ same refl refl in (
+        is.listed ∙ (ap₂ (λ flags n. count_line (has flags Csv) k b.name n) alike.flags as_many ∙ sym is'.listed),
+        is.counted ∙ (as_many ∙ sym is'.counted),
+      )
 
   compare_same : (own : Option (List ℕ)) → r.nodes ≡ None → (e e' : List ℕ) (c c' : ComparedCycles) → IsCompareEntry r own k b e c
       → IsCompareEntry q own k b e' c' → (e ≡ e') × (c ≡ c')

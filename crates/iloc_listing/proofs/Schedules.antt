@@ -1,5 +1,5 @@
 -- The greedy schedules of a file's blocks: there is one list of them, they keep the outcomes, and their cycles are few.
-use Rattle.std.proofs.Common.{◌≡◌, ℕ, suc, ◌+◌, ◌*◌, ◌^◌, ◌<◌, ◌≤◌, List, [], ◌∷◌, length, sum_by, Some, refl, arith}
+use Rattle.std.proofs.Common.{◌≡◌, ℕ, suc, ◌+◌, ◌*◌, ◌^◌, ◌<◌, ◌≤◌, List, [], ◌∷◌, length, sum_by, Some, refl, sym, subst, ◌∙◌, arith}
 use Rattle.std.specs.Prelude.{slice_get}
 use Rattle.std.specs.List.{AllByRecursion}
 use Rattle.std.proofs.lemmas.List.Sums.{sum_by-cons, length-filter, count_by-le-length}
@@ -16,7 +16,10 @@ use Rattle.iloc_timed.specs.Schedule.{Table}
 use Rattle.iloc_timed.proofs.WholeRuns.{short_latency}
 use Rattle.iloc_rules.specs.declared.delay_pairs.TheConstants.{LONGEST_DELAY}
 use Rattle.iloc_rules.specs.declared.heuristic.Heuristic.{Heuristic}
-use Rattle.iloc_rules.specs.Greedy.{IsGreedy, IsGreedyBy}
+use Rattle.iloc_rules.specs.declared.memory_rule.MemoryRule.{MemoryRule}
+use Rattle.iloc_rules.specs.declared.memory_rule.MemoryRule.TheVariants.{Book}
+use Rattle.iloc_rules.specs.Rule.{counts_by}
+use Rattle.iloc_rules.specs.Greedy.{IsGreedy, IsGreedyBy, IsGreedyWhere}
 use Rattle.iloc_rules.specs.Heuristics.{priorities_by}
 use Rattle.iloc_rules.specs.Priority.{priorities}
 use Rattle.iloc_rules.proofs.Renamed.MentionedSources.{length-renamed_by}
@@ -25,10 +28,10 @@ use Rattle.iloc_rules.proofs.Basics.IssueCycles.{issue_cycle_within}
 use Rattle.iloc_rules.proofs.Basics.Maxima.{fold_max_reached}
 use Rattle.iloc_rules.proofs.Basics.Members.{from_map}
 use Rattle.iloc_rules.proofs.Bounds.BusyCycles.{busy_bound_by}
-use Rattle.iloc_rules.proofs.Choice.OneGreedy.{greedy_same_as}
+use Rattle.iloc_rules.proofs.Choice.OneGreedy.{greedy_same_as, greedy_same_where}
 use Rattle.iloc_rules.proofs.Outcome.LawfulOutcomes.{lawful_same_outcome}
 use Rattle.iloc_listing.specs.Listing.{cycles_of, total_cycles}
-use Rattle.iloc_listing.specs.Schedules.{AreGreedyAs, IsGreedyAs, IsScheduleOf, IsTheGreedy, IsTheGreedyBy, KeepOutcomes}
+use Rattle.iloc_listing.specs.Schedules.{AreGreedyAs, IsGreedyAs, IsScheduleOf, IsTheGreedy, IsTheGreedyBy, IsTheGreedyUnder, KeepOutcomes}
 use Rattle.iloc_listing.specs.Limits.{most_cycles}
 
 -- One list
@@ -48,15 +51,22 @@ one_schedule heuristic lat block s t greedy other =
     greedy_same_as (priorities_by heuristic lat) lat block t.ops s.ops t.rows s.rows other greedy in
     table_same t s same.0 same.1
 
--- so the schedule that was found is it, by whatever priorities
-pub the_greedy_by : (prios : List Op → List ℕ) (lat : Latencies) (b : Block) (s : Table)
-    → IsGreedyBy (prios s.ops) lat b.ops s.ops s.rows → IsTheGreedyBy prios lat b s
-the_greedy_by prios lat b s greedy = record {
+-- so the schedule that was found is it, by whatever rule of memory and priorities
+pub the_greedy_under : (rule : MemoryRule) (prios : List Op → List ℕ) (lat : Latencies) (b : Block) (s : Table)
+    → IsGreedyWhere (counts_by rule s.ops) (prios s.ops) lat b.ops s.ops s.rows → IsTheGreedyUnder rule prios lat b s
+the_greedy_under rule prios lat b s greedy = record {
   greedy = greedy;
   only = λ t other.
-      let same : (t.ops ≡ s.ops) × (t.rows ≡ s.rows) = greedy_same_as prios lat b.ops t.ops s.ops t.rows s.rows other greedy in
+      let names : t.ops ≡ s.ops = other.lawful.names ∙ sym greedy.lawful.names in
+      let same : (t.ops ≡ s.ops) × (t.rows ≡ s.rows) =
+      greedy_same_where (counts_by rule s.ops) (prios s.ops) lat b.ops t.ops s.ops t.rows s.rows
+      (subst (λ xs. IsGreedyWhere (counts_by rule xs) (prios xs) lat b.ops t.ops t.rows) names other) greedy in
       table_same t s same.0 same.1;
 }
+
+pub the_greedy_by : (prios : List Op → List ℕ) (lat : Latencies) (b : Block) (s : Table)
+    → IsGreedyBy (prios s.ops) lat b.ops s.ops s.rows → IsTheGreedyBy prios lat b s
+the_greedy_by prios lat b s greedy = the_greedy_under Book prios lat b s greedy
 
 pub the_greedy : (heuristic : Heuristic) (lat : Latencies) (b : Block) (s : Table) → IsGreedyAs heuristic lat b.ops s
     → IsTheGreedy heuristic lat b s

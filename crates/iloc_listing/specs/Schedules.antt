@@ -8,7 +8,10 @@ use Rattle.iloc_timed.specs.declared.latencies.Latencies.{Latencies}
 use Rattle.iloc_timed.specs.Schedule.{Table}
 use Rattle.iloc_timed.specs.Timed.{timed_outcome}
 use Rattle.iloc_rules.specs.declared.heuristic.Heuristic.{Heuristic}
-use Rattle.iloc_rules.specs.Greedy.{IsGreedyBy}
+use Rattle.iloc_rules.specs.declared.memory_rule.MemoryRule.{MemoryRule}
+use Rattle.iloc_rules.specs.declared.memory_rule.MemoryRule.TheVariants.{Book}
+use Rattle.iloc_rules.specs.Greedy.{IsGreedyBy, IsGreedyWhere}
+use Rattle.iloc_rules.specs.Rule.{counts_by, priorities_under}
 use Rattle.iloc_rules.specs.Heuristics.{priorities_by}
 use Rattle.iloc_listing.specs.Listing.{cycles_of}
 
@@ -28,25 +31,40 @@ AreGreedyAs heuristic lat (b ∷ blocks) (s ∷ schedules) =
 abbrev pub IsScheduleOf : Heuristic → Latencies → List Block → ℕ → Table → Type 0
 IsScheduleOf heuristic lat blocks i s = IfSome (slice_get blocks i) (λ (b : Block). IsGreedyAs heuristic lat b.ops s)
 
--- the schedule is that of the block, greedy by these priorities of its renamed operations, and there is no other
-pub record IsTheGreedyBy (prios : List Op → List ℕ) (lat : Latencies) (b : Block) (s : Table) : Type 0 where
-  pub greedy : IsGreedyBy (prios s.ops) lat b.ops s.ops s.rows
-  pub only : (t : Table) → IsGreedyBy (prios t.ops) lat b.ops t.ops t.rows → t ≡ s
+-- the schedule is that of the block, greedy by this rule of memory and these priorities of its renamed operations, and there
+-- is no other
+pub record IsTheGreedyUnder (rule : MemoryRule) (prios : List Op → List ℕ) (lat : Latencies) (b : Block) (s : Table)
+    : Type 0 where
+  pub greedy : IsGreedyWhere (counts_by rule s.ops) (prios s.ops) lat b.ops s.ops s.rows
+  pub only : (t : Table) → IsGreedyWhere (counts_by rule t.ops) (prios t.ops) lat b.ops t.ops t.rows → t ≡ s
+
+-- the same by the book
+abbrev pub IsTheGreedyBy : (List Op → List ℕ) → Latencies → Block → Table → Type 0
+IsTheGreedyBy = IsTheGreedyUnder Book
 
 -- by those of this heuristic
 abbrev pub IsTheGreedy : Heuristic → Latencies → Block → Table → Type 0
 IsTheGreedy heuristic lat b s = IsTheGreedyBy (priorities_by heuristic lat) lat b s
 
 -- what ranks a block's renamed operations: numbers of its own if there are some, else this heuristic
-abbrev pub ranks : Heuristic → Latencies → Option (List ℕ) → List Op → List ℕ
-ranks heuristic lat None ops = priorities_by heuristic lat ops
-ranks heuristic lat (Some numbers) ops = numbers
+abbrev pub ranks_under : MemoryRule → Heuristic → Latencies → Option (List ℕ) → List Op → List ℕ
+ranks_under rule heuristic lat None ops = priorities_under rule heuristic lat ops
+ranks_under rule heuristic lat (Some numbers) ops = numbers
 
--- these are the cycles of the block's schedule that is greedy by these priorities
-pub record IsCountBy (prios : List Op → List ℕ) (lat : Latencies) (b : Block) (cycles : ℕ) : Type 0 where
+-- the same by the book
+abbrev pub ranks : Heuristic → Latencies → Option (List ℕ) → List Op → List ℕ
+ranks = ranks_under Book
+
+-- these are the cycles of the block's schedule that is greedy by this rule of memory and these priorities
+pub record IsCountUnder (rule : MemoryRule) (prios : List Op → List ℕ) (lat : Latencies) (b : Block) (cycles : ℕ)
+    : Type 0 where
   pub schedule : Table
-  pub greedy : IsTheGreedyBy prios lat b schedule
+  pub greedy : IsTheGreedyUnder rule prios lat b schedule
   pub counted : cycles ≡ cycles_of lat schedule
+
+-- the same by the book
+abbrev pub IsCountBy : (List Op → List ℕ) → Latencies → Block → ℕ → Type 0
+IsCountBy = IsCountUnder Book
 
 -- by those of this heuristic
 abbrev pub IsCount : Heuristic → Latencies → Block → ℕ → Type 0

@@ -14,8 +14,7 @@ seek_if-requires c = ap (λ (g : GraphOf). g.ops) c.in_ok-refill.ensures.graph
 
 pub own_count-requires : goal.own_count-requires
 own_count-requires c =
-    each_ranked (option_copied c.args.own) c.args.request.now.latencies c.args.block.now _ c.in_ok-refill.ensures.graph
-    c.requires.each
+    each_ranked (option_copied c.args.own) c.args.block.now _ (ap (λ (g : GraphOf). g.ops) c.in_ok-refill.ensures.graph) c.requires.each
 
 pub overflow_cast-result : goal.overflow_cast-result
 overflow_cast-result c =
