@@ -1,6 +1,6 @@
 -- How early operations are issued at least, by their tails; for `laws::least_bounds_the_cycles`.
 use Rattle.std.proofs.Common.{◌≡◌, ◌∙◌, ℕ, ◌+◌, ◌-◌, ◌*◌, ◌<◌, ◌≤◌, ◌/◌, max, zero, suc, Bool, true, cond, ◌&&◌, List, [], ◌∷◌, ◌++◌, length, map, filter, refl, ap, add-one, inl, inr, arith}
-use Rattle.std.specs.Prelude.{count_by, nat_le, nat_lt, slice_index, fold}
+use Rattle.std.specs.Prelude.{count_by, nat_le, slice_index, fold}
 use Rattle.std.specs.List.{range_with_len}
 use Rattle.std.proofs.Math.Nat.{mul-suc, mul-div-le, mul-le-mul_left}
 use Rattle.std.proofs.lemmas.Bool.{and_parts, cases_lt, and_from}
@@ -25,6 +25,7 @@ use Rattle.iloc_rules.proofs.Basics.Maxima.{fold_max_reached}
 use Rattle.iloc_rules.proofs.Basics.Slots.{numbers_before, early_issued, issued_early, count_by-cons, count_some}
 use Rattle.iloc_rules.proofs.DelayPairs.DelayBounds.{in_when, short_delay}
 use Rattle.iloc_rules.proofs.PriorityValues.Longest.{Reached, from_reaches, outer_pair}
+use Rattle.iloc_bound.specs.Shares.{between, Crowd}
 use Rattle.iloc_bound.proofs.Counting.{count-append, count-never, count-mono, among, in_among, among-short, at_least, is_at_least}
 use Rattle.iloc_bound.proofs.RowsHold.{Holds, is_kind}
 
@@ -37,19 +38,11 @@ rows_hold : (width m room : ℕ) → 0 < width → 0 < m → m ≤ width * room 
 rows_hold width m zero some any few = absurd (omega arith)
 rows_hold width m (suc r) some any few = grind (arith, add-one, cases_lt, mul-div-le, mul-le-mul_left, mul-suc)
 
--- whether x is a cycle from a to before c
-abbrev pub between : ℕ → ℕ → ℕ → Bool
-between a c x = nat_le a x && nat_lt x c
-
 is_between : (a c x : ℕ) → between a c x ≡ true → (a ≤ x) × (x < c)
 is_between a c x h = grind (arith, and_parts, at_least, nat_tests)
 
-in_between : (a c x : ℕ) → a ≤ x → x < c → between a c x ≡ true
+pub in_between : (a c x : ℕ) → a ≤ x → x < c → between a c x ≡ true
 in_between a c x low high = grind (arith, and_from, nat_tests)
-
--- of the operations that pass a test a cycle holds so many
-abbrev pub Crowd : ℕ → (ℕ → Bool) → ℕ → (ℕ → ℕ) → Type 0
-Crowd width p n t = (a c : ℕ) → count_by (λ i. p i && between a c (t i)) (range_with_len 0 n) ≤ width * (c - a)
 
 -- Those that are issued in cycle a or later need no more than the cycles, all counted from cycle z.
 pub key : (width : ℕ) (p q : ℕ → Bool) (n : ℕ) (t f : ℕ → ℕ) (z a limit : ℕ) (xs : List ℕ) → 0 < width → Crowd width p n t
