@@ -1,17 +1,8 @@
 -- How many numbers pass a test; for `laws::least_bounds_the_cycles`.
-use Rattle.std.proofs.Common.{◌≡◌, ◌∙◌, ℕ, ◌+◌, ◌<◌, ◌≤◌, ◌/◌, zero, suc, Bool, true, false, cond, ◌&&◌, ◌||◌, ◌==◌, List, [], ◌∷◌, ◌++◌, length, map, filter, refl, sym, ap, ap₂, subst₂, inl, inr, arith}
-use Rattle.std.specs.Prelude.{count_by, nat_le}
-use Rattle.std.specs.List.{range_with_len}
-use Rattle.std.specs.List.Sorted.{IsPermutation}
+use Rattle.iloc_bound.proofs.Common.{◌≡◌, ℕ, zero, suc, ◌+◌, ◌/◌, ◌<◌, ◌≤◌, Bool, true, false, cond, ◌&&◌, ◌||◌, List, [], ◌∷◌, ◌++◌, map, length, nat_le, ◌==◌, count_by, filter, IsPermutation, sym, refl, ap, ◌∙◌, ap₂, subst₂, inl, inr, arith, nat_tests, sum_by-IsPermutation, sum_by-append, range_with_len, from_any, count_by-cons, In}
 use Rattle.std.proofs.Math.Nat.{div-mul-le_self}
 use Rattle.std.proofs.lemmas.Nat.{le-div}
-use Rattle.std.proofs.lemmas.Bool.Decides.{nat_tests}
-use Rattle.std.proofs.lemmas.List.Sorted.{sum_by-IsPermutation}
-use Rattle.std.proofs.lemmas.List.Sums.{sum_by-append}
 use Rattle.iloc_timed.proofs.Counts.{count_by_none}
-use Rattle.iloc_rules.specs.Steps.Members.{In}
-use Rattle.iloc_rules.proofs.Basics.Members.{from_any}
-use Rattle.iloc_rules.proofs.Basics.Slots.{count_by-cons}
 
 pub count-permutation : {X : Type 0} → (p : X → Bool) (xs ys : List X) → IsPermutation xs ys
     → count_by p ys ≡ count_by p xs

@@ -1,17 +1,7 @@
 -- No lawful schedule takes fewer cycles than `least` says: `laws::least_bounds_the_cycles`.
-use Rattle.std.proofs.Common.{ℕ, ◌+◌, ◌<◌, ◌≤◌, Bool, ◌&&◌, List, true, length, map, filter, subst, arith}
-use Rattle.std.specs.Prelude.{nat_le}
-use Rattle.std.specs.List.{range_with_len}
-use Rattle.std.proofs.lemmas.Bool.{and_parts}
-use Rattle.iloc_ops.specs.declared.op.Op.{Op}
-use Rattle.iloc_timed.specs.declared.kind.Kind.{Kind}
-use Rattle.iloc_timed.specs.declared.latencies.Latencies.{Latencies}
-use Rattle.iloc_timed.specs.declared.row.Row.{Row}
-use Rattle.iloc_timed.specs.Kinds.{is_load, is_memory, is_mult, is_output}
-use Rattle.iloc_timed.specs.Rows.{issue_cycle}
+use Rattle.iloc_bound.proofs.Common.{ℕ, ◌+◌, ◌<◌, ◌≤◌, Bool, true, ◌&&◌, List, map, length, nat_le, filter, subst, arith, and_parts, range_with_len, Op, is_load, is_memory, is_mult, is_output, issue_cycle, Kind, Latencies, Row, least_of, needed_after, needed_by, of_kind, tail}
 use Rattle.iloc_timed.specs.Cycles.{cycles}
 use Rattle.iloc_rules.specs.Starts.{start}
-use Rattle.iloc_rules.specs.Least.{tail, of_kind, needed_after, needed_by, least_of}
 use Rattle.iloc_rules.specs.Lawful.{IsLawful}
 use Rattle.iloc_bound.specs.Laws.{LeastBoundsTheCycles, BoundsProveTheOptimum}
 use Rattle.iloc_rules.proofs.PriorityValues.Starts.{start_least}

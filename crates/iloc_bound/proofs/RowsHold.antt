@@ -1,15 +1,6 @@
 -- How many of some operations a row holds; for `laws::least_bounds_the_cycles`.
-use Rattle.std.proofs.Common.{◌≡◌, ℕ, ◌≤◌, Bool, true, false, ◌&&◌, List, Option, arith}
-use Rattle.std.specs.Prelude.{count_by, option_to_list, IsTrue}
-use Rattle.iloc_ops.specs.declared.op.Op.{Op}
-use Rattle.iloc_meaning.specs.Trace.{op_at}
-use Rattle.iloc_timed.specs.declared.kind.Kind.{Kind}
-use Rattle.iloc_timed.specs.declared.row.Row.{Row}
-use Rattle.iloc_timed.specs.Kinds.{kind, is_load, is_memory, is_mult, is_output}
-use Rattle.iloc_timed.specs.Rows.{slots, kind_in, is_some_kind, keeps_units}
+use Rattle.iloc_bound.proofs.Common.{◌≡◌, ℕ, ◌≤◌, Bool, true, false, ◌&&◌, List, IsTrue, count_by, Option, option_to_list, arith, and_cases, count_by-le-length, Op, op_at, is_load, is_memory, is_mult, is_output, kind, is_some_kind, keeps_units, kind_in, slots, Kind, Row}
 use Rattle.iloc_bound.proofs.Counting.{count-mono}
-use Rattle.std.proofs.lemmas.List.Sums.{count_by-le-length}
-use Rattle.std.proofs.lemmas.Bool.{and_cases}
 
 -- whether operation i is of such a kind
 abbrev pub is_kind : (Kind → Bool) → List Op → ℕ → Bool

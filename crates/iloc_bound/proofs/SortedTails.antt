@@ -1,16 +1,8 @@
 -- Sorted tails need the greatest of what each needs with those behind it; for `needed`.
-use Rattle.std.proofs.Common.{◌≡◌, ◌∙◌, ℕ, ◌+◌, ◌-◌, ◌/◌, ◌<◌, ◌≤◌, max, false, cond, List, [], ◌∷◌, length, map, drop, get_or, refl, sym, ap, inl, inr, arith}
-use Rattle.std.specs.Prelude.{nat_le}
-use Rattle.std.specs.List.Sorted.{IsPermutation, IsNonDecreasing}
-use Rattle.std.proofs.lemmas.Bool.Decides.{nat_tests}
-use Rattle.std.proofs.lemmas.List.{length-drop, get_or-drop, get_or_default, drop_more}
-use Rattle.std.proofs.lemmas.List.Sorted.{Contains-permutation, IsPermutation-sym}
-use Rattle.iloc_rules.specs.Least.{count_from, cycles_from, needed}
-use Rattle.iloc_rules.specs.Steps.Members.{In}
+use Rattle.iloc_bound.proofs.Common.{◌≡◌, ℕ, ◌+◌, ◌-◌, ◌/◌, ◌<◌, ◌≤◌, max, false, cond, List, [], ◌∷◌, map, length, get_or, drop, nat_le, IsPermutation, sym, refl, ap, ◌∙◌, inl, inr, arith, length-drop, get_or-drop, nat_tests, drop_more, get_or_default, Contains-permutation, IsPermutation-sym, contains_from, from_map, in_from, in_map, count_by-cons, count_from, cycles_from, needed, In}
+use Rattle.std.specs.List.Sorted.{IsNonDecreasing}
 use Rattle.iloc_sched.proofs.Basics.Cases.{by_lt}
-use Rattle.iloc_rules.proofs.Basics.Members.{contains_from, in_from, in_map, from_map}
 use Rattle.iloc_rules.proofs.Basics.Maxima.{fold_max_each, fold_max_reached}
-use Rattle.iloc_rules.proofs.Basics.Slots.{count_by-cons}
 use Rattle.iloc_bound.proofs.Counting.{count-permutation, div-mono, is_at_least}
 
 module _ (first width : ℕ) where

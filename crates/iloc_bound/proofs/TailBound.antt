@@ -1,31 +1,13 @@
 -- How early operations are issued at least, by their tails; for `laws::least_bounds_the_cycles`.
-use Rattle.std.proofs.Common.{◌≡◌, ◌∙◌, ℕ, ◌+◌, ◌-◌, ◌*◌, ◌<◌, ◌≤◌, ◌/◌, max, zero, suc, Bool, true, cond, ◌&&◌, List, [], ◌∷◌, ◌++◌, length, map, filter, refl, ap, add-one, inl, inr, arith}
-use Rattle.std.specs.Prelude.{count_by, nat_le, slice_index, fold}
-use Rattle.std.specs.List.{range_with_len}
+use Rattle.iloc_bound.proofs.Common.{◌≡◌, ℕ, zero, suc, ◌+◌, ◌-◌, ◌*◌, ◌/◌, ◌<◌, ◌≤◌, max, Bool, true, cond, ◌&&◌, List, [], ◌∷◌, ◌++◌, map, length, nat_le, slice_index, fold, count_by, filter, refl, ap, ◌∙◌, inl, inr, add-one, arith, and_from, and_parts, cases_lt, nat_tests, length-filter, range_with_len, Op, op_at, is_load, is_store, kind, latency, IsTable, issue_cycle, Kind, Latencies, Row, contains_from, from_map, from_range, in_filter, in_left, in_right, count_by-cons, count_some, early_issued, issued_early, numbers_before, behind, count_from, cycles_from, load_tails, needed, tail, tails, In, Crowd, between}
 use Rattle.std.proofs.Math.Nat.{mul-suc, mul-div-le, mul-le-mul_left}
-use Rattle.std.proofs.lemmas.Bool.{and_parts, cases_lt, and_from}
-use Rattle.std.proofs.lemmas.Bool.Decides.{nat_tests}
-use Rattle.std.proofs.lemmas.List.Sums.{length-filter}
-use Rattle.iloc_ops.specs.declared.op.Op.{Op}
-use Rattle.iloc_meaning.specs.Trace.{op_at}
 use Rattle.iloc_meaning.proofs.Cases.{by_bool}
-use Rattle.iloc_timed.specs.declared.kind.Kind.{Kind}
-use Rattle.iloc_timed.specs.declared.latencies.Latencies.{Latencies}
-use Rattle.iloc_timed.specs.declared.row.Row.{Row}
-use Rattle.iloc_timed.specs.Kinds.{kind, is_load, is_store}
-use Rattle.iloc_timed.specs.Latency.{latency}
-use Rattle.iloc_timed.specs.Rows.{issue_cycle, IsTable}
 use Rattle.iloc_timed.proofs.WholeRuns.{short_latency}
 use Rattle.iloc_rules.specs.Delays.{when, delays, IsDelayPair}
 use Rattle.iloc_rules.specs.Priority.{reaches}
-use Rattle.iloc_rules.specs.Least.{count_from, cycles_from, needed, load_tails, behind, tails, tail}
-use Rattle.iloc_rules.specs.Steps.Members.{In}
-use Rattle.iloc_rules.proofs.Basics.Members.{contains_from, in_left, in_right, from_map, in_filter, from_range}
 use Rattle.iloc_rules.proofs.Basics.Maxima.{fold_max_reached}
-use Rattle.iloc_rules.proofs.Basics.Slots.{numbers_before, early_issued, issued_early, count_by-cons, count_some}
 use Rattle.iloc_rules.proofs.DelayPairs.DelayBounds.{in_when, short_delay}
 use Rattle.iloc_rules.proofs.PriorityValues.Longest.{Reached, from_reaches, outer_pair}
-use Rattle.iloc_bound.specs.Shares.{between, Crowd}
 use Rattle.iloc_bound.proofs.Counting.{count-append, count-never, count-mono, among, in_among, among-short, at_least, is_at_least}
 use Rattle.iloc_bound.proofs.RowsHold.{Holds, is_kind}
 

@@ -1,16 +1,7 @@
 -- A tail is the greatest of latency, d + tail(j) over the delay pairs, and what the loads up to the next store need; for `least`.
-use Rattle.std.proofs.Common.{◌≡◌, ℕ, ◌+◌, ◌<◌, max, zero, suc, true, false, List, [], ◌∷◌, length, drop, refl, ap, add-one, arith}
-use Rattle.std.proofs.lemmas.List.{drop_more}
-use Rattle.iloc_ops.specs.declared.op.Op.{Op}
-use Rattle.iloc_meaning.specs.Trace.{op_at}
+use Rattle.iloc_bound.proofs.Common.{◌≡◌, ℕ, zero, suc, ◌+◌, ◌<◌, max, true, false, List, [], ◌∷◌, length, drop, refl, ap, add-one, arith, drop_more, Op, op_at, is_load, is_store, kind, latency, Kind, Latencies, behind, needed, tail, tails, chain_tail, loads_by, loads_from, tail_by}
 use Rattle.iloc_meaning.proofs.Cases.{by_bool}
-use Rattle.iloc_timed.specs.declared.kind.Kind.{Kind}
-use Rattle.iloc_timed.specs.declared.latencies.Latencies.{Latencies}
-use Rattle.iloc_timed.specs.Kinds.{kind, is_load, is_store}
-use Rattle.iloc_timed.specs.Latency.{latency}
-use Rattle.iloc_rules.specs.Least.{needed, behind, tails, tail}
 use Rattle.iloc_rules.specs.Steps.Chains.{IsChainOut}
-use Rattle.iloc_bound.specs.Steps.Tails.{loads_from, loads_by, chain_tail, tail_by}
 use Rattle.iloc_rules.proofs.Outcome.UsedEffects.{store_kind_latency}
 use Rattle.iloc_rules.proofs.PriorityValues.Longest.{chain_own, chain_pairs, chain_reached}
 

@@ -1,15 +1,6 @@
 -- Latencies that are raised along the near pairs and by the rule of stores, the last first, become the tails; for `fill_tails`.
-use Rattle.std.proofs.Common.{◌≡◌, ℕ, ◌+◌, ◌*◌, ◌<◌, ◌≤◌, max, List, length, map, set, get_or, inl, inr, sym, ap, subst, ◌∙◌, arith}
-use Rattle.std.specs.Prelude.{All, Any}
-use Rattle.std.proofs.lemmas.List.{ext_get_or, get_or_default, get_or_read, get_or-map, length-map, length-set}
-use Rattle.iloc_ops.specs.declared.op.Op.{Op}
-use Rattle.iloc_meaning.specs.Trace.{op_at}
-use Rattle.iloc_timed.specs.declared.latencies.Latencies.{Latencies}
-use Rattle.iloc_timed.specs.Latency.{latency}
-use Rattle.iloc_rules.specs.Least.{tails, tail}
+use Rattle.iloc_bound.proofs.Common.{◌≡◌, ℕ, ◌+◌, ◌*◌, ◌<◌, ◌≤◌, max, List, map, length, get_or, set, All, Any, sym, ap, ◌∙◌, subst, inl, inr, arith, length-set, ext_get_or, get_or-map, get_or_default, get_or_read, length-map, Op, op_at, latency, Latencies, tail, tails, Edge, IsTailed, chain_tail}
 use Rattle.iloc_sched.specs.Graph.Near.{IsNearPair}
-use Rattle.iloc_sched.specs.declared.edges.Edge.{Edge}
-use Rattle.iloc_bound.specs.Steps.Tails.{chain_tail, IsTailed}
 use Rattle.iloc_sched.proofs.Basics.Cases.{by_eq}
 use Rattle.iloc_sched.proofs.KeptEdges.FarPairs.{all_are_kept}
 use Rattle.iloc_sched.proofs.PriorityValues.Chains.{away, grown, here}

@@ -1,7 +1,4 @@
-use Rattle.std.proofs.Common.{◌≡◌, ◌∙◌, ◌+◌, ◌-◌, ◌/◌, ℕ, List, length, drop, ap, ap₂, arith}
-use Rattle.std.proofs.lemmas.List.{get_or_read}
-use Rattle.std.proofs.lemmas.List.Sorted.{IsNonDecreasingBy-from_sort}
-use Rattle.iloc_rules.specs.Least.{needed}
+use Rattle.iloc_bound.proofs.Common.{◌≡◌, ℕ, ◌+◌, ◌-◌, ◌/◌, List, length, drop, ap, ◌∙◌, ap₂, arith, get_or_read, IsNonDecreasingBy-from_sort, needed}
 use Rattle.iloc_bound.proofs.SortedTails.{needed_from, needed_moved}
 use Rattle.iloc_bound.proofs.needed.needed.Goals as goal
 

@@ -1,5 +1,4 @@
-use Rattle.std.proofs.Common.{◌≡◌, drop}
-use Rattle.iloc_rules.specs.Least.{needed}
+use Rattle.iloc_bound.proofs.Common.{◌≡◌, drop, needed}
 use Rattle.iloc_bound.proofs.needed.needed.Given as goal
 
 abbrev pub invariant-loop-i : goal.invariant-loop-i

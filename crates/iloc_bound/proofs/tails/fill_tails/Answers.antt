@@ -1,12 +1,4 @@
-use Rattle.std.proofs.Common.{◌≡◌, ◌∙◌, ◌+◌, ◌-◌, ◌^◌, ◌≤◌, ◌<◌, [], ℕ, List, length, drop, set, get_or, sym, ap, subst, arith}
-use Rattle.std.proofs.lemmas.List.{get_or_read, length-map, drop_all}
-use Rattle.iloc_ops.specs.declared.op.Op.{Op}
-use Rattle.iloc_meaning.specs.Trace.{op_at}
-use Rattle.iloc_timed.specs.declared.kind.Kind.{Kind}
-use Rattle.iloc_timed.specs.declared.latencies.Latencies.{Latencies}
-use Rattle.iloc_timed.specs.Kinds.{kind}
-use Rattle.iloc_rules.specs.Least.{load_tails, tails, tail}
-use Rattle.iloc_bound.specs.Steps.Tails.{loads_from, loads_by, chain_tail, tail_by, IsTailed}
+use Rattle.iloc_bound.proofs.Common.{◌≡◌, ℕ, ◌+◌, ◌-◌, ◌^◌, ◌<◌, ◌≤◌, List, [], length, get_or, drop, set, sym, ap, ◌∙◌, subst, arith, drop_all, get_or_read, length-map, Op, op_at, kind, Kind, Latencies, load_tails, tail, tails, IsTailed, chain_tail, loads_by, loads_from, tail_by}
 use Rattle.iloc_sched.proofs.KeptEdges.ListedKinds.{kind_listed}
 use Rattle.iloc_bound.proofs.TailBound.{tail_most}
 use Rattle.iloc_bound.proofs.TailParts.{tail_by_store, load_kept}

@@ -1,5 +1,4 @@
-use Rattle.std.proofs.Common.{◌≡◌}
-use Rattle.iloc_bound.specs.Steps.Tails.{loads_from, IsTailed}
+use Rattle.iloc_bound.proofs.Common.{◌≡◌, IsTailed, loads_from}
 use Rattle.iloc_bound.proofs.tails.fill_tails.Given as goal
 
 abbrev pub invariant-loop-j : goal.invariant-loop-j

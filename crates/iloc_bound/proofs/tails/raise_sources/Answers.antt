@@ -1,6 +1,4 @@
-use Rattle.std.proofs.Common.{List, None, get_or, refl, arith}
-use Rattle.std.proofs.lemmas.List.{get_or_read}
-use Rattle.iloc_sched.specs.declared.edges.Edge.{Edge}
+use Rattle.iloc_bound.proofs.Common.{List, get_or, None, refl, arith, get_or_read, Edge}
 use Rattle.iloc_bound.proofs.TailsFound.{all_raised, kept_more, raised, through_small}
 use Rattle.iloc_bound.proofs.tails.raise_sources.Goals as goal
 

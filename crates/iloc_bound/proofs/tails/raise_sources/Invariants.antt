@@ -1,6 +1,4 @@
-use Rattle.std.proofs.Common.{ℕ, ◌+◌, ◌<◌, ◌≤◌, get_or}
-use Rattle.iloc_sched.specs.declared.edges.Edge.{Edge}
-use Rattle.iloc_bound.specs.Steps.Tails.{IsTailed}
+use Rattle.iloc_bound.proofs.Common.{ℕ, ◌+◌, ◌<◌, ◌≤◌, get_or, Edge, IsTailed}
 use Rattle.iloc_bound.proofs.tails.raise_sources.Given as goal
 
 abbrev pub invariant-loop-edge : goal.invariant-loop-edge
