@@ -1,18 +1,6 @@
 -- The operations that wait for a store, and those that are found for one; for `Accesses`.
-use Rattle.std.proofs.Common.{◌≡◌, ℕ, ◌+◌, ◌<◌, Bool, true, false, if◌then◌else◌, cond, List, [], ◌∷◌, ◌++◌, Option, Some, ℤ, inl, inr, refl, ap, sym, ◌∙◌, subst, arith, append_assoc}
-use Rattle.std.specs.Prelude.{◌==◌, count_by}
-use Rattle.std.specs.Ordering.{int_eq}
-use Rattle.std.proofs.lemmas.Bool.Decides.{Decides-int_eq}
-use Rattle.std.proofs.lemmas.List.Sums.{sum_by_push, sum_by-append}
-use Rattle.iloc_meaning.proofs.Cases.{by_bool}
-use Rattle.iloc_rules.specs.declared.word.Word.{Word}
-use Rattle.iloc_rules.specs.Apart.{apart_if_both, are_apart}
-use Rattle.iloc_rules.specs.Steps.Members.{In}
-use Rattle.iloc_rules.proofs.Basics.Members.{in_left, in_right, from_append}
+use Rattle.iloc_addresses.proofs.Common.{◌≡◌, ℕ, ◌+◌, ◌<◌, Bool, true, false, cond, List, [], ◌∷◌, ◌++◌, ℤ, if◌then◌else◌, ◌==◌, Some, count_by, Option, int_eq, sym, refl, ap, ◌∙◌, subst, inl, inr, append_assoc, arith, Decides-int_eq, sum_by-append, sum_by_push, by_bool, from_append, in_left, in_right, apart_if_both, are_apart, In, Word, Moves, count_in, ops_at, AreFar, ArePlaced, Finds, IsShort, at_constant, constant_of, have_one_base, waiting_by, Accesses}
 use Rattle.iloc_addresses.specs.declared.dependences.accesses.Access.{Access}
-use Rattle.iloc_addresses.specs.declared.dependences.accesses.Accesses.{Accesses}
-use Rattle.iloc_addresses.specs.Steps.ByConstant.{ops_at, count_in, Moves}
-use Rattle.iloc_addresses.specs.Steps.Dependences.{at_constant, constant_of, have_one_base, IsShort, ArePlaced, AreFar, Finds, waiting_by}
 use Rattle.iloc_addresses.proofs.ByConstants.{at_some}
 use Rattle.iloc_addresses.proofs.Bases.{at_own, at_same, apart_one_base, apart_two_constants, near_other_base, near_itself, far_at}
 

@@ -1,18 +1,8 @@
 -- One address more is counted; for `AddressCounts`.
-use Rattle.std.proofs.Common.{Ordering, Less, Equal, Greater, ◌≡◌, ℕ, ◌+◌, ◌-◌, ◌≤◌, Bool, true, false, cond, if◌then◌else◌, Option, Some, None, ℤ, refl, ap, sym, ◌∙◌, arith}
-use Rattle.std.specs.Prelude.{◌==◌, ◌&&◌, not, unwrap_or}
-use Rattle.std.specs.BTreeMap.{get}
-use Rattle.std.specs.Ordering.{int_eq, int_cmp, nat_cmp, is_eq, eq_by_cmp, ordering_then}
-use Rattle.std.proofs.lemmas.Bool.{and_parts, eqb-true, true≢false}
-use Rattle.std.proofs.lemmas.Bool.Decides.{Decides-int_eq}
+use Rattle.iloc_addresses.proofs.Common.{◌≡◌, ℕ, ◌+◌, ◌-◌, ◌≤◌, Bool, true, false, cond, not, ◌&&◌, ℤ, if◌then◌else◌, ◌==◌, Some, None, Option, nat_cmp, int_cmp, int_eq, is_eq, Ordering, Less, Equal, Greater, unwrap_or, sym, refl, ap, ◌∙◌, true≢false, arith, eqb-true, and_parts, Decides-int_eq, get, by_bool, are_apart, Word, Based, Known, IsShort, constant_of, AreNested, base_cmp, base_of, near, with_base, with_both, word_cmp}
+use Rattle.std.specs.Ordering.{eq_by_cmp, ordering_then}
 use Rattle.iloc_meaning.specs.Arithmetic.{wrapped}
-use Rattle.iloc_meaning.proofs.Cases.{by_bool}
-use Rattle.iloc_rules.specs.declared.word.Word.{Word}
-use Rattle.iloc_rules.specs.declared.word.Word.TheVariants.{Known, Based}
-use Rattle.iloc_rules.specs.Apart.{are_apart}
 use Rattle.iloc_addresses.specs.declared.successors.address_counts.AddressCounts.{AddressCounts}
-use Rattle.iloc_addresses.specs.Steps.Dependences.{constant_of, IsShort}
-use Rattle.iloc_addresses.specs.Steps.Successors.{base_of, base_cmp, word_cmp, with_base, with_both, near, AreNested}
 
 numbers_are : (a b : ℕ) → eq_by_cmp nat_cmp a b ≡ (a == b)
 numbers_are a b = grind arith

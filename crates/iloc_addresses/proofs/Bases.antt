@@ -1,15 +1,6 @@
 -- Words with one base, and words that are apart; for `Accesses` and `MemoryDependences`.
-use Rattle.std.proofs.Common.{◌≡◌, ℕ, Bool, true, false, Option, Some, None, ℤ, refl, ap, sym, ◌∙◌, arith}
-use Rattle.std.specs.Prelude.{◌==◌, ◌&&◌, not}
-use Rattle.std.specs.Ordering.{int_eq}
-use Rattle.std.proofs.lemmas.Bool.{eqb-true, and_parts, false≢true}
-use Rattle.std.proofs.lemmas.Bool.Decides.{Decides-int_eq}
+use Rattle.iloc_addresses.proofs.Common.{◌≡◌, ℕ, Bool, true, false, not, ◌&&◌, ℤ, ◌==◌, Some, None, Option, int_eq, sym, refl, ap, ◌∙◌, arith, eqb-true, and_parts, false≢true, Decides-int_eq, by_bool, apart_if_both, are_apart, Word, Based, Known, IsShort, at_constant, constant_of, have_one_base}
 use Rattle.iloc_meaning.specs.Arithmetic.{wrapped}
-use Rattle.iloc_meaning.proofs.Cases.{by_bool}
-use Rattle.iloc_rules.specs.declared.word.Word.{Word}
-use Rattle.iloc_rules.specs.declared.word.Word.TheVariants.{Known, Based}
-use Rattle.iloc_rules.specs.Apart.{are_apart, apart_if_both}
-use Rattle.iloc_addresses.specs.Steps.Dependences.{at_constant, constant_of, have_one_base, IsShort}
 
 -- with one base they differ by their constants alone
 pub at_own : (v w : Word) → have_one_base v w ≡ true → at_constant v (constant_of w) ≡ w

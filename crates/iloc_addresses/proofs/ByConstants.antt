@@ -1,21 +1,10 @@
 -- Operations by a constant, found and counted; for `ByConstant`.
-use Rattle.std.proofs.Common.{◌≡◌, ℕ, zero, suc, ◌+◌, ◌<◌, Bool, true, false, if◌then◌else◌, cond, List, [], ◌∷◌, ◌++◌, Option, Some, None, unwrap_or, ℤ, inl, inr, refl, ap, sym, ◌∙◌, subst, arith, append_assoc}
-use Rattle.std.specs.Prelude.{◌==◌, count_by}
+use Rattle.iloc_addresses.proofs.Common.{BTreeMap, ◌≡◌, ℕ, zero, suc, ◌+◌, ◌<◌, Bool, true, false, cond, List, [], ◌∷◌, ◌++◌, ℤ, if◌then◌else◌, ◌==◌, slice_get, Some, None, sum_by, count_by, Option, option_map, int_cmp, unwrap_or, sym, refl, ap, ◌∙◌, subst, inl, inr, append_assoc, arith, eqb-true, cases_lt, sum_by-append, sum_by-cons, sum_by_push, IsOrdered, get, insert_entry, is_at, values, option_map_or, by_bool, from_append, In, Moves, count_in, ops_at}
 use Rattle.std.specs.Global.{Vec}
-use Rattle.std.specs.List.{sum_by, slice_get}
-use Rattle.std.specs.Option.{option_map, option_map_or}
-use Rattle.std.specs.Ordering.{int_cmp}
 use Rattle.std.specs.Map.{remove_entry, values_of}
-use Rattle.std.specs.BTreeMap.{BTreeMap, get, values, is_at, insert_entry, IsOrdered}
-use Rattle.std.proofs.lemmas.Bool.{eqb-true, cases_lt}
 use Rattle.std.proofs.lemmas.Cmp.{int_cmp_total}
-use Rattle.std.proofs.lemmas.List.Sums.{sum_by_push, sum_by-append, sum_by-cons}
 use Rattle.std.proofs.lemmas.Map.Entries.{sum_by-remove_entry, sum_by-insert_entry, btree_map_get_place}
-use Rattle.iloc_meaning.proofs.Cases.{by_bool}
-use Rattle.iloc_rules.specs.Steps.Members.{In}
-use Rattle.iloc_rules.proofs.Basics.Members.{from_append}
 use Rattle.iloc_addresses.specs.declared.dependences.by_constant.ByConstant.{ByConstant}
-use Rattle.iloc_addresses.specs.Steps.ByConstant.{ops_at, count_in, Moves}
 
 abbrev Ops : Type 0
 Ops = BTreeMap ℤ (Vec ℕ)

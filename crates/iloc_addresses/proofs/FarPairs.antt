@@ -1,22 +1,10 @@
 -- A delay pair that isn't near goes by way of an operation between: `laws::near_pairs_imply_all`.
-use Rattle.std.proofs.Common.{◌≡◌, ℕ, zero, suc, ◌+◌, ◌<◌, ◌≤◌, ◌&&◌, Bool, true, false, List, length, ◌⊎◌, inl, inr, ap, sym, ◌∙◌, arith}
-use Rattle.std.proofs.lemmas.Bool.{and_parts, cases_lt, cases_eq}
-use Rattle.iloc_ops.specs.declared.op.Op.{Op}
-use Rattle.iloc_meaning.specs.Trace.{op_at}
-use Rattle.iloc_meaning.proofs.Cases.{by_bool}
-use Rattle.iloc_timed.specs.declared.kind.Kind.{Kind}
+use Rattle.iloc_addresses.proofs.Common.{◌≡◌, ℕ, zero, suc, ◌+◌, ◌<◌, ◌≤◌, Bool, true, false, ◌&&◌, ◌⊎◌, List, length, sym, ap, ◌∙◌, inl, inr, arith, and_parts, cases_eq, cases_lt, Op, by_bool, op_at, is_output, is_store, kind, latency, Kind, Latencies, contains_from, from_append, in_from, in_right, Counts, IsDelayPairWhere, delays_where, keeps_order_where, memory_delays_where, uses_result, when, In, IsNear, takes_over}
 use Rattle.iloc_timed.specs.declared.kind.Kind.TheVariants as K
-use Rattle.iloc_timed.specs.declared.latencies.Latencies.{Latencies}
-use Rattle.iloc_timed.specs.Kinds.{kind, is_output, is_store}
-use Rattle.iloc_timed.specs.Latency.{latency}
-use Rattle.iloc_rules.specs.Delays.{Counts, uses_result, when, memory_delays_where, delays_where, IsDelayPairWhere, keeps_order_where}
-use Rattle.iloc_rules.specs.Steps.Members.{In}
 use Rattle.iloc_rules.specs.Steps.Ways.{GoesBy}
-use Rattle.iloc_rules.proofs.Basics.Members.{contains_from, in_from, in_right, from_append}
 use Rattle.iloc_rules.proofs.Basics.Kinds.{store_is}
 use Rattle.iloc_rules.proofs.DelayPairs.DelayBounds.{kind_delays, in_when, from_when}
 use Rattle.iloc_rules.proofs.DelayPairs.WaitedFor.{output_then_output}
-use Rattle.iloc_addresses.specs.Near.{takes_over, IsNear}
 
 -- b delays c by nearly d
 abbrev Follows : Latencies → Kind → Kind → ℕ → Type 0

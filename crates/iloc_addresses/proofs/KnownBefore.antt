@@ -1,22 +1,8 @@
 -- What is known before the next operation; for `KnownRegisters::take` and `known_addresses`.
-use Rattle.std.proofs.Common.{◌≡◌, ℕ, ◌+◌, List, [], ◌∷◌, ◌++◌, map, Option, Some, None, unwrap_or, pos, ap, sym, ◌∙◌, arith, add-one}
-use Rattle.std.specs.Prelude.{◌==◌}
-use Rattle.std.specs.List.{range_with_len}
-use Rattle.std.specs.Ordering.{nat_cmp}
-use Rattle.std.specs.BTreeMap.{get}
+use Rattle.iloc_addresses.proofs.Common.{◌≡◌, ℕ, ◌+◌, List, [], ◌∷◌, ◌++◌, map, pos, ◌==◌, Some, None, Option, nat_cmp, unwrap_or, sym, ap, ◌∙◌, add-one, arith, eqb-true, eqb-false, get, range_with_len, defined, Op, Reg, by_bool, is_register, op_at, address_at, address_of, known_before, result_word, Word, Known, AreBefore, ChangesOnly, word_in}
 use Rattle.std.proofs.Math.Path.{fun_ext}
-use Rattle.std.proofs.lemmas.Bool.{eqb-true, eqb-false}
 use Rattle.std.proofs.lemmas.List.FromFn.{map-range_with_len_more}
-use Rattle.iloc_ops.specs.declared.op.Reg.{Reg}
-use Rattle.iloc_ops.specs.declared.op.Op.{Op}
-use Rattle.iloc_ops.specs.Registers.{defined}
-use Rattle.iloc_meaning.specs.Trace.{op_at, is_register}
-use Rattle.iloc_meaning.proofs.Cases.{by_bool}
-use Rattle.iloc_rules.specs.declared.word.Word.{Word}
-use Rattle.iloc_rules.specs.declared.word.Word.TheVariants.{Known}
-use Rattle.iloc_rules.specs.Apart.{result_word, known_before, address_of, address_at}
 use Rattle.iloc_addresses.specs.declared.registers.KnownRegisters.{KnownRegisters}
-use Rattle.iloc_addresses.specs.Steps.Registers.{word_in, ChangesOnly, AreBefore}
 
 module _ (ops : List Op) (i : ℕ) (op : Op) (old : KnownRegisters) (here : op_at ops i ≡ op) (known : AreBefore ops i old) where
   all_known : word_in old ≡ known_before ops i

@@ -1,6 +1,5 @@
 -- The last number below n of which something holds; for `MemoryDependences`.
-use Rattle.std.proofs.Common.{◌≡◌, ℕ, ◌+◌, ◌<◌, Option, Some, arith}
-use Rattle.iloc_addresses.specs.Steps.Dependences.{IsLast}
+use Rattle.iloc_addresses.proofs.Common.{◌≡◌, ℕ, ◌+◌, ◌<◌, Some, Option, arith, IsLast}
 
 pub last_here : (P : ℕ → Type 0) (n : ℕ) → P n → IsLast P (n + 1) (Some n)
 last_here P n here = (omega arith, here, λ k after below other. absurd (omega arith))

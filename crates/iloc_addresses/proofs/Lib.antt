@@ -1,3 +1,4 @@
+pub mod Common
 pub mod KnownBefore
 pub mod FarPairs
 pub mod ByConstants

@@ -1,25 +1,8 @@
 -- The operations on which each kind depends, given what stands last and what waits; for `MemoryDependences::fill`.
-use Rattle.std.proofs.Common.{◌≡◌, ℕ, ◌+◌, ◌<◌, ◌≤◌, Bool, true, false, if◌then◌else◌, ◌||◌, ◌&&◌, cond, List, [], ◌∷◌, ◌++◌, length, Option, Some, None, inl, inr, refl, ap, sym, ◌∙◌, subst, arith}
-use Rattle.std.specs.Prelude.{◌==◌, count_by}
-use Rattle.std.specs.Option.{option_to_list}
-use Rattle.std.proofs.lemmas.Bool.{and_from, and_parts, cases_lt}
-use Rattle.std.proofs.lemmas.List.Sums.{sum_by-append, sum_by-cons, count_by-le-length}
-use Rattle.iloc_ops.specs.declared.op.Op.{Op}
-use Rattle.iloc_meaning.specs.Trace.{op_at}
-use Rattle.iloc_meaning.proofs.Cases.{by_bool}
-use Rattle.iloc_timed.specs.declared.kind.Kind.{Kind}
+use Rattle.iloc_addresses.proofs.Common.{◌≡◌, ℕ, ◌+◌, ◌<◌, ◌≤◌, Bool, true, false, cond, ◌&&◌, ◌||◌, List, [], ◌∷◌, ◌++◌, length, if◌then◌else◌, ◌==◌, Some, None, count_by, Option, option_to_list, sym, refl, ap, ◌∙◌, subst, inl, inr, arith, and_from, and_parts, cases_lt, count_by-le-length, sum_by-append, sum_by-cons, Op, by_bool, op_at, is_output, is_store, kind, Kind, Latencies, contains_from, from_append, in_from, in_left, in_right, address_at, apart_if_both, by_address, In, Word, NoneBetween, AreFar, ArePlaced, Finds, IsLast, IsShort, IsStoreAt, IsWaiting, constant_of, waiting_by, Accesses}
 use Rattle.iloc_timed.specs.declared.kind.Kind.TheVariants as K
-use Rattle.iloc_timed.specs.declared.latencies.Latencies.{Latencies}
-use Rattle.iloc_timed.specs.Kinds.{kind, is_store, is_output}
-use Rattle.iloc_rules.specs.declared.word.Word.{Word}
-use Rattle.iloc_rules.specs.Apart.{address_at, apart_if_both, by_address}
-use Rattle.iloc_rules.specs.Steps.Members.{In}
-use Rattle.iloc_rules.proofs.Basics.Members.{contains_from, in_from, in_left, in_right, from_append}
 use Rattle.iloc_rules.proofs.Basics.Kinds.{store_is, output_is}
-use Rattle.iloc_addresses.specs.Near.{NoneBetween}
 use Rattle.iloc_addresses.specs.Dependences.{IsMemoryPair, AreSources}
-use Rattle.iloc_addresses.specs.declared.dependences.accesses.Accesses.{Accesses}
-use Rattle.iloc_addresses.specs.Steps.Dependences.{IsLast, IsStoreAt, IsWaiting, ArePlaced, AreFar, Finds, IsShort, constant_of, waiting_by}
 use Rattle.iloc_addresses.proofs.Bases.{both_flipped}
 use Rattle.iloc_addresses.proofs.ByConstants.{in_counted, counted_in}
 use Rattle.iloc_addresses.proofs.LastOnes.{last_is}

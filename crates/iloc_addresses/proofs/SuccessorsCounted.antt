@@ -1,32 +1,13 @@
 -- The operations that wait for each directly, counted by use and by memory; for `count_successors`.
-use Rattle.std.proofs.Common.{◌≡◌, ◌≢◌, ℕ, suc, ◌+◌, ◌-◌, ◌<◌, ◌≤◌, Bool, true, false, cond, if◌then◌else◌, ◌||◌, ◌&&◌, List, [], ◌∷◌, ◌++◌, length, map, set, get_or, Option, Some, None, inl, inr, refl, sym, ◌∙◌, ap, arith}
-use Rattle.std.specs.Prelude.{count_by, replicate, nat_lt, not, ◌==◌}
-use Rattle.std.specs.List.{list_any, range_with_len}
-use Rattle.std.specs.Ordering.{nat_cmp, eq_by_cmp}
-use Rattle.std.specs.BTreeMap.{get, is_at}
-use Rattle.std.proofs.lemmas.Bool.{ltb-true, lt-ltb, and_parts, cases_lt, cases_eq, eqb-true, true≢false}
-use Rattle.std.proofs.lemmas.List.{ext_get_or, get_or-set_same, get_or-set_other, get_or_past, length-set, get_or-replicate, length-replicate}
+use Rattle.iloc_addresses.proofs.Common.{◌≡◌, ℕ, suc, ◌+◌, ◌-◌, ◌<◌, ◌≤◌, Bool, true, false, cond, not, ◌&&◌, ◌||◌, ◌≢◌, List, [], ◌∷◌, ◌++◌, map, length, get_or, set, replicate, if◌then◌else◌, nat_lt, ◌==◌, Some, None, count_by, Option, nat_cmp, sym, refl, ap, ◌∙◌, inl, inr, true≢false, arith, length-set, get_or-set_other, get_or-set_same, ext_get_or, ltb-true, lt-ltb, eqb-true, and_parts, cases_eq, cases_lt, get_or-replicate, get_or_past, length-replicate, get, is_at, list_any, range_with_len, defined, used, Op, Reg, by_bool, is_register, op_at, is_store, kind, latency, Kind, Latencies, address_at, apart_if_both, by_address, known_before, keeps_order_where, reads_stored, uses_result, when, Word, IsShort, constant_of, AreCounted, AreCounts, AreDefiners, AreNoted, AreUsesCounted, count_from, definer, is_by_memory, is_by_use, is_number, noted, uses_before, waiting_for, waits_by_memory}
+use Rattle.std.specs.Ordering.{eq_by_cmp}
 use Rattle.std.proofs.lemmas.List.FromFn.{length-map-range_with_len, get_or-map-range_with_len}
-use Rattle.iloc_ops.specs.declared.op.Op.{Op}
-use Rattle.iloc_ops.specs.declared.op.Reg.{Reg}
-use Rattle.iloc_ops.specs.Registers.{used, defined}
-use Rattle.iloc_meaning.specs.Trace.{op_at, is_register}
-use Rattle.iloc_meaning.proofs.Cases.{by_bool}
-use Rattle.iloc_timed.specs.declared.kind.Kind.{Kind}
-use Rattle.iloc_timed.specs.declared.latencies.Latencies.{Latencies}
-use Rattle.iloc_timed.specs.Kinds.{kind, is_store}
-use Rattle.iloc_timed.specs.Latency.{latency}
-use Rattle.iloc_rules.specs.declared.word.Word.{Word}
-use Rattle.iloc_rules.specs.Apart.{address_at, apart_if_both, by_address, known_before}
-use Rattle.iloc_rules.specs.Delays.{uses_result, when, reads_stored, keeps_order_where}
 use Rattle.iloc_rules.specs.Heuristics.{waits_for_where, successors_where}
 use Rattle.iloc_rules.specs.Renaming.{IsRenamed}
 use Rattle.iloc_rules.proofs.Basics.Registers.{is_register_same}
 use Rattle.iloc_rules.proofs.Basics.CountedRanges.{count_first, count_range, none_in_range, count_sum, count_most}
 use Rattle.iloc_addresses.specs.declared.successors.definers.Definers.{Definers}
 use Rattle.iloc_addresses.specs.declared.successors.later.Later.{Later}
-use Rattle.iloc_addresses.specs.Steps.Dependences.{constant_of, IsShort}
-use Rattle.iloc_addresses.specs.Steps.Successors.{waits_by_memory, is_by_memory, is_by_use, is_number, definer, AreDefiners, uses_before, AreUsesCounted, count_from, AreNoted, AreCounts, AreCounted, noted, waiting_for}
 use Rattle.iloc_addresses.proofs.Taken.{no_address}
 use Rattle.iloc_addresses.proofs.Waited.{reads}
 

@@ -1,18 +1,6 @@
 -- What stands before the next operation, once one is taken; for `MemoryDependences::fill`.
-use Rattle.std.proofs.Common.{◌≡◌, ℕ, ◌+◌, ◌<◌, ◌≤◌, Bool, true, false, cond, if◌then◌else◌, List, Option, Some, None, Result, Ok, Err, OnOk, inl, inr, refl, ap, sym, ◌∙◌, subst, arith}
-use Rattle.std.specs.Prelude.{◌==◌, count_by}
-use Rattle.std.proofs.lemmas.Bool.{cases_lt, cases_eq, eqb-true}
-use Rattle.iloc_ops.specs.declared.op.Op.{Op}
-use Rattle.iloc_ops.specs.declared.op.Op.TheVariants.{Load, LoadAI, Store, StoreAI, Output}
-use Rattle.iloc_ops.specs.declared.op.Reg.{Reg}
-use Rattle.iloc_meaning.specs.Trace.{op_at}
-use Rattle.iloc_meaning.proofs.Cases.{by_bool}
-use Rattle.iloc_timed.specs.declared.kind.Kind.{Kind}
-use Rattle.iloc_timed.specs.Kinds.{kind, is_store, is_output}
-use Rattle.iloc_rules.specs.declared.word.Word.{Word}
-use Rattle.iloc_rules.specs.Apart.{address_of, address_at, apart_if_both, are_apart}
+use Rattle.iloc_addresses.proofs.Common.{◌≡◌, ℕ, ◌+◌, ◌<◌, ◌≤◌, Bool, true, false, cond, List, if◌then◌else◌, OnOk, ◌==◌, Some, None, Ok, Err, count_by, Option, Result, sym, refl, ap, ◌∙◌, subst, inl, inr, arith, eqb-true, cases_eq, cases_lt, Op, Load, LoadAI, Output, Store, StoreAI, Reg, by_bool, op_at, is_output, is_store, kind, Kind, address_at, address_of, apart_if_both, are_apart, Word, AreFar, ArePlaced, Finds, IsBefore, IsLast, IsShort, IsStoreAt, IsWaiting, constant_of, store_for, waiting_by}
 use Rattle.iloc_addresses.specs.declared.dependences.MemoryDependences.{MemoryDependences}
-use Rattle.iloc_addresses.specs.Steps.Dependences.{IsLast, IsStoreAt, IsWaiting, IsBefore, ArePlaced, AreFar, Finds, IsShort, constant_of, store_for, waiting_by}
 use Rattle.iloc_addresses.proofs.Bases.{both_flipped}
 use Rattle.iloc_addresses.proofs.ByConstants.{in_counted}
 use Rattle.iloc_addresses.proofs.LastOnes.{last_here, last_before}

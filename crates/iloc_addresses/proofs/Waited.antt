@@ -1,19 +1,7 @@
 -- Which kinds wait for which, and what takes the place of a store or an access; for `Sources`.
-use Rattle.std.proofs.Common.{◌≡◌, ℕ, ◌<◌, Bool, true, false, if◌then◌else◌, List, ◌⊎◌, inl, inr, refl, ap, sym, ◌∙◌, arith}
-use Rattle.std.specs.Prelude.{Contains, ◌&&◌, ◌||◌, not}
-use Rattle.std.proofs.lemmas.Bool.{or_cases, true≢false}
-use Rattle.iloc_ops.specs.declared.op.Op.{Op}
-use Rattle.iloc_meaning.specs.Trace.{op_at}
-use Rattle.iloc_timed.specs.declared.kind.Kind.{Kind}
+use Rattle.iloc_addresses.proofs.Common.{◌≡◌, ℕ, ◌<◌, Bool, true, false, not, ◌&&◌, ◌||◌, ◌⊎◌, List, if◌then◌else◌, Contains, sym, refl, ap, ◌∙◌, inl, inr, true≢false, arith, or_cases, Op, op_at, is_load, is_output, is_store, kind, latency, Kind, Latencies, contains_from, from_append, in_from, in_left, in_right, address_at, apart_if_both, by_address, keeps_order_where, memory_delays_where, reads_stored, when, takes_over}
 use Rattle.iloc_timed.specs.declared.kind.Kind.TheVariants as K
-use Rattle.iloc_timed.specs.declared.latencies.Latencies.{Latencies}
-use Rattle.iloc_timed.specs.Kinds.{kind, is_load, is_store, is_output}
-use Rattle.iloc_timed.specs.Latency.{latency}
-use Rattle.iloc_rules.specs.Apart.{address_at, apart_if_both, by_address}
-use Rattle.iloc_rules.specs.Delays.{reads_stored, keeps_order_where, memory_delays_where, when}
-use Rattle.iloc_rules.proofs.Basics.Members.{contains_from, in_from, in_left, in_right, from_append}
 use Rattle.iloc_rules.proofs.DelayPairs.DelayBounds.{in_when, from_when}
-use Rattle.iloc_addresses.specs.Near.{takes_over}
 use Rattle.iloc_addresses.specs.Dependences.{IsMemoryPair}
 
 -- whether the second kind waits for the first by memory or outputs, given whether the two count

@@ -1,3 +1,4 @@
+pub mod Common
 pub mod Basics
 pub mod Renamed
 pub mod DelayPairs

@@ -1,9 +1,5 @@
 -- How many numbers of a range pass a test, for the counts of `Heuristic`.
-use Rattle.std.proofs.Common.{◌≡◌, ℕ, zero, suc, ◌+◌, ◌<◌, ◌≤◌, Bool, false, cond, refl, ◌∙◌, ap, arith}
-use Rattle.std.specs.Prelude.{count_by}
-use Rattle.std.specs.List.{range_with_len}
-use Rattle.std.proofs.lemmas.List.Sums.{sum_by-cons, count_by-le-length}
-use Rattle.std.proofs.lemmas.List.FromFn.{length-range_with_len}
+use Rattle.iloc_rules.proofs.Common.{◌≡◌, ℕ, zero, suc, ◌+◌, ◌<◌, ◌≤◌, Bool, false, cond, count_by, refl, ap, ◌∙◌, arith, length-range_with_len, count_by-le-length, sum_by-cons, range_with_len}
 
 pub count_first : (p : ℕ → Bool) (a n : ℕ) → count_by p (range_with_len a (suc n))
     ≡ cond (p a) 1 0 + count_by p (range_with_len (suc a) n)

@@ -1,12 +1,7 @@
 -- The cycles of issue in rows that grow; for the schedule that is made row after row.
-use Rattle.std.proofs.Common.{◌≡◌, ℕ, ◌+◌, ◌<◌, ◌≤◌, zero, suc, List, [], ◌∷◌, ◌++◌, length, refl, sym, ◌∙◌, subst, arith, add-one}
+use Rattle.iloc_rules.proofs.Common.{◌≡◌, ℕ, zero, suc, ◌+◌, ◌<◌, ◌≤◌, List, [], ◌∷◌, ◌++◌, length, sym, refl, ◌∙◌, subst, add-one, arith, get_or_past, by_bool, empty_row, holds, issue_cycle, row_at, slots, times_issued, Row, In}
 use Rattle.std.proofs.Math.ListN.{get_or-append}
 use Rattle.std.proofs.Math.Seq.{get_or-append_seam}
-use Rattle.std.proofs.lemmas.List.{get_or_past}
-use Rattle.iloc_timed.specs.declared.row.Row.{Row}
-use Rattle.iloc_timed.specs.Rows.{empty_row, row_at, slots, holds, issue_cycle, times_issued}
-use Rattle.iloc_meaning.proofs.Cases.{by_bool}
-use Rattle.iloc_rules.specs.Steps.Members.{In}
 use Rattle.iloc_rules.proofs.Basics.Slots.{count_in, count_in_none, times_issued-cons, holds_from, from_holds}
 
 pub issue_cycle_within : (rows : List Row) (i : ℕ) → issue_cycle rows i ≤ length rows

@@ -1,9 +1,5 @@
 -- The greatest of some numbers; for priorities, cycles and bounds.
-use Rattle.std.proofs.Common.{◌≡◌, ℕ, ◌≤◌, List, [], ◌∷◌, ◌⊎◌, inl, inr, refl, arith}
-use Rattle.std.specs.Prelude.{max, fold}
-use Rattle.std.proofs.lemmas.Bool.{cases_lt}
-use Rattle.iloc_timed.proofs.Greatest.{le_fold_max}
-use Rattle.iloc_rules.specs.Steps.Members.{In}
+use Rattle.iloc_rules.proofs.Common.{◌≡◌, ℕ, ◌≤◌, max, ◌⊎◌, List, [], ◌∷◌, fold, refl, inl, inr, arith, cases_lt, le_fold_max, In}
 
 pub fold_max_each : (a : ℕ) (xs : List ℕ) (x : ℕ) → In xs x → x ≤ fold max a xs
 fold_max_each a [] x there = absurd there

@@ -1,9 +1,5 @@
 -- Members of lists, by recursion and by `Contains`, joined, mapped, filtered and searched; for the other proofs.
-use Rattle.std.proofs.Common.{◌≡◌, ℕ, ◌<◌, zero, suc, List, [], ◌∷◌, length, ◌⊎◌, inl, inr, arith, ◌+◌, ◌≤◌, Bool, true, false, ◌++◌, map, refl, ap, sym, ◌∙◌, get_or}
-use Rattle.std.specs.Prelude.{slice_index_or, Contains, filter}
-use Rattle.std.specs.List.{list_any, list_all, range_with_len}
-use Rattle.std.proofs.lemmas.Bool.{or_cases, and_cases, true≢false}
-use Rattle.iloc_rules.specs.Steps.Members.{In}
+use Rattle.iloc_rules.proofs.Common.{◌≡◌, ℕ, zero, suc, ◌+◌, ◌<◌, ◌≤◌, Bool, true, false, ◌⊎◌, List, [], ◌∷◌, ◌++◌, map, length, get_or, slice_index_or, Contains, filter, sym, refl, ap, ◌∙◌, inl, inr, true≢false, arith, and_cases, or_cases, list_all, list_any, range_with_len, In}
 
 pub contains_from : {X : Type 0} → (xs : List X) (x : X) → In xs x → Contains xs x
 contains_from [] x there = absurd there

@@ -1,9 +1,6 @@
 -- Lists in which a relation holds of each element and each later one; for `pairs` (`ordered`) and the order of issue.
-use Rattle.std.proofs.Common.{zero, suc, List, [], ◌∷◌, ◌++◌, map, get_or, arith, inr, ◌≡◌, Bool, Option, Some}
-use Rattle.std.specs.List.{AllPairs}
-use Rattle.iloc_rules.specs.Steps.Members.{In}
+use Rattle.iloc_rules.proofs.Common.{◌≡◌, zero, suc, Bool, List, [], ◌∷◌, ◌++◌, map, get_or, Some, filter, Option, option_to_list, AllPairs, inr, arith, In}
 use Rattle.iloc_rules.proofs.Basics.Members.{from_append, from_map, from_filter, in_at}
-use Rattle.std.specs.Prelude.{filter, option_to_list}
 
 -- R holds of each element and each later one
 abbrev pub Ordered : {X : Type 0} → (X → X → Type 0) → List X → Type 0

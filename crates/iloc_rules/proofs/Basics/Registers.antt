@@ -1,8 +1,5 @@
 -- Whether a register is the one that an operation defines; for the delays by uses.
-use Rattle.std.proofs.Common.{◌≡◌, true, Option, Some, refl, ap, ◌∙◌, arith}
-use Rattle.std.proofs.lemmas.Bool.{eq-eqb, eqb-true, false≢true}
-use Rattle.iloc_ops.specs.declared.op.Reg.{Reg}
-use Rattle.iloc_meaning.specs.Trace.{is_register}
+use Rattle.iloc_rules.proofs.Common.{◌≡◌, true, Some, Option, refl, ap, ◌∙◌, arith, eq-eqb, eqb-true, false≢true, Reg, is_register}
 
 pub is_register_same : (r : Reg) (o : Option Reg) → is_register r o ≡ true → o ≡ Some r
 is_register_same r o is = grind (arith, eqb-true, false≢true)

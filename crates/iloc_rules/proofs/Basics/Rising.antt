@@ -1,9 +1,5 @@
 -- Lists of numbers that rise or fall, and a search down from n; for the choice, and for look-ups in a log.
-use Rattle.std.proofs.Common.{◌≡◌, ℕ, ◌+◌, ◌<◌, zero, suc, Bool, true, false, List, [], ◌∷◌, Some, None, ◌⊎◌, inl, inr, refl, ap, sym, ◌∙◌, subst, arith}
-use Rattle.std.specs.Prelude.{find}
-use Rattle.std.specs.List.{range_with_len}
-use Rattle.std.proofs.lemmas.Bool.{cases_eq}
-use Rattle.iloc_rules.specs.Steps.Members.{In}
+use Rattle.iloc_rules.proofs.Common.{◌≡◌, ℕ, zero, suc, ◌+◌, ◌<◌, Bool, true, false, ◌⊎◌, List, [], ◌∷◌, Some, None, find, sym, refl, ap, ◌∙◌, subst, inl, inr, arith, cases_eq, range_with_len, In}
 use Rattle.iloc_rules.proofs.Basics.Members.{from_range}
 use Rattle.iloc_rules.proofs.Basics.Ordered.{Ordered}
 

@@ -1,14 +1,6 @@
 -- In which slots of a table its operations stand, each in one; for the laws on lawful schedules.
-use Rattle.std.proofs.Common.{◌≡◌, ℕ, ◌+◌, ◌<◌, ◌≤◌, zero, suc, Bool, true, false, cond, List, [], ◌∷◌, ◌++◌, length, Some, inl, inr, refl, ap, sym, ◌∙◌, subst, arith, add-one}
-use Rattle.std.specs.Prelude.{option_to_list, count_by, ◌==◌}
-use Rattle.std.proofs.lemmas.Bool.{cases_eq, eq-eqb, eqb-true}
-use Rattle.std.proofs.lemmas.List.Sums.{sum_by-cons}
-use Rattle.iloc_ops.specs.declared.op.Op.{Op}
-use Rattle.iloc_timed.specs.declared.row.Row.{Row}
-use Rattle.iloc_timed.specs.Rows.{row_at, slots, holds, issue_cycle, times_issued, IsTable}
+use Rattle.iloc_rules.proofs.Common.{◌≡◌, ℕ, zero, suc, ◌+◌, ◌<◌, ◌≤◌, Bool, true, false, cond, List, [], ◌∷◌, ◌++◌, length, ◌==◌, Some, count_by, option_to_list, sym, refl, ap, ◌∙◌, subst, inl, inr, add-one, arith, eq-eqb, eqb-true, cases_eq, sum_by-cons, Op, by_bool, IsTable, holds, issue_cycle, row_at, slots, times_issued, Row, In}
 use Rattle.iloc_timed.proofs.Counts.{count_by_some, count_by_none}
-use Rattle.iloc_meaning.proofs.Cases.{by_bool}
-use Rattle.iloc_rules.specs.Steps.Members.{In}
 use Rattle.iloc_rules.proofs.Basics.Members.{contains_from, from_append, in_left, in_right, any_at, from_any}
 use Rattle.iloc_rules.proofs.Basics.Ordered.{Ordered, ordered_append, ordered_pair}
 

@@ -1,22 +1,6 @@
 -- While one waits another is at work: `laws::latencies_bound_the_cycles`, `schedule` (`most`).
-use Rattle.std.proofs.Common.{◌≡◌, ℕ, ◌+◌, ◌<◌, ◌≤◌, zero, suc, Bool, true, false, List, [], ◌∷◌, map, length, ◌⊎◌, inl, inr, refl, ap, sym, ◌∙◌, subst, arith}
-use Rattle.std.specs.Prelude.{nat_le, sum_by}
-use Rattle.std.specs.List.{list_all, range_with_len}
-use Rattle.std.proofs.lemmas.Bool.{and_from, le-leb, leb-true, leb-false, true≢false, cases_eq}
-use Rattle.iloc_ops.specs.declared.op.Op.{Op}
-use Rattle.iloc_ops.specs.declared.op.Op.TheVariants.{Nop}
-use Rattle.iloc_meaning.specs.Trace.{op_at}
-use Rattle.iloc_timed.specs.declared.latencies.Latencies.{Latencies}
-use Rattle.iloc_timed.specs.declared.row.Row.{Row}
-use Rattle.iloc_timed.specs.Latency.{latency}
-use Rattle.iloc_timed.specs.Rows.{row_at, slots, issue_cycle}
+use Rattle.iloc_rules.proofs.Common.{◌≡◌, ℕ, zero, suc, ◌+◌, ◌<◌, ◌≤◌, Bool, true, false, ◌⊎◌, List, [], ◌∷◌, map, length, nat_le, sum_by, sym, refl, ap, ◌∙◌, subst, inl, inr, true≢false, arith, le-leb, leb-false, leb-true, and_from, cases_eq, list_all, range_with_len, Op, Nop, by_bool, op_at, some_latency, latency, issue_cycle, row_at, slots, Latencies, Row, Counts, all_count, delays_where, IsGreedy, IsGreedyBy, IsGreedyWhere, chosen, is_ready_where, ready_where, priorities, IsChosenSoFar, IsChosenWhere, In}
 use Rattle.iloc_timed.specs.Cycles.{cycles}
-use Rattle.iloc_meaning.proofs.Cases.{by_bool}
-use Rattle.iloc_rules.specs.Delays.{Counts, all_count, delays_where}
-use Rattle.iloc_rules.specs.Priority.{priorities}
-use Rattle.iloc_rules.specs.Greedy.{is_ready_where, ready_where, chosen, IsGreedy, IsGreedyBy, IsGreedyWhere}
-use Rattle.iloc_rules.specs.Steps.Choosing.{IsChosenWhere, IsChosenSoFar}
-use Rattle.iloc_rules.specs.Steps.Members.{In}
 use Rattle.iloc_rules.proofs.Basics.Members.{contains_from, not_all, in_filter, from_map, in_range_from, from_range}
 use Rattle.iloc_rules.proofs.Basics.Maxima.{fold_max_reached}
 use Rattle.iloc_rules.proofs.Basics.Slots.{issued_within}
@@ -26,7 +10,6 @@ use Rattle.iloc_rules.proofs.Choice.Ready.{is_over, all_over_where, IsReadyWhere
 use Rattle.iloc_rules.proofs.Choice.ChosenRows.{chosen_some}
 use Rattle.iloc_rules.proofs.Choice.RowAfterRow.{was_ready}
 use Rattle.iloc_rules.proofs.Bounds.CoveredCycles.{Covered, covered_sum, sum_by_numbers}
-use Rattle.iloc_timed.proofs.WholeRuns.{some_latency}
 
 -- the lowest number below n that passes
 record IsLowest (p : ℕ → Bool) (n : ℕ) : Type 0 where

@@ -1,11 +1,6 @@
 -- Intervals that cover all cycles below n have n cycles at least; for `laws::latencies_bound_the_cycles`.
-use Rattle.std.proofs.Common.{◌≡◌, ℕ, ◌+◌, ◌-◌, ◌<◌, ◌≤◌, zero, suc, min, List, [], ◌∷◌, map, length, inl, inr, refl, ap, sym, ◌∙◌, arith}
-use Rattle.std.specs.Prelude.{sum_by, slice_index_or}
-use Rattle.std.specs.List.{range_with_len}
-use Rattle.std.proofs.lemmas.List.FromFn.{fill_by_all}
+use Rattle.iloc_rules.proofs.Common.{◌≡◌, ℕ, zero, suc, ◌+◌, ◌-◌, ◌<◌, ◌≤◌, min, List, [], ◌∷◌, map, length, slice_index_or, sum_by, sym, refl, ap, ◌∙◌, inl, inr, arith, fill_by_all, sum_by-cons, sum_by-le-sum_by, range_with_len, In}
 use Rattle.std.proofs.lemmas.List.Folds.{fold-map}
-use Rattle.std.proofs.lemmas.List.Sums.{sum_by-cons, sum_by-le-sum_by}
-use Rattle.iloc_rules.specs.Steps.Members.{In}
 use Rattle.iloc_rules.proofs.Basics.Members.{in_range_from}
 
 -- a sum grows where one of its terms does and none falls

@@ -1,17 +1,7 @@
 -- Issue and priority are at most the cycles: `laws::priorities_bound_the_cycles`, `schedule` (`least`).
-use Rattle.std.proofs.Common.{ℕ, ◌+◌, ◌-◌, ◌<◌, ◌≤◌, List, length, arith}
-use Rattle.iloc_ops.specs.declared.op.Op.{Op}
-use Rattle.iloc_timed.specs.declared.latencies.Latencies.{Latencies}
-use Rattle.iloc_timed.specs.declared.row.Row.{Row}
-use Rattle.iloc_timed.specs.Rows.{issue_cycle}
+use Rattle.iloc_rules.proofs.Common.{ℕ, ◌+◌, ◌-◌, ◌<◌, ◌≤◌, List, length, arith, Op, issue_cycle, Latencies, Row, by_address, Counts, priority, priority_where, counts_by, priority_under, MemoryRule, Address, Book}
 use Rattle.iloc_timed.specs.Cycles.{cycles}
 use Rattle.iloc_timed.proofs.Arrivals.{arrival_le_cycles}
-use Rattle.iloc_rules.specs.declared.memory_rule.MemoryRule.{MemoryRule}
-use Rattle.iloc_rules.specs.declared.memory_rule.MemoryRule.TheVariants.{Book, Address}
-use Rattle.iloc_rules.specs.Apart.{by_address}
-use Rattle.iloc_rules.specs.Delays.{Counts}
-use Rattle.iloc_rules.specs.Priority.{priority, priority_where}
-use Rattle.iloc_rules.specs.Rule.{counts_by, priority_under}
 use Rattle.iloc_rules.proofs.DelayPairs.WaitedFor.{WaitsWhere, Waits}
 use Rattle.iloc_rules.proofs.PriorityValues.Longest.{priority_least}
 use Rattle.iloc_rules.proofs.PriorityValues.LongestWhere.{priority_least_where}

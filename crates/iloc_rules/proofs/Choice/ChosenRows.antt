@@ -1,16 +1,6 @@
 -- What the choice puts into a row: ready operations, by the rules of the units; for `laws::one_greedy_schedule`.
-use Rattle.std.proofs.Common.{arith, ap, ◌∙◌, sym, refl, inl, inr, ◌≡◌, ◌≢◌, ℕ, Bool, true, false, ◌||◌, ◌&&◌, not, List, [], ◌∷◌, ◌++◌, Option, Some, None, ◌⊎◌}
-use Rattle.std.specs.Prelude.{filter, ◌==◌, count_by, option_to_list}
-use Rattle.std.proofs.lemmas.Bool.{and_parts, eq-eqb, ne_eqb, eqb-false, not-true, true≢false, cond_both}
-use Rattle.iloc_ops.specs.declared.op.Op.{Op}
-use Rattle.iloc_meaning.specs.Trace.{op_at}
-use Rattle.iloc_timed.specs.declared.kind.Kind.{Kind}
+use Rattle.iloc_rules.proofs.Common.{◌≡◌, ℕ, Bool, true, false, not, ◌&&◌, ◌||◌, ◌≢◌, ◌⊎◌, List, [], ◌∷◌, ◌++◌, ◌==◌, Some, None, count_by, filter, Option, option_to_list, sym, refl, ap, ◌∙◌, inl, inr, true≢false, arith, eq-eqb, ne_eqb, and_parts, cond_both, eqb-false, not-true, Op, op_at, is_memory, is_mult, is_output, kind, is_some_kind, keeps_units, slots, Kind, Row, chosen, chosen_with, first_of_all, may_stand_beside, on_units, In}
 use Rattle.iloc_timed.specs.declared.kind.Kind.TheVariants as K
-use Rattle.iloc_timed.specs.declared.row.Row.{Row}
-use Rattle.iloc_timed.specs.Kinds.{kind, is_mult, is_memory, is_output}
-use Rattle.iloc_timed.specs.Rows.{slots, is_some_kind, keeps_units}
-use Rattle.iloc_rules.specs.Greedy.{first_of_all, may_stand_beside, on_units, chosen_with, chosen}
-use Rattle.iloc_rules.specs.Steps.Members.{In}
 use Rattle.iloc_rules.proofs.Basics.Members.{from_append, from_filter}
 use Rattle.iloc_rules.proofs.Basics.Slots.{count_in}
 use Rattle.iloc_rules.proofs.Choice.FirstOfAll.{first_in, first_some}

@@ -1,10 +1,5 @@
 -- The first of all candidates goes before each of them; for `schedule` (`greedy`).
-use Rattle.std.proofs.Common.{◌≡◌, ℕ, ◌<◌, ◌≤◌, List, [], ◌∷◌, Option, Some, None, ◌⊎◌, inl, inr, refl, ap, sym, ◌∙◌, subst, arith}
-use Rattle.std.proofs.lemmas.Bool.{ltb-true, ltb-false}
-use Rattle.std.proofs.lemmas.Option.{none-some, same_Some}
-use Rattle.iloc_rules.specs.Greedy.{better, first_of_all}
-use Rattle.iloc_rules.specs.Steps.Choosing.{GoesBefore}
-use Rattle.iloc_rules.specs.Steps.Members.{In}
+use Rattle.iloc_rules.proofs.Common.{◌≡◌, ℕ, ◌<◌, ◌≤◌, ◌⊎◌, List, [], ◌∷◌, Some, None, Option, sym, refl, ap, ◌∙◌, subst, inl, inr, arith, ltb-false, ltb-true, none-some, same_Some, better, first_of_all, GoesBefore, In}
 use Rattle.iloc_rules.proofs.Basics.Members.{empty_from}
 use Rattle.iloc_rules.proofs.Basics.Rising.{Rises}
 

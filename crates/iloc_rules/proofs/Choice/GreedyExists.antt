@@ -1,20 +1,5 @@
 -- Each block has a greedy schedule, since choosing rows ends: `laws::one_greedy_schedule` (`exists`).
-use Rattle.std.proofs.Common.{◌≡◌, ◌≢◌, ℕ, ◌+◌, ◌<◌, ◌≤◌, zero, suc, List, [], ◌∷◌, ◌++◌, length, ◌⊎◌, inl, inr, refl, arith}
-use Rattle.std.specs.Prelude.{nat_lt, sum_by}
-use Rattle.std.specs.List.{list_all, range_with_len}
-use Rattle.std.proofs.lemmas.Bool.{ltb-true, ltb-false}
-use Rattle.std.proofs.lemmas.List.{length_push}
-use Rattle.iloc_ops.specs.declared.op.Op.{Op}
-use Rattle.iloc_timed.specs.declared.latencies.Latencies.{Latencies}
-use Rattle.iloc_timed.specs.declared.row.Row.{Row}
-use Rattle.iloc_timed.specs.Latency.{latency}
-use Rattle.iloc_timed.specs.Rows.{row_at, slots, issue_cycle}
-use Rattle.iloc_meaning.proofs.Cases.{by_bool}
-use Rattle.iloc_rules.specs.Renaming.{renamed}
-use Rattle.iloc_rules.specs.Priority.{priorities}
-use Rattle.iloc_rules.specs.Delays.{Counts, all_count}
-use Rattle.iloc_rules.specs.Greedy.{ready_where, chosen, IsGreedy, IsGreedyBy, IsGreedyWhere}
-use Rattle.iloc_rules.specs.Steps.Choosing.{IsChosenWhere}
+use Rattle.iloc_rules.proofs.Common.{◌≡◌, ℕ, zero, suc, ◌+◌, ◌<◌, ◌≤◌, ◌≢◌, ◌⊎◌, List, [], ◌∷◌, ◌++◌, length, nat_lt, sum_by, refl, inl, inr, arith, ltb-false, ltb-true, length_push, list_all, range_with_len, Op, by_bool, latency, issue_cycle, row_at, slots, Latencies, Row, Counts, all_count, IsGreedy, IsGreedyBy, IsGreedyWhere, chosen, ready_where, priorities, renamed, IsChosenWhere}
 use Rattle.iloc_rules.proofs.Basics.Members.{from_all, not_all, in_range_from, from_range}
 use Rattle.iloc_rules.proofs.Basics.Slots.{stands_there}
 use Rattle.iloc_rules.proofs.Choice.RowAfterRow.{chosen_more_where, chosen_is_greedy_where}

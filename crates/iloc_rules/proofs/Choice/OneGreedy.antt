@@ -1,15 +1,5 @@
 -- Two greedy schedules of a block are equal: `laws::one_greedy_schedule` (`same`), `schedule` (`only`).
-use Rattle.std.proofs.Common.{◌≡◌, ℕ, ◌+◌, ◌-◌, ◌<◌, ◌≤◌, zero, suc, false, List, [], ◌∷◌, length, ◌⊎◌, inl, inr, ap, sym, ◌∙◌, arith}
-use Rattle.std.proofs.lemmas.Bool.{cases_order}
-use Rattle.std.proofs.lemmas.List.{ext_get_or}
-use Rattle.iloc_ops.specs.declared.op.Op.{Op}
-use Rattle.iloc_timed.specs.declared.latencies.Latencies.{Latencies}
-use Rattle.iloc_timed.specs.declared.row.Row.{Row}
-use Rattle.iloc_timed.specs.Rows.{empty_row, row_at, slots, holds, issue_cycle}
-use Rattle.iloc_meaning.proofs.Cases.{by_bool}
-use Rattle.iloc_rules.specs.Priority.{priorities}
-use Rattle.iloc_rules.specs.Delays.{Counts, all_count}
-use Rattle.iloc_rules.specs.Greedy.{IsGreedyWhere, IsGreedy, IsGreedyBy}
+use Rattle.iloc_rules.proofs.Common.{◌≡◌, ℕ, zero, suc, ◌+◌, ◌-◌, ◌<◌, ◌≤◌, false, ◌⊎◌, List, [], ◌∷◌, length, sym, ap, ◌∙◌, inl, inr, arith, ext_get_or, cases_order, Op, by_bool, empty_row, holds, issue_cycle, row_at, slots, Latencies, Row, Counts, all_count, IsGreedy, IsGreedyBy, IsGreedyWhere, priorities}
 use Rattle.iloc_rules.proofs.Basics.Members.{empty_from}
 use Rattle.iloc_rules.proofs.Basics.Slots.{issued_within}
 use Rattle.iloc_rules.proofs.Choice.Ready.{SameBelow, ready_same}

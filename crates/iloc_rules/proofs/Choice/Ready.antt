@@ -1,17 +1,6 @@
 -- Which operations are ready, by the rows below; for `laws::one_greedy_schedule` and `schedule` (`greedy`).
-use Rattle.std.proofs.Common.{◌≡◌, ℕ, ◌+◌, ◌<◌, ◌≤◌, Bool, ◌&&◌, List, [], ◌∷◌, ◌++◌, length, ◌⊎◌, inl, inr, refl, ap, sym, ◌∙◌, subst, arith}
-use Rattle.std.specs.Prelude.{nat_le}
-use Rattle.std.specs.List.{list_all, range_with_len}
-use Rattle.std.proofs.lemmas.Bool.{and_parts, and_from, leb-true, le-leb, lt-leb, cases_lt}
+use Rattle.iloc_rules.proofs.Common.{◌≡◌, ℕ, ◌+◌, ◌<◌, ◌≤◌, Bool, ◌&&◌, ◌⊎◌, List, [], ◌∷◌, ◌++◌, length, nat_le, sym, refl, ap, ◌∙◌, subst, inl, inr, arith, le-leb, leb-true, and_from, and_parts, cases_lt, lt-leb, list_all, range_with_len, Op, op_at, issue_cycle, Latencies, Row, Counts, IsDelayPairWhere, all_count, delays_where, is_ready_where, ready, ready_where, In}
 use Rattle.std.proofs.lemmas.List.Elements.{filter_agree}
-use Rattle.iloc_ops.specs.declared.op.Op.{Op}
-use Rattle.iloc_meaning.specs.Trace.{op_at}
-use Rattle.iloc_timed.specs.declared.latencies.Latencies.{Latencies}
-use Rattle.iloc_timed.specs.declared.row.Row.{Row}
-use Rattle.iloc_timed.specs.Rows.{issue_cycle}
-use Rattle.iloc_rules.specs.Delays.{Counts, all_count, delays_where, IsDelayPairWhere}
-use Rattle.iloc_rules.specs.Greedy.{is_ready_where, ready_where, ready}
-use Rattle.iloc_rules.specs.Steps.Members.{In}
 use Rattle.iloc_rules.proofs.Basics.Members.{contains_from, in_from, in_filter, from_filter, all_from, from_all, in_range_from, from_range}
 use Rattle.iloc_rules.proofs.Basics.Ordered.{ordered_filter}
 use Rattle.iloc_rules.proofs.Basics.Rising.{Rises, rises_range}

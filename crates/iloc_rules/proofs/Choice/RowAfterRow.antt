@@ -1,17 +1,5 @@
 -- Rows that are chosen one after another are lawful and greedy at their end; for `schedule` (`greedy`).
-use Rattle.std.proofs.Common.{◌≡◌, ◌≢◌, ℕ, ◌+◌, ◌<◌, ◌≤◌, List, [], ◌∷◌, ◌++◌, length, inl, inr, ap, ◌∙◌, arith}
-use Rattle.std.specs.Prelude.{IsTrue}
-use Rattle.std.proofs.lemmas.Bool.{cases_lt}
-use Rattle.std.proofs.lemmas.List.{length_push}
-use Rattle.iloc_ops.specs.declared.op.Op.{Op}
-use Rattle.iloc_timed.specs.declared.latencies.Latencies.{Latencies}
-use Rattle.iloc_timed.specs.declared.row.Row.{Row}
-use Rattle.iloc_timed.specs.Rows.{row_at, slots, issue_cycle, times_issued, keeps_units, IsTable}
-use Rattle.iloc_rules.specs.Renaming.{renamed}
-use Rattle.iloc_rules.specs.Delays.{Counts, all_count}
-use Rattle.iloc_rules.specs.Greedy.{ready_where, ready, chosen, IsGreedyWhere, IsGreedyBy}
-use Rattle.iloc_rules.specs.Steps.Choosing.{IsChosenWhere, IsChosenSoFar}
-use Rattle.iloc_rules.specs.Steps.Members.{In}
+use Rattle.iloc_rules.proofs.Common.{◌≡◌, ℕ, ◌+◌, ◌<◌, ◌≤◌, ◌≢◌, List, [], ◌∷◌, ◌++◌, length, IsTrue, ap, ◌∙◌, inl, inr, arith, cases_lt, length_push, Op, IsTable, issue_cycle, keeps_units, row_at, slots, times_issued, Latencies, Row, Counts, all_count, IsGreedyBy, IsGreedyWhere, chosen, ready, ready_where, renamed, IsChosenSoFar, IsChosenWhere, In}
 use Rattle.iloc_rules.proofs.Basics.Members.{in_from}
 use Rattle.iloc_rules.proofs.Basics.Slots.{count_in, stands_there}
 use Rattle.iloc_rules.proofs.Basics.IssueCycles.{row_at_more, row_at_last, row_at_past, times_one}

@@ -1,15 +1,6 @@
 -- A delay is the latency of the earlier operation or 1; for priorities, bounds and the kept edges.
-use Rattle.std.proofs.Common.{◌≡◌, ℕ, ◌≤◌, Bool, true, List, ◌⊎◌, inl, refl, arith, ◌++◌}
-use Rattle.std.specs.Prelude.{Contains}
-use Rattle.iloc_ops.specs.declared.op.Op.{Op}
-use Rattle.iloc_timed.specs.declared.kind.Kind.{Kind}
-use Rattle.iloc_timed.specs.declared.latencies.Latencies.{Latencies}
-use Rattle.iloc_timed.specs.Kinds.{kind}
-use Rattle.iloc_timed.specs.Latency.{latency, latency_of}
-use Rattle.iloc_rules.specs.Delays.{reads_stored, keeps_order, when, delays_where, delays}
-use Rattle.iloc_rules.specs.Steps.Members.{In}
+use Rattle.iloc_rules.proofs.Common.{◌≡◌, ℕ, ◌≤◌, Bool, true, ◌⊎◌, List, ◌++◌, Contains, refl, inl, arith, Op, short_latency, some_latency, kind, latency, latency_of, Kind, Latencies, delays, delays_where, keeps_order, reads_stored, when, In}
 use Rattle.iloc_rules.proofs.Basics.Members.{in_from, from_append}
-use Rattle.iloc_timed.proofs.WholeRuns.{some_latency, short_latency}
 
 -- the delays by memory and outputs, from kind to kind
 abbrev pub kind_delays : Latencies → Kind → Kind → List ℕ

@@ -1,16 +1,6 @@
 -- Where fewer count there are fewer delays: `laws::fewer_count_more_is_lawful`.
-use Rattle.std.proofs.Common.{◌≡◌, ℕ, ◌≤◌, Bool, true, false, List, ◌&&◌, inl, inr, refl}
-use Rattle.std.specs.Prelude.{Contains}
-use Rattle.std.proofs.lemmas.Bool.{and_from, and_parts, or_right}
-use Rattle.iloc_ops.specs.declared.op.Op.{Op}
-use Rattle.iloc_meaning.specs.Trace.{op_at}
-use Rattle.iloc_timed.specs.declared.latencies.Latencies.{Latencies}
-use Rattle.iloc_timed.specs.declared.row.Row.{Row}
-use Rattle.iloc_timed.specs.Kinds.{kind, is_output}
-use Rattle.iloc_timed.specs.Latency.{latency}
-use Rattle.iloc_rules.specs.Delays.{Counts, uses_result, reads_stored, keeps_order, keeps_order_where, when, memory_delays_where, delays_where, delays}
+use Rattle.iloc_rules.proofs.Common.{◌≡◌, ℕ, ◌≤◌, Bool, true, false, ◌&&◌, List, Contains, refl, inl, inr, and_from, and_parts, or_right, Op, op_at, is_output, kind, latency, Latencies, Row, Counts, delays, delays_where, keeps_order, keeps_order_where, memory_delays_where, reads_stored, uses_result, when, In}
 use Rattle.iloc_rules.specs.Lawful.{IsLawfulWhere}
-use Rattle.iloc_rules.specs.Steps.Members.{In}
 use Rattle.iloc_rules.proofs.Basics.Members.{in_from, contains_from, in_left, in_right, from_append}
 use Rattle.iloc_rules.proofs.DelayPairs.DelayBounds.{in_when, from_when, delay_at_least, delay_at_most}
 

@@ -1,17 +1,6 @@
 -- The list of delay pairs has exactly the delay pairs, in order: `pairs` (`list`, `exact`, `ordered`).
-use Rattle.std.proofs.Common.{◌≡◌, ℕ, zero, suc, ◌+◌, ◌<◌, List, ◌++◌, length, get_or, refl, ap, ◌∙◌, arith, inl, inr, ◌↔◌, append_assoc, add-one}
-use Rattle.std.specs.Prelude.{Contains}
-use Rattle.std.specs.List.{AllPairs}
-use Rattle.std.proofs.lemmas.Bool.{cases_eq}
-use Rattle.std.proofs.lemmas.List.{get_or_default}
-use Rattle.iloc_ops.specs.declared.op.Op.{Op}
-use Rattle.iloc_ops.specs.declared.op.Op.TheVariants.{Nop}
-use Rattle.iloc_meaning.specs.Trace.{op_at}
-use Rattle.iloc_timed.specs.declared.latencies.Latencies.{Latencies}
+use Rattle.iloc_rules.proofs.Common.{◌≡◌, ℕ, zero, suc, ◌+◌, ◌<◌, ◌↔◌, List, ◌++◌, length, get_or, Contains, AllPairs, refl, ap, ◌∙◌, inl, inr, append_assoc, add-one, arith, cases_eq, get_or_default, Op, Nop, op_at, Latencies, IsDelayPair, delays, ComesBefore, pairs, pairs_before, pairs_from, rising, with_delays, In}
 use Rattle.iloc_rules.specs.declared.delay_pairs.Pair.{Pair}
-use Rattle.iloc_rules.specs.Delays.{delays, IsDelayPair}
-use Rattle.iloc_rules.specs.Pairs.{ComesBefore, rising, with_delays, pairs_from, pairs_before, pairs}
-use Rattle.iloc_rules.specs.Steps.Members.{In}
 use Rattle.iloc_rules.proofs.Basics.Members.{in_from, contains_from, in_left, in_right, in_map, from_append, from_map}
 use Rattle.iloc_rules.proofs.Basics.Ordered.{Ordered, all_pairs, ordered_append, ordered_map}
 use Rattle.iloc_rules.proofs.DelayPairs.RisingDelays.{Below, rising_ordered, from_rising, in_rising}

@@ -1,8 +1,6 @@
 -- Whether an operation puts a delay on another; for `puts_delay`.
-use Rattle.std.proofs.Common.{arith, ◌≡◌, ◌==◌, ◌&&◌, ◌||◌, ℕ, Bool, ◌++◌}
+use Rattle.iloc_rules.proofs.Common.{◌≡◌, ℕ, Bool, ◌&&◌, ◌||◌, ◌++◌, ◌==◌, arith, list_any, when}
 use Rattle.std.proofs.Math.Bool.{or-false, or_comm}
-use Rattle.std.specs.List.{list_any}
-use Rattle.iloc_rules.specs.Delays.{when}
 
 gathered : (uses reads own rest : Bool)
     → ((uses && own) || ((reads && own) || rest)) ≡ ((own && (reads || uses)) || rest)

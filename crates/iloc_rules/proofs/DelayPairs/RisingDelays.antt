@@ -1,8 +1,6 @@
 -- The delays of two operations in order, each once; for `pairs` (`exact`, `ordered`).
-use Rattle.std.proofs.Common.{◌≡◌, ℕ, ◌<◌, ◌⊎◌, List, [], ◌∷◌, refl, arith, inl, inr}
+use Rattle.iloc_rules.proofs.Common.{◌≡◌, ℕ, ◌<◌, ◌⊎◌, List, [], ◌∷◌, refl, inl, inr, arith, rising, with_delay, In}
 use Rattle.std.proofs.lemmas.Bool.Decides.{nat_tests}
-use Rattle.iloc_rules.specs.Pairs.{with_delay, rising}
-use Rattle.iloc_rules.specs.Steps.Members.{In}
 use Rattle.iloc_rules.proofs.Basics.Ordered.{Ordered}
 
 -- what stands in a list with one more delay

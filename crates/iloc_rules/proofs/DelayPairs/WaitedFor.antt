@@ -1,18 +1,5 @@
 -- What arrives in time where each delay is waited for; for `laws::lawful_schedules_keep_the_outcome`.
-use Rattle.std.proofs.Common.{◌≡◌, ℕ, ◌+◌, ◌<◌, ◌≤◌, Bool, true, List, length, Some, refl, arith}
-use Rattle.std.proofs.lemmas.Bool.{and_from, or_right, false≢true}
-use Rattle.iloc_ops.specs.declared.op.Reg.{Reg}
-use Rattle.iloc_ops.specs.declared.op.Op.{Op}
-use Rattle.iloc_ops.specs.Registers.{used, defined}
-use Rattle.iloc_meaning.specs.Trace.{op_at, is_register}
-use Rattle.iloc_timed.specs.declared.kind.Kind.{Kind}
-use Rattle.iloc_timed.specs.declared.latencies.Latencies.{Latencies}
-use Rattle.iloc_timed.specs.declared.row.Row.{Row}
-use Rattle.iloc_timed.specs.Kinds.{kind, is_store, is_output}
-use Rattle.iloc_timed.specs.Latency.{latency}
-use Rattle.iloc_timed.specs.Rows.{issue_cycle}
-use Rattle.iloc_rules.specs.Delays.{Counts, all_count, uses_result, keeps_order_where, keeps_order, when, memory_delays_where, delays_where, IsDelayPairWhere}
-use Rattle.iloc_rules.specs.Steps.Members.{In}
+use Rattle.iloc_rules.proofs.Common.{◌≡◌, ℕ, ◌+◌, ◌<◌, ◌≤◌, Bool, true, List, length, Some, refl, arith, and_from, false≢true, or_right, defined, used, Op, Reg, is_register, op_at, is_output, is_store, kind, latency, issue_cycle, Kind, Latencies, Row, Counts, IsDelayPairWhere, all_count, delays_where, keeps_order, keeps_order_where, memory_delays_where, uses_result, when, In}
 use Rattle.iloc_rules.proofs.Basics.Members.{contains_from, in_left, in_right, any_at}
 use Rattle.iloc_rules.proofs.Outcome.UsedEffects.{reads_memory}
 use Rattle.iloc_rules.proofs.DelayPairs.DelayBounds.{in_when}

@@ -1,24 +1,11 @@
 -- Operations whose addresses are apart never meet; for `laws::apart_schedules_keep_the_outcome`.
-use Rattle.std.proofs.Common.{◌≡◌, ℕ, false, ℤ, pos, negsuc, List, Option, Some, None, refl, ap, sym, ◌∙◌, arith}
-use Rattle.std.specs.Prelude.{◌+ℤ◌, not, ◌==◌}
-use Rattle.std.specs.Int.{w32}
-use Rattle.std.specs.Ordering.{int_eq}
+use Rattle.iloc_rules.proofs.Common.{◌≡◌, ℕ, false, not, List, ℤ, pos, negsuc, ◌+ℤ◌, ◌==◌, Some, None, Option, int_eq, sym, refl, ap, ◌∙◌, arith, w32, eqb-true, none-some, Op, Load, LoadAI, Output, Store, StoreAI, Reg, by_bool, constant, wrapped, before, op_at, register_after, address_at, address_of, apart_if_both, are_apart, known_before, unless_apart, IsSound, touched}
 use Rattle.std.proofs.Math.IntN.{neg_ℤ}
-use Rattle.std.proofs.lemmas.Bool.{eqb-true}
-use Rattle.std.proofs.lemmas.Option.{none-some}
 use Rattle.std.proofs.lemmas.Bool.Decides.{Decides-int_eq}
 use Rattle.std.proofs.lemmas.Int.{ints, int_wrap-add_same}
-use Rattle.iloc_ops.specs.declared.op.Reg.{Reg}
-use Rattle.iloc_ops.specs.declared.op.Op.{Op}
-use Rattle.iloc_ops.specs.declared.op.Op.TheVariants.{Load, LoadAI, Store, StoreAI, Output}
 use Rattle.iloc_meaning.specs.Address.{good_address}
-use Rattle.iloc_meaning.specs.Arithmetic.{wrapped, constant}
-use Rattle.iloc_meaning.specs.Trace.{op_at, register_after, before}
-use Rattle.iloc_meaning.proofs.Cases.{by_bool}
-use Rattle.iloc_rules.specs.Sound.{touched, IsSound}
 use Rattle.iloc_rules.specs.declared.word.Word.{Word}
 use Rattle.iloc_rules.specs.declared.word.Word.TheVariants.{Known, Based}
-use Rattle.iloc_rules.specs.Apart.{known_before, address_of, address_at, are_apart, apart_if_both, unless_apart}
 use Rattle.iloc_rules.proofs.Outcome.KnownWords.{Means, plus_means, results, known_means}
 
 good_is : (z : ℤ) (a : ℕ) → good_address z ≡ Some a → z ≡ pos a

@@ -1,13 +1,6 @@
 -- An example: what is dropped, and that dropping all isn't sound.
-use Rattle.std.proofs.Common.{◌≡◌, ℕ, true, false, List, [], ◌∷◌, refl, arith}
-use Rattle.std.proofs.lemmas.Bool.{false≢true}
+use Rattle.iloc_rules.proofs.Common.{◌≡◌, ℕ, true, false, List, [], ◌∷◌, refl, arith, false≢true, Op, AddI, Load, LoadI, Store, Reg, unless_apart, Counts, IsSound}
 use Rattle.std.specs.Int.{int_wrap}
-use Rattle.iloc_ops.specs.declared.op.Op.{Op}
-use Rattle.iloc_ops.specs.declared.op.Op.TheVariants.{LoadI, Load, Store, AddI}
-use Rattle.iloc_ops.specs.declared.op.Reg.{Reg}
-use Rattle.iloc_rules.specs.Apart.{unless_apart}
-use Rattle.iloc_rules.specs.Sound.{IsSound}
-use Rattle.iloc_rules.specs.Delays.{Counts}
 
 r : ℕ → Reg
 r n = record { 0 = n }

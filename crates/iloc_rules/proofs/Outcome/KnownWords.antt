@@ -1,21 +1,9 @@
 -- What is known of a register is so in every run in order; for `ApartAddresses`.
-use Rattle.std.proofs.Common.{◌≡◌, ℕ, zero, suc, ℤ, List, refl, ap, sym, ◌∙◌, arith}
-use Rattle.std.specs.Prelude.{◌+ℤ◌, ◌-ℤ◌, ◌*ℤ◌, ◌==◌}
-use Rattle.std.specs.Int.{w32}
+use Rattle.iloc_rules.proofs.Common.{◌≡◌, ℕ, zero, suc, List, ℤ, ◌+ℤ◌, ◌-ℤ◌, ◌*ℤ◌, ◌==◌, sym, refl, ap, ◌∙◌, arith, w32, eqb-true, defined, Op, Add, AddI, LoadI, Lshift, LshiftI, Mult, MultI, Rshift, RshiftI, Sub, SubI, Reg, by_bool, constant, shifted_left, shifted_right, wrapped, effect, before, is_register, op_at, register_after, result_of, word_after, difference, folded, known_before, own, plus, result_word, sum}
 use Rattle.std.proofs.Math.IntN.{neg_ℤ, +ℤ_comm, +ℤ_assoc, +ℤ_idr}
-use Rattle.std.proofs.lemmas.Bool.{eqb-true}
 use Rattle.std.proofs.lemmas.Int.{ints, SFits-int_wrap, int_wrap_fits, int_wrap-add_same, int_wrap-add_right, int_wrap-sub_right}
-use Rattle.iloc_ops.specs.declared.op.Reg.{Reg}
-use Rattle.iloc_ops.specs.declared.op.Op.{Op}
-use Rattle.iloc_ops.specs.declared.op.Op.TheVariants.{LoadI, Add, Sub, Mult, Lshift, Rshift, AddI, SubI, MultI, LshiftI, RshiftI}
-use Rattle.iloc_ops.specs.Registers.{defined}
-use Rattle.iloc_meaning.specs.Arithmetic.{wrapped, constant, shifted_left, shifted_right}
-use Rattle.iloc_meaning.specs.Effect.{effect}
-use Rattle.iloc_meaning.specs.Trace.{result_of, op_at, is_register, register_after, word_after, before}
-use Rattle.iloc_meaning.proofs.Cases.{by_bool}
 use Rattle.iloc_rules.specs.declared.word.Word.{Word}
 use Rattle.iloc_rules.specs.declared.word.Word.TheVariants.{Known, Based}
-use Rattle.iloc_rules.specs.Apart.{own, plus, sum, difference, folded, result_word, known_before}
 
 -- a value is what is known of it, by the results of the operations
 abbrev pub Means : (ℕ → ℤ) → ℤ → Word → Type 0

@@ -1,18 +1,6 @@
 -- A lawful schedule has its block's outcome: `laws::lawful_schedules_keep_the_outcome`, `schedule` (`outcome`).
-use Rattle.std.proofs.Common.{◌≡◌, ℕ, true, List, ℤ, refl, ap, ◌∙◌}
-use Rattle.std.proofs.lemmas.Bool.{or_right}
-use Rattle.iloc_ops.specs.declared.op.Op.{Op}
-use Rattle.iloc_meaning.specs.Outcome.{outcome}
-use Rattle.iloc_timed.specs.declared.latencies.Latencies.{Latencies}
-use Rattle.iloc_timed.specs.declared.row.Row.{Row}
-use Rattle.iloc_timed.specs.Timed.{timed_outcome}
-use Rattle.iloc_rules.specs.declared.memory_rule.MemoryRule.{MemoryRule}
-use Rattle.iloc_rules.specs.declared.memory_rule.MemoryRule.TheVariants.{Book, Address}
-use Rattle.iloc_rules.specs.Delays.{Counts, all_count}
+use Rattle.iloc_rules.proofs.Common.{◌≡◌, ℕ, true, List, ℤ, refl, ap, ◌∙◌, or_right, Op, outcome, timed_outcome, Latencies, Row, by_address, unless_apart, Counts, all_count, counts_by, IsSound, MemoryRule, Address, Book}
 use Rattle.iloc_rules.specs.Lawful.{IsLawfulWhere, IsLawful}
-use Rattle.iloc_rules.specs.Sound.{IsSound}
-use Rattle.iloc_rules.specs.Apart.{unless_apart, by_address}
-use Rattle.iloc_rules.specs.Rule.{counts_by}
 use Rattle.iloc_rules.proofs.Renamed.RenamedBlocks.{renamed_is_renamed, renaming_keeps_the_outcome}
 use Rattle.iloc_rules.proofs.Outcome.TimedOutcomes.{timed_is_plain}
 use Rattle.iloc_rules.proofs.Outcome.ApartAddresses.{unless_apart_is_sound}

@@ -1,12 +1,5 @@
 -- The last in order of due cycles and in program order are one, where the orders agree; for `TimedOutcomes`.
-use Rattle.std.proofs.Common.{◌≡◌, ℕ, ◌<◌, ◌≤◌, Bool, true, List, [], ◌∷◌, map, Option, Some, ◌⊎◌, inl, inr, refl, ap, sym, ◌∙◌, arith}
-use Rattle.std.specs.Prelude.{filter, find, option_map}
-use Rattle.std.proofs.lemmas.Bool.{true≢false, lt-ltb, le-ltb}
-use Rattle.std.proofs.lemmas.Option.{none-some, same_Some}
-use Rattle.iloc_meaning.specs.Trace.{Executed}
-use Rattle.iloc_timed.specs.Timed.{Issued, later, last_due, last_that}
-use Rattle.iloc_meaning.proofs.Cases.{by_bool}
-use Rattle.iloc_rules.specs.Steps.Members.{In}
+use Rattle.iloc_rules.proofs.Common.{◌≡◌, ℕ, ◌<◌, ◌≤◌, Bool, true, ◌⊎◌, List, [], ◌∷◌, map, Some, filter, Option, option_map, find, sym, refl, ap, ◌∙◌, inl, inr, true≢false, arith, le-ltb, lt-ltb, none-some, same_Some, by_bool, Executed, Issued, last_due, last_that, later, In}
 use Rattle.iloc_rules.proofs.Basics.Members.{in_filter, from_filter, empty_from}
 use Rattle.iloc_rules.proofs.Basics.Rising.{countdown, finds}
 

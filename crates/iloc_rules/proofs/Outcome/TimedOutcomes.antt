@@ -1,27 +1,8 @@
 -- Where each delay is waited for, a schedule has the outcome of its operations in order; for `LawfulOutcomes`.
-use Rattle.std.proofs.Common.{◌≡◌, ℕ, ◌+◌, ◌<◌, ◌≤◌, zero, suc, Bool, true, false, cond, ℤ, List, [], ◌∷◌, ◌++◌, map, length, Some, inl, inr, refl, ap, sym, ◌∙◌, subst, arith, append-nil}
-use Rattle.std.specs.Prelude.{filter, find, nat_le}
+use Rattle.iloc_rules.proofs.Common.{◌≡◌, ℕ, zero, suc, ◌+◌, ◌<◌, ◌≤◌, Bool, true, false, cond, List, [], ◌∷◌, ◌++◌, map, length, ℤ, nat_le, Some, filter, find, sym, refl, ap, ◌∙◌, subst, inl, inr, append-nil, arith, le-leb, cases_order, or_right, map-append, defined, used, Op, Reg, effect, emitted, emitted_by, has_fault, outcome, Executed, before, defines, op_at, register_after, result_or_zero, word_after, writes_to, written_or, some_latency, is_output, is_store, kind, latency, IsTable, issue_cycle, row_at, slots, Issued, arrived, executed_in, issue, issue_all, issued_before, register_in, timed_outcome, word_in, Latencies, Row, Counts, IsRenamed, IsSoundOn, touched_at, In}
 use Rattle.std.proofs.Math.Path.{fun_ext}
-use Rattle.std.proofs.lemmas.Bool.{cases_order, le-leb, or_right}
-use Rattle.std.proofs.lemmas.List.{map-append}
-use Rattle.iloc_ops.specs.declared.op.Reg.{Reg}
-use Rattle.iloc_ops.specs.declared.op.Op.{Op}
-use Rattle.iloc_ops.specs.Registers.{used, defined}
 use Rattle.iloc_meaning.specs.declared.outcome.Outcome.TheVariants.{Finished, Fault}
-use Rattle.iloc_meaning.specs.Effect.{effect}
 use Rattle.iloc_meaning.specs.Memory.{word_at}
-use Rattle.iloc_meaning.specs.Trace.{Executed, defines, writes_to, result_or_zero, written_or, op_at, register_after, word_after, before}
-use Rattle.iloc_meaning.specs.Outcome.{emitted_by, has_fault, emitted, outcome}
-use Rattle.iloc_timed.specs.declared.latencies.Latencies.{Latencies}
-use Rattle.iloc_timed.specs.declared.row.Row.{Row}
-use Rattle.iloc_timed.specs.Kinds.{kind, is_store, is_output}
-use Rattle.iloc_timed.specs.Latency.{latency}
-use Rattle.iloc_timed.specs.Rows.{row_at, slots, issue_cycle, IsTable}
-use Rattle.iloc_timed.specs.Timed.{Issued, arrived, register_in, word_in, issue, issue_all, issued_before, executed_in, timed_outcome}
-use Rattle.iloc_rules.specs.Renaming.{IsRenamed}
-use Rattle.iloc_rules.specs.Delays.{Counts}
-use Rattle.iloc_rules.specs.Sound.{touched_at, IsSoundOn}
-use Rattle.iloc_rules.specs.Steps.Members.{In}
 use Rattle.iloc_rules.proofs.Basics.Members.{contains_from, in_map, from_map, in_filter, from_filter, any_same}
 use Rattle.iloc_rules.proofs.Basics.Rising.{countdown, in_countdown, from_countdown, falls_countdown, falls_from, falls_same}
 use Rattle.iloc_rules.proofs.Basics.Ordered.{ordered_filter}
@@ -30,7 +11,6 @@ use Rattle.iloc_rules.proofs.Outcome.UsedEffects.{reads_memory, effect_used, onl
 use Rattle.iloc_rules.proofs.Outcome.LookUps.{entry, look_up_same}
 use Rattle.iloc_rules.proofs.DelayPairs.WaitedFor.{WaitsWhere, used_in_time, stored_where_counted, kept_in_order, kept_where_counted, read_then_store, store_then_store, output_then_output}
 use Rattle.iloc_rules.proofs.Basics.Registers.{is_register_same}
-use Rattle.iloc_timed.proofs.WholeRuns.{some_latency}
 
 -- a schedule of renamed operations in which each delay is waited for, by what is sound on this memory
 pub record Keeps (counts : Counts) (lat : Latencies) (ops : List Op) (rows : List Row) (memory : List ℤ) : Type 0 where

@@ -1,25 +1,8 @@
 -- An effect depends on the used registers, and on words only where memory is read; for `TimedOutcomes`.
-use Rattle.std.proofs.Common.{◌≡◌, ℕ, ℤ, Bool, true, false, ◌||◌, [], Option, Some, None, refl, ap, sym, ◌∙◌, arith}
-use Rattle.std.specs.Prelude.{◌+ℤ◌}
-use Rattle.std.proofs.lemmas.Bool.{true≢false, false≢true, eqb-true}
-use Rattle.iloc_ops.specs.declared.op.Reg.{Reg}
-use Rattle.iloc_ops.specs.declared.op.Op.{Op}
-use Rattle.iloc_ops.specs.declared.op.Op.TheVariants.{Load, LoadAI, Store, StoreAI, Output}
-use Rattle.iloc_ops.specs.Registers.{used}
+use Rattle.iloc_rules.proofs.Common.{◌≡◌, ℕ, Bool, true, false, ◌||◌, [], ℤ, ◌+ℤ◌, Some, None, Option, sym, refl, ap, ◌∙◌, true≢false, arith, eqb-true, false≢true, used, Op, Load, LoadAI, Output, Store, StoreAI, Reg, at_address_cases, effect_same, constant, wrapped, at_address, effect, emitted_by, is_write_to, is_load, is_output, is_store, kind, latency, latency_of, Kind, Latencies, touched, In}
 use Rattle.iloc_meaning.specs.declared.effect.Effect.{Effect}
 use Rattle.iloc_meaning.specs.declared.effect.Effect.TheVariants.{Gives, Writes, Emits}
 use Rattle.iloc_meaning.specs.Address.{good_address}
-use Rattle.iloc_meaning.specs.Arithmetic.{wrapped, constant}
-use Rattle.iloc_meaning.specs.Effect.{effect, at_address}
-use Rattle.iloc_meaning.specs.Trace.{is_write_to}
-use Rattle.iloc_meaning.specs.Outcome.{emitted_by}
-use Rattle.iloc_meaning.proofs.Effects.{at_address_cases, effect_same}
-use Rattle.iloc_timed.specs.declared.kind.Kind.{Kind}
-use Rattle.iloc_timed.specs.declared.latencies.Latencies.{Latencies}
-use Rattle.iloc_timed.specs.Kinds.{kind, is_load, is_store, is_output}
-use Rattle.iloc_timed.specs.Latency.{latency, latency_of}
-use Rattle.iloc_rules.specs.Sound.{touched}
-use Rattle.iloc_rules.specs.Steps.Members.{In}
 use Rattle.iloc_rules.proofs.Basics.Members.{in_from}
 
 -- whether an operation of this kind reads memory

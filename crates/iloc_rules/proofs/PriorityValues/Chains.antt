@@ -1,6 +1,5 @@
 -- Longest chains are the least numbers that keep all pairs; for priorities, starts, tails and the bounds.
-use Rattle.std.proofs.Common.{◌≡◌, ℕ, zero, suc, ◌+◌, ◌<◌, ◌≤◌, inl, inr, arith}
-use Rattle.iloc_rules.specs.Steps.Chains.{IsChain}
+use Rattle.iloc_rules.proofs.Common.{◌≡◌, ℕ, zero, suc, ◌+◌, ◌<◌, ◌≤◌, inl, inr, arith, IsChain}
 
 -- what is at least the base and keeps the pairs is at least the chain, where pairs lead to a lower rank
 module _ (size : ℕ) (Pair : ℕ → ℕ → ℕ → Type 0) (base value : ℕ → ℕ) (is : IsChain size Pair base value value)

@@ -1,17 +1,5 @@
 -- A priority is the greatest of latency and d + prio(j) over the delay pairs; for `priorities` and the bounds.
-use Rattle.std.proofs.Common.{◌≡◌, ℕ, ◌+◌, ◌-◌, ◌*◌, ◌<◌, ◌≤◌, zero, suc, List, [], ◌∷◌, max, map, length, drop, ◌⊎◌, inl, inr, refl, ap, sym, arith}
-use Rattle.std.specs.Prelude.{fold, slice_index}
-use Rattle.iloc_ops.specs.declared.op.Op.{Op}
-use Rattle.iloc_meaning.specs.Trace.{op_at}
-use Rattle.iloc_timed.specs.declared.latencies.Latencies.{Latencies}
-use Rattle.iloc_timed.specs.Kinds.{kind}
-use Rattle.iloc_timed.specs.Latency.{latency}
-use Rattle.iloc_timed.proofs.WholeRuns.{short_latency}
-use Rattle.iloc_timed.proofs.Greatest.{le_fold_max}
-use Rattle.iloc_rules.specs.Delays.{delays, IsDelayPair}
-use Rattle.iloc_rules.specs.Priority.{reaches, priorities, priority}
-use Rattle.iloc_rules.specs.Steps.Chains.{IsChainOut}
-use Rattle.iloc_rules.specs.Steps.Members.{In}
+use Rattle.iloc_rules.proofs.Common.{◌≡◌, ℕ, zero, suc, ◌+◌, ◌-◌, ◌*◌, ◌<◌, ◌≤◌, max, ◌⊎◌, List, [], ◌∷◌, map, length, drop, slice_index, fold, sym, refl, ap, inl, inr, arith, Op, op_at, le_fold_max, short_latency, kind, latency, Latencies, IsDelayPair, delays, priorities, priority, reaches, IsChainOut, In}
 use Rattle.iloc_rules.proofs.Basics.Members.{contains_from, in_from, in_left, in_right, from_append, in_map, from_map}
 use Rattle.iloc_rules.proofs.Basics.Maxima.{fold_max_each, fold_max_reached}
 use Rattle.iloc_rules.proofs.DelayPairs.DelayBounds.{short_delay}

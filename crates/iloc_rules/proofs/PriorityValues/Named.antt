@@ -1,21 +1,9 @@
 -- Each heuristic in the list of all, and its priorities as a list, one for each operation; for `fill_ranks`.
-use Rattle.std.proofs.Common.{◌≡◌, ℕ, ◌+◌, List, length, map, refl, ap, arith}
-use Rattle.std.specs.List.{range_with_len}
-use Rattle.std.specs.Prelude.{slice_index}
-use Rattle.std.proofs.lemmas.List.{length-map}
-use Rattle.std.proofs.lemmas.List.FromFn.{length-map-range_with_len}
-use Rattle.iloc_ops.specs.declared.op.Op.{Op}
-use Rattle.iloc_timed.specs.declared.latencies.Latencies.{Latencies}
+use Rattle.iloc_rules.proofs.Common.{◌≡◌, ℕ, ◌+◌, List, map, length, slice_index, refl, ap, arith, length-map, length-map-range_with_len, range_with_len, Op, Latencies, Counts, all_count, counts_by, priorities_under, start, In, MemoryRule, Address, Book}
 use Rattle.iloc_rules.specs.declared.heuristic.Heuristic.{Heuristic}
 use Rattle.iloc_rules.specs.declared.heuristic.Heuristic.TheVariants as H
-use Rattle.iloc_rules.specs.Delays.{Counts, all_count}
-use Rattle.iloc_rules.specs.Starts.{start}
 use Rattle.iloc_rules.specs.Heuristics.{priorities_by, priorities_by_where}
 use Rattle.iloc_rules.specs.Heuristics.Listed.{heuristics}
-use Rattle.iloc_rules.specs.declared.memory_rule.MemoryRule.{MemoryRule}
-use Rattle.iloc_rules.specs.declared.memory_rule.MemoryRule.TheVariants.{Book, Address}
-use Rattle.iloc_rules.specs.Rule.{counts_by, priorities_under}
-use Rattle.iloc_rules.specs.Steps.Members.{In}
 use Rattle.iloc_rules.proofs.PriorityValues.Longest.{length-priorities}
 use Rattle.iloc_rules.proofs.PriorityValues.LongestWhere.{length_where, priorities_all}
 

@@ -1,15 +1,5 @@
 -- A start is the greatest of 0 and d + start(i) over the delay pairs; for `Heuristic::Slack`.
-use Rattle.std.proofs.Common.{◌≡◌, ℕ, ◌+◌, ◌*◌, ◌<◌, ◌≤◌, zero, suc, List, map, length, ◌⊎◌, inl, inr, refl, ap, sym, ◌∙◌, subst, arith}
-use Rattle.std.specs.Prelude.{max, fold, slice_index}
-use Rattle.std.proofs.lemmas.List.{length_push, get_or_push, get_or_append_left}
-use Rattle.iloc_ops.specs.declared.op.Op.{Op}
-use Rattle.iloc_meaning.specs.Trace.{op_at}
-use Rattle.iloc_timed.specs.declared.latencies.Latencies.{Latencies}
-use Rattle.iloc_rules.specs.Delays.{Counts, all_count, delays_where, IsDelayPairWhere}
-use Rattle.iloc_rules.specs.Starts.{arrivals_where, starts_before_where, starts_where, start_where, starts, start}
-use Rattle.iloc_rules.specs.Steps.Members.{In}
-use Rattle.iloc_rules.specs.Steps.Chains.{IsChainIntoWhere}
-use Rattle.std.proofs.lemmas.Bool.{cases_eq}
+use Rattle.iloc_rules.proofs.Common.{◌≡◌, ℕ, zero, suc, ◌+◌, ◌*◌, ◌<◌, ◌≤◌, max, ◌⊎◌, List, map, length, slice_index, fold, sym, refl, ap, ◌∙◌, subst, inl, inr, arith, cases_eq, get_or_append_left, get_or_push, length_push, Op, op_at, Latencies, Counts, IsDelayPairWhere, all_count, delays_where, arrivals_where, start, start_where, starts, starts_before_where, starts_where, IsChainIntoWhere, In}
 use Rattle.iloc_rules.proofs.Basics.Members.{contains_from, in_from, in_left, in_right, from_append, in_map, from_map}
 use Rattle.iloc_rules.proofs.Basics.Maxima.{fold_max_each, fold_max_reached}
 use Rattle.iloc_rules.proofs.DelayPairs.DelayBounds.{short_delay_where}

@@ -1,16 +1,6 @@
 -- A block's numbering has each source that an operation mentions; for `rename` (`once`, `outcome`).
-use Rattle.std.proofs.Common.{◌≡◌, ℕ, zero, suc, ◌<◌, List, [], length, map, Some, refl, arith, inl, inr}
-use Rattle.std.proofs.lemmas.Bool.{cases_eq}
-use Rattle.std.proofs.lemmas.List.FromFn.{get_or-map-range_with_len, length-map-range_with_len}
-use Rattle.iloc_ops.specs.declared.op.Reg.{Reg}
-use Rattle.iloc_ops.specs.declared.op.Op.{Op}
-use Rattle.iloc_ops.specs.declared.op.Op.TheVariants.{Nop}
-use Rattle.iloc_ops.specs.Registers.{used, defined}
-use Rattle.iloc_meaning.specs.Trace.{op_at}
-use Rattle.iloc_rules.specs.Renaming.{Source, source, own_source, mentions, mentions_before, numbering, renamed_op, renamed_by}
+use Rattle.iloc_rules.proofs.Common.{◌≡◌, ℕ, zero, suc, ◌<◌, List, [], map, length, Some, refl, inl, inr, arith, cases_eq, get_or-map-range_with_len, length-map-range_with_len, defined, used, Op, Nop, Reg, op_at, Source, mentions, mentions_before, numbering, own_source, renamed_by, renamed_op, source, In, Stands}
 use Rattle.iloc_rules.specs.Renaming.Source.{Result}
-use Rattle.iloc_rules.specs.Steps.Stands.{Stands}
-use Rattle.iloc_rules.specs.Steps.Members.{In}
 use Rattle.iloc_rules.proofs.Basics.Members.{in_map}
 use Rattle.iloc_rules.proofs.Renamed.Sources.{is_source-refl, stands_in, stands_left, stands_right, stands_struck}
 

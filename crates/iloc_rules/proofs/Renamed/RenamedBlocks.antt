@@ -1,20 +1,8 @@
 -- The renamed operations define each register once and have the block's outcome: `rename` (`once`, `outcome`).
-use Rattle.std.proofs.Common.{◌≡◌, ◌≢◌, ℕ, zero, suc, ◌<◌, ◌≤◌, true, false, List, [], ◌∷◌, length, map, Option, Some, option_map, ℤ, refl, sym, ap, ◌∙◌, arith, inl, inr, eq-eqb, ne_eqb}
-use Rattle.std.proofs.lemmas.List.{get_or_past}
+use Rattle.iloc_rules.proofs.Common.{◌≡◌, ℕ, zero, suc, ◌<◌, ◌≤◌, true, false, ◌≢◌, List, [], ◌∷◌, map, length, ℤ, Some, Option, option_map, sym, refl, ap, ◌∙◌, inl, inr, arith, eq-eqb, ne_eqb, get_or_past, defined, used, Op, Reg, by_bool, effect-with_registers, effect_same, effect, outcome, outcome_of, before, is_register, op_at, register_after, result_of, word_after, IsRenamed, is_nop, name_of, numbering, place_of, renamed, renamed_by, source, without_nops, In, Stands}
 use Rattle.std.proofs.lemmas.List.Elements.{All-get_or, filter_passes}
-use Rattle.iloc_ops.specs.declared.op.Reg.{Reg}
-use Rattle.iloc_ops.specs.declared.op.Op.{Op}
-use Rattle.iloc_ops.specs.Registers.{used, defined}
 use Rattle.iloc_ops.proofs.Renaming.{used-with_registers, defined-with_registers}
-use Rattle.iloc_meaning.specs.Effect.{effect}
-use Rattle.iloc_meaning.specs.Trace.{result_of, op_at, is_register, register_after, word_after, before}
-use Rattle.iloc_meaning.specs.Outcome.{outcome_of, outcome}
-use Rattle.iloc_meaning.proofs.Cases.{by_bool}
-use Rattle.iloc_meaning.proofs.Effects.{effect_same, effect-with_registers}
-use Rattle.iloc_rules.specs.Renaming.{source, numbering, place_of, name_of, renamed_by, is_nop, without_nops, renamed, IsRenamed}
 use Rattle.iloc_rules.specs.Renaming.Source.{Result}
-use Rattle.iloc_rules.specs.Steps.Stands.{Stands}
-use Rattle.iloc_rules.specs.Steps.Members.{In}
 use Rattle.iloc_rules.proofs.Basics.Members.{in_from}
 use Rattle.iloc_rules.proofs.Renamed.Sources.{place_apart, name_apart}
 use Rattle.iloc_rules.proofs.Renamed.MentionedSources.{source_earlier, use_numbered, definition_numbered, renamed_op_at, length-renamed_by}

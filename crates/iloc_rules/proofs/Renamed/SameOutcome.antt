@@ -1,7 +1,5 @@
 -- Traces with the same effects, one by one, have the same outcome; for `rename` (`outcome`).
-use Rattle.std.proofs.Common.{arith, ◌≡◌, ℕ, List, [], ◌∷◌, ℤ, refl}
-use Rattle.iloc_meaning.specs.Trace.{Executed, word_after}
-use Rattle.iloc_meaning.specs.Outcome.{has_fault, emitted, outcome_of}
+use Rattle.iloc_rules.proofs.Common.{◌≡◌, ℕ, List, [], ◌∷◌, ℤ, refl, arith, emitted, has_fault, outcome_of, Executed, word_after}
 
 -- two traces from one memory end alike, whatever their registers are
 pub record SameEnd (memory : List ℤ) (trace other : List Executed) : Type 0 where

@@ -1,12 +1,5 @@
 -- Two sources of a numbering have two places; for `rename` (`once`, `outcome`).
-use Rattle.std.proofs.Common.{◌≡◌, ◌≢◌, ◌||◌, true, false, List, [], ◌∷◌, ◌++◌, ap, arith, eq-eqb, inl, inr}
-use Rattle.std.proofs.lemmas.Bool.{eqb-true, or_right}
-use Rattle.std.specs.List.{list_any}
-use Rattle.iloc_ops.specs.declared.op.Reg.{Reg}
-use Rattle.iloc_meaning.proofs.Cases.{by_bool}
-use Rattle.iloc_rules.specs.Renaming.{Source, is_source, struck, place_of, name_of}
-use Rattle.iloc_rules.specs.Steps.Stands.{Stands}
-use Rattle.iloc_rules.specs.Steps.Members.{In}
+use Rattle.iloc_rules.proofs.Common.{◌≡◌, true, false, ◌||◌, ◌≢◌, List, [], ◌∷◌, ◌++◌, ap, inl, inr, arith, eq-eqb, eqb-true, or_right, list_any, Reg, by_bool, Source, is_source, name_of, place_of, struck, In, Stands}
 
 pub is_source-refl : (s : Source) → is_source s s ≡ true
 is_source-refl s = grind (arith, eq-eqb)

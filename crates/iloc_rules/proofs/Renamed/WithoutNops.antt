@@ -1,15 +1,6 @@
 -- A block without its `nop`s has the block's outcome; for `rename` (`outcome`).
-use Rattle.std.proofs.Common.{◌≡◌, ℕ, zero, suc, ◌+◌, true, List, [], ◌∷◌, length, drop, ℤ, arith, append-nil}
+use Rattle.iloc_rules.proofs.Common.{◌≡◌, ℕ, zero, suc, ◌+◌, true, List, [], ◌∷◌, length, drop, ℤ, append-nil, arith, with_registers, Op, Nop, Reg, by_bool, effect_same, outcome, Executed, before, register_after, then_executed, is_nop, without_nops}
 use Rattle.std.proofs.Math.Seq.{drop-cons, drop-length}
-use Rattle.iloc_ops.specs.declared.op.Reg.{Reg}
-use Rattle.iloc_ops.specs.declared.op.Op.{Op}
-use Rattle.iloc_ops.specs.declared.op.Op.TheVariants.{Nop}
-use Rattle.iloc_ops.specs.Registers.{with_registers}
-use Rattle.iloc_meaning.specs.Trace.{Executed, register_after, then_executed, before}
-use Rattle.iloc_meaning.specs.Outcome.{outcome}
-use Rattle.iloc_meaning.proofs.Cases.{by_bool}
-use Rattle.iloc_meaning.proofs.Effects.{effect_same}
-use Rattle.iloc_rules.specs.Renaming.{is_nop, without_nops}
 use Rattle.iloc_rules.proofs.Renamed.SameOutcome.{SameEnd, same_outcome}
 
 -- two traces leave the same behind

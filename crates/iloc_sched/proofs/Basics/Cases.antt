@@ -1,6 +1,5 @@
 -- Proofs by the cases of two numbers or of an option; for the other proofs.
-use Rattle.std.proofs.Common.{◌≡◌, ◌≢◌, ℕ, ◌<◌, ◌≤◌, Option, Some, None, inl, inr, refl}
-use Rattle.std.proofs.lemmas.Bool.{cases_eq, cases_lt}
+use Rattle.iloc_sched.proofs.Common.{◌≡◌, ℕ, ◌<◌, ◌≤◌, ◌≢◌, Some, None, Option, refl, inl, inr, cases_eq, cases_lt}
 
 pub by_eq : {P : Type 0} → (a b : ℕ) → (a ≡ b → P) → (a ≢ b → P) → P
 by_eq a b same apart = elim (cases_eq a b) [ inl e ↦ same e | inr e ↦ apart e ]

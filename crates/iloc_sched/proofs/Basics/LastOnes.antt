@@ -1,6 +1,5 @@
 -- The last number below n of which something holds; for what stands last before an operation (`Lasts::note`).
-use Rattle.std.proofs.Common.{◌≡◌, ℕ, ◌+◌, ◌<◌, Option, Some, arith}
-use Rattle.iloc_sched.specs.Steps.Graph.{IsLast}
+use Rattle.iloc_sched.proofs.Common.{◌≡◌, ℕ, ◌+◌, ◌<◌, Some, Option, arith, IsLast}
 
 -- it depends only on what holds below n
 pub last_same : (P Q : ℕ → Type 0) (n : ℕ) (o : Option ℕ) → ((k : ℕ) → k < n → P k → Q k)

@@ -1,27 +1,8 @@
 -- The choice of a cycle by ranks is the choice of the definition; for `Waiting::step`.
-use Rattle.std.proofs.Common.{◌≡◌, ◌<◌, ◌≤◌, ◌≢◌, ℕ, ◌+◌, ◌==◌, ◌&&◌, not, Bool, true, false, List, length, Option, Some, None, sym, ◌∙◌, ap, subst, arith}
-use Rattle.std.proofs.lemmas.Bool.{and_from, and_parts, not-true}
+use Rattle.iloc_sched.proofs.Common.{◌≡◌, ℕ, ◌+◌, ◌<◌, ◌≤◌, Bool, true, false, not, ◌&&◌, ◌≢◌, List, length, ◌==◌, Some, None, filter, Option, sym, ap, ◌∙◌, subst, arith, and_from, and_parts, not-true, op_at, is_memory, kind, is_some_kind, kind_in, Kind, Row, from_filter, in_filter, chosen, first_of_all, may_stand_beside, ready_where, GoesBefore, IsChosenWhere, In, has, class_of, excludes, MatchesRows, IsBest, IsOpen, IsPlan, IsUnderWay, Issues, class_at, counts_of, needs_zero_choice, number_of, rank_of, row_with, graph_of, progress_of, Class, Plan, Waiting}
 use Rattle.std.proofs.lemmas.Bool.Decides.{nat_tests}
-use Rattle.std.specs.Prelude.{filter}
-use Rattle.iloc_meaning.specs.Trace.{op_at}
-use Rattle.iloc_timed.specs.declared.kind.Kind.{Kind}
-use Rattle.iloc_timed.specs.declared.row.Row.{Row}
-use Rattle.iloc_timed.specs.Kinds.{kind, is_memory}
-use Rattle.iloc_timed.specs.Rows.{is_some_kind, kind_in}
-use Rattle.iloc_rules.specs.Greedy.{ready_where, first_of_all, may_stand_beside, chosen}
 use Rattle.iloc_sched.specs.declared.cycle.Choice.{Choice}
-use Rattle.iloc_sched.specs.declared.cycle.class.Class.{Class}
 use Rattle.iloc_sched.specs.declared.cycle.class.Class.TheVariants as C
-use Rattle.iloc_sched.specs.declared.cycle.plan.Plan.{Plan}
-use Rattle.iloc_sched.specs.declared.cycle.waiting.Waiting.{Waiting}
-use Rattle.iloc_sched.specs.Steps.Cycle.Calendar.{has}
-use Rattle.iloc_rules.specs.Steps.Choosing.{GoesBefore, IsChosenWhere}
-use Rattle.iloc_rules.specs.Steps.Members.{In}
-use Rattle.iloc_sched.specs.Steps.Cycle.Classes.{class_of, excludes}
-use Rattle.iloc_sched.specs.Steps.Cycle.Progress.{MatchesRows}
-use Rattle.iloc_sched.specs.Steps.Views.{graph_of, progress_of}
-use Rattle.iloc_sched.specs.Steps.Cycle.SoFar.{class_at, counts_of, rank_of, IsPlan, IsUnderWay, IsOpen, IsBest, Issues, number_of, needs_zero_choice, row_with}
-use Rattle.iloc_rules.proofs.Basics.Members.{in_filter, from_filter}
 use Rattle.iloc_rules.proofs.Basics.Ordered.{ordered_filter}
 use Rattle.iloc_rules.proofs.Choice.Ready.{ready_means_where, ready_rises_where}
 use Rattle.iloc_rules.proofs.Choice.FirstOfAll.{first_is, first_none}

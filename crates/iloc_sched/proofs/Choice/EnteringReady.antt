@@ -1,12 +1,6 @@
 -- What is ready is just what can be issued, as more becomes ready and as a choice is issued; for `Waiting::release`,
 -- `issue_first`.
-use Rattle.std.proofs.Common.{arith, ◌≡◌, ◌≢◌, ℕ, ◌+◌, ◌%◌, ◌<◌, Bool, true, List, get_or, Some, None}
-use Rattle.std.proofs.lemmas.Bool.{or_cases}
-use Rattle.iloc_sched.specs.declared.cycle.calendar.Calendar.{Calendar}
-use Rattle.iloc_sched.specs.Steps.Cycle.Calendar.{has, Releases}
-use Rattle.iloc_sched.specs.Steps.Graph.{Graph, IsGraph}
-use Rattle.iloc_sched.specs.Steps.Cycle.Progress.{Progress, Waits, CanIssue, KeepsPlaces}
-use Rattle.iloc_sched.specs.Steps.Cycle.SoFar.{IsQueued}
+use Rattle.iloc_sched.proofs.Common.{◌≡◌, ℕ, ◌+◌, ◌%◌, ◌<◌, Bool, true, ◌≢◌, List, get_or, Some, None, arith, or_cases, Releases, has, CanIssue, KeepsPlaces, Progress, Waits, IsQueued, Graph, IsGraph, Calendar}
 use Rattle.iloc_sched.proofs.Walking.BucketOfCycle.{due_now, then_due, later_still}
 use Rattle.iloc_sched.proofs.Walking.StillIssuable.{can_issue_back}
 

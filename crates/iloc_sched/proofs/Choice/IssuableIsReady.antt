@@ -1,15 +1,5 @@
 -- What the tables say can be issued is what is ready; for `Waiting::step`.
-use Rattle.std.proofs.Common.{◌≡◌, ℕ, ◌+◌, ◌-◌, false, ◌<◌, ◌≤◌, List, length, None, inl, inr, sym, ◌∙◌, ap, subst, arith}
-use Rattle.iloc_ops.specs.declared.op.Op.{Op}
-use Rattle.iloc_timed.specs.declared.latencies.Latencies.{Latencies}
-use Rattle.iloc_timed.specs.declared.row.Row.{Row}
-use Rattle.iloc_timed.specs.Rows.{slots, issue_cycle}
-use Rattle.iloc_rules.specs.Delays.{Counts, IsDelayPairWhere}
-use Rattle.iloc_rules.specs.Greedy.{ready_where}
-use Rattle.iloc_rules.specs.Steps.Choosing.{IsChosenWhere}
-use Rattle.iloc_rules.specs.Steps.Members.{In}
-use Rattle.iloc_sched.specs.Steps.Graph.{Graph, LeadsTo, IsGraphWhere}
-use Rattle.iloc_sched.specs.Steps.Cycle.Progress.{Progress, Waits, CanIssue, MatchesRows, count_from}
+use Rattle.iloc_sched.proofs.Common.{◌≡◌, ℕ, ◌+◌, ◌-◌, ◌<◌, ◌≤◌, false, List, length, None, sym, ap, ◌∙◌, subst, inl, inr, arith, Op, issue_cycle, slots, Latencies, Row, Counts, IsDelayPairWhere, ready_where, IsChosenWhere, In, CanIssue, MatchesRows, Progress, Waits, count_from, Graph, IsGraphWhere, LeadsTo}
 use Rattle.iloc_rules.proofs.Choice.Ready.{IsReadyWhere, ready_means_where, ready_from_where}
 use Rattle.iloc_rules.proofs.Basics.Slots.{stands_there}
 use Rattle.iloc_rules.proofs.Choice.ChosenRows.{chosen_in}

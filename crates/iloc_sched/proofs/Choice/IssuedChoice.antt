@@ -1,19 +1,5 @@
 -- The tables and the calendar after a choice was issued, or released; for `Waiting::issue_first`, `release`.
-use Rattle.std.proofs.Common.{◌≡◌, ◌≢◌, ℕ, ◌+◌, ◌%◌, ◌<◌, not, true, false, List, length, set, get_or, Option, Some, None, sym, ◌∙◌, ap, subst, arith}
-use Rattle.std.proofs.lemmas.Bool.{false≢true, and_parts}
-use Rattle.std.proofs.lemmas.List.{get_or-set_same, get_or-set_other}
-use Rattle.iloc_meaning.specs.Trace.{op_at}
-use Rattle.iloc_timed.specs.declared.kind.Kind.{Kind}
-use Rattle.iloc_timed.specs.Kinds.{kind}
-use Rattle.iloc_sched.specs.declared.cycle.calendar.Calendar.{Calendar}
-use Rattle.iloc_sched.specs.declared.cycle.class.Class.{Class}
-use Rattle.iloc_sched.specs.declared.cycle.plan.Plan.{Plan}
-use Rattle.iloc_sched.specs.declared.cycle.waiting.Waiting.{Waiting}
-use Rattle.iloc_sched.specs.Steps.Cycle.Calendar.{has, offers, HasSameSets, IsFirst, Puts, KeepsRoom, Releases}
-use Rattle.iloc_sched.specs.Steps.Cycle.Classes.{place_of}
-use Rattle.iloc_sched.specs.Steps.Cycle.Progress.{Waits, CanIssue, KeepsPlaces}
-use Rattle.iloc_sched.specs.Steps.Views.{graph_of, issued_list, progress_of, bucket_of, IsSized}
-use Rattle.iloc_sched.specs.Steps.Cycle.SoFar.{rank_of, IsRanked, IsPlan, IsCalendar, IsUnderWay, IsBest, Issues}
+use Rattle.iloc_sched.proofs.Common.{◌≡◌, ℕ, ◌+◌, ◌%◌, ◌<◌, true, false, not, ◌≢◌, List, length, get_or, set, Some, None, Option, sym, ap, ◌∙◌, subst, arith, get_or-set_other, get_or-set_same, and_parts, false≢true, op_at, kind, Kind, HasSameSets, IsFirst, KeepsRoom, Puts, Releases, has, offers, place_of, CanIssue, KeepsPlaces, Waits, IsBest, IsCalendar, IsPlan, IsRanked, IsUnderWay, Issues, rank_of, IsSized, bucket_of, graph_of, issued_list, progress_of, Calendar, Class, Plan, Waiting}
 use Rattle.iloc_sched.proofs.Choice.EnteringReady.{queued_with_due, queued_after}
 use Rattle.iloc_sched.proofs.Ranks.Calendars.{ranks_apart, same_has, same_room, room_kept, short_kept, calendar_put, calendar_released}
 use Rattle.iloc_sched.proofs.Walking.TableReads.{issued_size}

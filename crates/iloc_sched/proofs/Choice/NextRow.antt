@@ -1,24 +1,7 @@
 -- One more row of a schedule that is being made, and its end; for `Waiting::step`, `Scheduler::fill_rows`.
-use Rattle.std.proofs.Common.{◌≡◌, ◌≢◌, ℕ, suc, ◌+◌, ◌*◌, ◌<◌, ◌≤◌, cond, List, [], ◌∷◌, ◌++◌, length, length-append, set, get_or, Option, Some, None, ◌⊎◌, refl, sym, ◌∙◌, ap, subst, arith, rules, true, false}
-use Rattle.std.specs.Prelude.{count_by, sum_by, is_none, option_to_list}
-use Rattle.std.proofs.lemmas.List.Sums.{sum_by-set, sum_by-le}
-use Rattle.iloc_ops.specs.declared.op.Op.{Op}
-use Rattle.iloc_timed.specs.declared.latencies.Latencies.{Latencies}
-use Rattle.iloc_timed.specs.Kinds.{kind}
-use Rattle.iloc_timed.specs.Latency.{latency}
-use Rattle.iloc_timed.specs.declared.row.Row.{Row}
-use Rattle.iloc_timed.specs.Rows.{empty_row, row_at, slots, holds}
-use Rattle.iloc_rules.specs.Renaming.{renamed}
-use Rattle.iloc_rules.specs.Greedy.{IsGreedyWhere}
-use Rattle.iloc_sched.specs.declared.cycle.plan.Plan.{Plan}
+use Rattle.iloc_sched.proofs.Common.{◌≡◌, ℕ, suc, ◌+◌, ◌*◌, ◌<◌, ◌≤◌, true, false, cond, ◌≢◌, ◌⊎◌, List, [], ◌∷◌, ◌++◌, length, get_or, set, is_none, Some, None, sum_by, count_by, Option, option_to_list, sym, refl, ap, ◌∙◌, subst, arith, length-append, rules, sum_by-le, sum_by-set, Op, by_bool, kind, latency, empty_row, holds, row_at, slots, Latencies, Row, IsGreedyWhere, renamed, In, class_of, MatchesRows, IsBest, IsPlan, IsSoFar, IsUnderWay, Issues, IssuesAny, counts_of, number_of, row_with, slot_count, waiting_count, issued_list, progress_of, Plan, Waiting}
 use Rattle.iloc_sched.specs.declared.cycle.Choice.{Choice}
 use Rattle.iloc_sched.specs.declared.cycle.class.Class.TheVariants as C
-use Rattle.iloc_sched.specs.declared.cycle.waiting.Waiting.{Waiting}
-use Rattle.iloc_rules.specs.Steps.Members.{In}
-use Rattle.iloc_sched.specs.Steps.Cycle.Classes.{class_of}
-use Rattle.iloc_sched.specs.Steps.Cycle.Progress.{MatchesRows}
-use Rattle.iloc_sched.specs.Steps.Views.{issued_list, progress_of}
-use Rattle.iloc_sched.specs.Steps.Cycle.SoFar.{counts_of, IsPlan, IsUnderWay, IsSoFar, IsBest, Issues, IssuesAny, number_of, row_with, slot_count, waiting_count}
 use Rattle.iloc_rules.proofs.Basics.IssueCycles.{issue_cycle_more, issue_cycle_last, issue_cycle_beyond}
 use Rattle.iloc_rules.proofs.Basics.Slots.{holds_from, from_holds}
 use Rattle.iloc_rules.proofs.Choice.ChosenRows.{in_option}
@@ -28,7 +11,6 @@ use Rattle.iloc_sched.proofs.Choice.IssuedChoice.{issued_at, issued_other}
 use Rattle.iloc_sched.proofs.Walking.TableReads.{issued_size}
 use Rattle.iloc_sched.proofs.Choice.ChosenByRanks.{chosen_none, chosen_row}
 use Rattle.iloc_timed.proofs.WholeRuns.{short_latency}
-use Rattle.iloc_meaning.proofs.Cases.{by_bool}
 
 by_slots : {P : Type 0} → (row : Row) (j : ℕ) → (In (slots row) j → P) → ((In (slots row) j → ⊥) → P) → P
 by_slots row j stands misses = by_bool (holds row j) (λ t. stands (from_holds row j t))

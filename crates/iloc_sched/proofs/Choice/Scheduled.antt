@@ -1,14 +1,6 @@
 -- The finished schedule: `Scheduler::lend`.
-use Rattle.std.proofs.Common.{◌≡◌, ℕ, List, sym, subst, ◌∙◌}
-use Rattle.iloc_ops.specs.declared.op.Op.{Op}
-use Rattle.iloc_timed.specs.declared.latencies.Latencies.{Latencies}
-use Rattle.iloc_timed.specs.declared.row.Row.{Row}
+use Rattle.iloc_sched.proofs.Common.{◌≡◌, ℕ, List, sym, ◌∙◌, subst, Op, Latencies, Row, IsGreedyWhere, counts_by, MemoryRule, Book, GraphOf, RuledGraphOf}
 use Rattle.iloc_timed.specs.Schedule.{Table}
-use Rattle.iloc_rules.specs.declared.memory_rule.MemoryRule.{MemoryRule}
-use Rattle.iloc_rules.specs.Greedy.{IsGreedyWhere}
-use Rattle.iloc_rules.specs.Rule.{counts_by}
-use Rattle.iloc_rules.specs.declared.memory_rule.MemoryRule.TheVariants.{Book}
-use Rattle.iloc_sched.specs.Graph.GraphOf.{GraphOf, RuledGraphOf}
 use Rattle.iloc_sched.specs.Scheduled.{IsTheScheduleBy}
 use Rattle.iloc_rules.proofs.Bounds.PriorityBound.{ruled_priority_bound}
 use Rattle.iloc_rules.proofs.Bounds.BusyCycles.{busy_bound_where}

@@ -1,27 +1,6 @@
 -- The edges that are added to an operation are its near pairs; for `Edges::add_all` and what it calls.
-use Rattle.std.proofs.Common.{◌≡◌, ℕ, ◌+◌, ◌<◌, ◌≤◌, List, [], ◌∷◌, ◌++◌, length, get_or, set, Option, Some, None, inl, inr, refl, sym, ◌∙◌, ap, subst, arith}
-use Rattle.std.specs.Prelude.{Contains}
-use Rattle.std.proofs.lemmas.List.{length-set, length_push, get_or_push, get_or_append_left, get_or-set_same, get_or-set_other}
-use Rattle.iloc_ops.specs.declared.op.Reg.{Reg}
-use Rattle.iloc_ops.specs.declared.op.Op.{Op}
-use Rattle.iloc_ops.specs.Registers.{used}
-use Rattle.iloc_meaning.specs.Trace.{op_at}
+use Rattle.iloc_sched.proofs.Common.{◌≡◌, ℕ, ◌+◌, ◌<◌, ◌≤◌, List, [], ◌∷◌, ◌++◌, length, get_or, set, Some, None, Contains, Option, sym, refl, ap, ◌∙◌, subst, inl, inr, arith, length-set, get_or-set_other, get_or-set_same, get_or_append_left, get_or_push, length_push, used, Op, Reg, op_at, kind, latency, Latencies, from_append, in_from, in_left, in_right, IsRenamed, In, MemoryRule, Book, IsLasts, AddsFrom, CoversMemory, CoversUse, CoversUses, Grows, HasEdge, HasOneMore, IsNearPairBy, IsPartialGraph, Graph, number_at, no_edge, Edge, Lasts}
 use Rattle.iloc_timed.specs.declared.kind.Kind.TheVariants as K
-use Rattle.iloc_timed.specs.declared.latencies.Latencies.{Latencies}
-use Rattle.iloc_timed.specs.Kinds.{kind}
-use Rattle.iloc_timed.specs.Latency.{latency}
-use Rattle.iloc_rules.specs.declared.memory_rule.MemoryRule.{MemoryRule}
-use Rattle.iloc_rules.specs.declared.memory_rule.MemoryRule.TheVariants.{Book}
-use Rattle.iloc_rules.specs.Renaming.{IsRenamed}
-use Rattle.iloc_sched.specs.declared.edges.Edge.{Edge}
-use Rattle.iloc_sched.specs.declared.edges.lasts.Lasts.{Lasts}
-use Rattle.iloc_rules.specs.Steps.Members.{In}
-use Rattle.iloc_sched.specs.Steps.Graph.{Graph}
-use Rattle.iloc_sched.specs.Steps.Edges.Lasts.{IsLasts}
-use Rattle.iloc_sched.specs.Steps.Renaming.ByRegister.{number_at}
-use Rattle.iloc_sched.specs.Steps.Edges.PartialGraph.{IsNearPairBy, IsPartialGraph, HasEdge, HasOneMore, Grows, AddsFrom, CoversUse, CoversUses, CoversMemory}
-use Rattle.iloc_sched.specs.Steps.Views.{no_edge}
-use Rattle.iloc_rules.proofs.Basics.Members.{in_from, in_left, in_right, from_append}
 use Rattle.iloc_sched.proofs.Basics.Cases.{same_some}
 use Rattle.iloc_sched.proofs.KeptEdges.PartialGraphs.{grows_by_one, has_new, grows_then}
 use Rattle.iloc_sched.proofs.KeptEdges.NearPairs.{covers_load, covers_output, covers_store, covers_use, store_before, output_before, load_before_store, use_pair}

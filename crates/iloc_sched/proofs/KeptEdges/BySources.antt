@@ -1,24 +1,7 @@
 -- Edges from what an operation has to wait for by address are its near pairs by memory; for `Edges::fill_by_address`.
-use Rattle.std.proofs.Common.{◌≡◌, ℕ, ◌<◌, Bool, List, [], ◌∷◌, ◌++◌, length, inl, inr, refl, sym, subst, arith}
-use Rattle.std.specs.Prelude.{Contains}
-use Rattle.iloc_ops.specs.declared.op.Op.{Op}
-use Rattle.iloc_meaning.specs.Trace.{op_at}
-use Rattle.iloc_timed.specs.declared.kind.Kind.{Kind}
-use Rattle.iloc_timed.specs.declared.latencies.Latencies.{Latencies}
-use Rattle.iloc_timed.specs.Kinds.{kind}
-use Rattle.iloc_timed.specs.Latency.{latency}
-use Rattle.iloc_rules.specs.declared.memory_rule.MemoryRule.TheVariants.{Address}
-use Rattle.iloc_rules.specs.Apart.{by_address}
-use Rattle.iloc_rules.specs.Delays.{uses_result, when, memory_delays_where, delays_where, IsDelayPairWhere}
-use Rattle.iloc_rules.specs.Steps.Members.{In}
-use Rattle.iloc_rules.proofs.Basics.Members.{contains_from, in_from, in_right, from_append}
-use Rattle.iloc_rules.proofs.DelayPairs.DelayBounds.{kind_delays}
-use Rattle.iloc_addresses.specs.Dependences.{AreSources}
+use Rattle.iloc_sched.proofs.Common.{◌≡◌, ℕ, ◌<◌, Bool, List, [], ◌∷◌, ◌++◌, length, Contains, sym, refl, subst, inl, inr, arith, Op, op_at, kind, latency, Kind, Latencies, contains_from, from_append, in_from, in_right, kind_delays, by_address, IsDelayPairWhere, delays_where, memory_delays_where, uses_result, when, In, Address, AreSources, CoversSources, delay_after, AddsFrom, CoversUses, Grows, HasEdge, IsNearPairBy, Graph}
 use Rattle.iloc_addresses.specs.Near.{IsNear}
 use Rattle.iloc_addresses.proofs.FarPairs.{counted}
-use Rattle.iloc_sched.specs.Steps.Graph.{Graph}
-use Rattle.iloc_sched.specs.Steps.Edges.ByAddress.{delay_after, CoversSources}
-use Rattle.iloc_sched.specs.Steps.Edges.PartialGraph.{IsNearPairBy, HasEdge, Grows, AddsFrom, CoversUses}
 use Rattle.iloc_sched.proofs.KeptEdges.NearPairs.{use_is_covered}
 use Rattle.iloc_sched.proofs.KeptEdges.PartialGraphs.{grows_then}
 

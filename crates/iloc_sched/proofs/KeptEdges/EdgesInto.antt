@@ -1,15 +1,5 @@
 -- Each near pair has its edge, and the edges into an operation are side by side; for `Graph::edges` and `edges_into`.
-use Rattle.std.proofs.Common.{◌≡◌, ℕ, ◌+◌, ◌-◌, ◌<◌, ◌≤◌, List, length, take, drop, get_or, sym, ◌∙◌, ap, subst, arith}
-use Rattle.std.specs.Prelude.{All, Any}
-use Rattle.std.proofs.lemmas.List.{get_or-drop, get_or-take, get_or_default, length-drop, length-take}
-use Rattle.iloc_ops.specs.declared.op.Op.{Op}
-use Rattle.iloc_timed.specs.declared.latencies.Latencies.{Latencies}
-use Rattle.iloc_rules.specs.Delays.{IsDelayPair}
-use Rattle.iloc_sched.specs.Graph.Near.{IsNearPair}
-use Rattle.iloc_sched.specs.declared.edges.Edge.{Edge}
-use Rattle.iloc_sched.specs.declared.edges.Edges.{Edges}
-use Rattle.iloc_sched.specs.Steps.Graph.{Graph, IsGraphOf}
-use Rattle.iloc_sched.specs.Steps.Views.{edge_at, graph_of}
+use Rattle.iloc_sched.proofs.Common.{◌≡◌, ℕ, ◌+◌, ◌-◌, ◌<◌, ◌≤◌, List, length, get_or, take, drop, All, Any, sym, ap, ◌∙◌, subst, arith, length-drop, length-take, get_or-drop, get_or-take, get_or_default, Op, Latencies, IsDelayPair, IsNearPair, Graph, IsGraphOf, edge_at, graph_of, Edge, Edges}
 
 pub all_edges : (lat : Latencies) (ops : List Op) (e : Edges) → IsGraphOf lat ops (graph_of e) → (i j d : ℕ)
     → IsNearPair lat ops i j d

@@ -1,20 +1,7 @@
 -- A delay pair that isn't near goes by way of an operation between; for `priorities` and `schedule` (`greedy`).
-use Rattle.std.proofs.Common.{◌≡◌, ℕ, zero, suc, ◌+◌, ◌<◌, ◌≤◌, Bool, true, false, if◌then◌else◌, List, length, ◌⊎◌, inl, inr, refl, ap, ◌∙◌, arith}
-use Rattle.iloc_ops.specs.declared.op.Op.{Op}
-use Rattle.iloc_meaning.specs.Trace.{op_at}
-use Rattle.iloc_timed.specs.declared.kind.Kind.{Kind}
+use Rattle.iloc_sched.proofs.Common.{◌≡◌, ℕ, zero, suc, ◌+◌, ◌<◌, ◌≤◌, Bool, true, false, ◌⊎◌, List, length, if◌then◌else◌, refl, ap, ◌∙◌, inl, inr, arith, cases_lt, Op, by_bool, op_at, is_output, is_store, kind, latency, Kind, Latencies, contains_from, from_append, in_from, in_right, delay_at_least_where, kind_delays, Counts, IsDelayPair, IsDelayPairWhere, all_count, memory_delays, uses_result, when, In, IsNear, takes_over}
 use Rattle.iloc_timed.specs.declared.kind.Kind.TheVariants as K
-use Rattle.iloc_timed.specs.declared.latencies.Latencies.{Latencies}
-use Rattle.iloc_timed.specs.Kinds.{kind, is_output, is_store}
-use Rattle.iloc_timed.specs.Latency.{latency}
-use Rattle.iloc_rules.specs.Delays.{Counts, all_count, uses_result, when, memory_delays, IsDelayPair, IsDelayPairWhere}
-use Rattle.iloc_rules.specs.Steps.Members.{In}
 use Rattle.iloc_rules.specs.Steps.Ways.{GoesBy}
-use Rattle.iloc_sched.specs.Graph.Near.{takes_over, IsNear}
-use Rattle.std.proofs.lemmas.Bool.{cases_lt}
-use Rattle.iloc_rules.proofs.Basics.Members.{contains_from, in_from, in_right, from_append}
-use Rattle.iloc_rules.proofs.DelayPairs.DelayBounds.{delay_at_least_where, kind_delays}
-use Rattle.iloc_meaning.proofs.Cases.{by_bool}
 use Rattle.iloc_sched.proofs.Basics.Cases.{by_eq}
 
 -- b delays c by nearly d

@@ -1,22 +1,8 @@
 -- What stands last before the next operation, once one more is noted; for `Lasts::note`.
-use Rattle.std.proofs.Common.{◌≡◌, ℕ, ◌+◌, ◌<◌, Bool, true, false, List, [], ◌∷◌, ◌++◌, Option, Some, refl, sym, ◌∙◌, ap, subst, arith}
-use Rattle.std.proofs.lemmas.Bool.{false≢true}
-use Rattle.iloc_ops.specs.declared.op.Reg.{Reg}
-use Rattle.iloc_ops.specs.declared.op.Op.{Op}
-use Rattle.iloc_ops.specs.Registers.{defined}
-use Rattle.iloc_meaning.specs.Trace.{op_at, is_register}
-use Rattle.iloc_timed.specs.declared.kind.Kind.{Kind}
+use Rattle.iloc_sched.proofs.Common.{◌≡◌, ℕ, ◌+◌, ◌<◌, Bool, true, false, List, [], ◌∷◌, ◌++◌, Some, Option, sym, refl, ap, ◌∙◌, subst, arith, false≢true, defined, Op, Reg, by_bool, is_register, op_at, is_load, is_output, is_store, kind, Kind, from_append, in_left, in_right, In, IsLasts, NoStoreBetween, NotesDefiner, NotesKind, IsLast, number_at, Lasts}
 use Rattle.iloc_timed.specs.declared.kind.Kind.TheVariants as K
-use Rattle.iloc_timed.specs.Kinds.{kind, is_load, is_store, is_output}
 use Rattle.iloc_sched.specs.declared.by_register.ByRegister.{ByRegister}
-use Rattle.iloc_sched.specs.Steps.Renaming.ByRegister.{number_at}
-use Rattle.iloc_sched.specs.declared.edges.lasts.Lasts.{Lasts}
-use Rattle.iloc_rules.specs.Steps.Members.{In}
-use Rattle.iloc_sched.specs.Steps.Graph.{IsLast}
-use Rattle.iloc_sched.specs.Steps.Edges.Lasts.{NotesDefiner, NotesKind, IsLasts, NoStoreBetween}
 use Rattle.iloc_rules.proofs.Basics.Registers.{is_register_same, is_register_from}
-use Rattle.iloc_meaning.proofs.Cases.{by_bool}
-use Rattle.iloc_rules.proofs.Basics.Members.{in_left, in_right, from_append}
 use Rattle.iloc_sched.proofs.Basics.LastOnes.{last_here, last_before}
 
 pub definers_noted : (ops : List Op) (j : ℕ) (old new : ByRegister)

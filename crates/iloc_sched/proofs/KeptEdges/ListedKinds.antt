@@ -1,13 +1,5 @@
 -- The kinds of operations, read from their list.
-use Rattle.std.proofs.Common.{ℕ, ◌≡◌, ◌<◌, List, [], ◌∷◌, length, map, get_or, refl, ◌∙◌, ap}
-use Rattle.std.proofs.lemmas.List.{get_or-map}
-use Rattle.iloc_ops.specs.declared.op.Op.{Op}
-use Rattle.iloc_ops.specs.declared.op.Op.TheVariants.{Nop}
-use Rattle.iloc_meaning.specs.Trace.{op_at}
-use Rattle.iloc_timed.specs.declared.kind.Kind.{Kind}
-use Rattle.iloc_timed.specs.declared.latencies.Latencies.{Latencies}
-use Rattle.iloc_timed.specs.Kinds.{kind}
-use Rattle.iloc_timed.specs.Latency.{latency, latency_of}
+use Rattle.iloc_sched.proofs.Common.{◌≡◌, ℕ, ◌<◌, List, [], ◌∷◌, map, length, get_or, refl, ap, ◌∙◌, get_or-map, Op, Nop, op_at, kind, latency, latency_of, Kind, Latencies}
 
 -- place j of the list has the kind of operation j
 pub kind_listed : (ops : List Op) (kinds : List Kind) (j : ℕ) (d : Kind) → kinds ≡ map kind ops → j < length ops

@@ -1,32 +1,8 @@
 -- A near pair is a use, or comes from what stands last before the operation; for `Edges::add_all`.
-use Rattle.std.proofs.Common.{◌≡◌, ℕ, ◌<◌, Bool, true, false, if◌then◌else◌, List, length, Some, inl, inr, refl, sym, subst, arith}
-use Rattle.std.specs.Prelude.{Contains}
-use Rattle.std.proofs.lemmas.Bool.{false≢true, false_from_ne_true}
-use Rattle.iloc_ops.specs.declared.op.Reg.{Reg}
-use Rattle.iloc_ops.specs.declared.op.Op.{Op}
-use Rattle.iloc_ops.specs.Registers.{used, defined}
-use Rattle.iloc_meaning.specs.Trace.{op_at, is_register}
-use Rattle.iloc_timed.specs.declared.kind.Kind.{Kind}
+use Rattle.iloc_sched.proofs.Common.{◌≡◌, ℕ, ◌<◌, Bool, true, false, List, length, if◌then◌else◌, Some, Contains, sym, refl, subst, inl, inr, arith, false_from_ne_true, false≢true, defined, used, Op, Reg, is_register, op_at, is_load, is_output, is_store, kind, latency, Kind, Latencies, any_at, contains_from, from_any, in_from, in_left, in_right, kind_delays, IsDelayPair, delays_where, memory_delays, memory_delays_where, uses_result, when, IsRenamed, counts_by, In, MemoryRule, Address, Book, IsNear, NoneBetween, IsLasts, CoversMemory, CoversUse, CoversUses, HasEdge, IsNearBy, IsNearPairBy, Graph, number_at, Lasts}
 use Rattle.iloc_timed.specs.declared.kind.Kind.TheVariants as K
-use Rattle.iloc_timed.specs.declared.latencies.Latencies.{Latencies}
-use Rattle.iloc_timed.specs.Kinds.{kind, is_load, is_store, is_output}
-use Rattle.iloc_timed.specs.Latency.{latency}
-use Rattle.iloc_rules.specs.Renaming.{IsRenamed}
-use Rattle.iloc_rules.specs.declared.memory_rule.MemoryRule.{MemoryRule}
-use Rattle.iloc_rules.specs.declared.memory_rule.MemoryRule.TheVariants.{Book, Address}
-use Rattle.iloc_rules.specs.Delays.{uses_result, when, memory_delays, memory_delays_where, delays_where, IsDelayPair}
-use Rattle.iloc_rules.specs.Rule.{counts_by}
-use Rattle.iloc_sched.specs.declared.edges.lasts.Lasts.{Lasts}
-use Rattle.iloc_rules.specs.Steps.Members.{In}
-use Rattle.iloc_sched.specs.Graph.Near.{NoneBetween, IsNear}
-use Rattle.iloc_sched.specs.Steps.Graph.{Graph}
-use Rattle.iloc_sched.specs.Steps.Edges.Lasts.{IsLasts}
-use Rattle.iloc_sched.specs.Steps.Renaming.ByRegister.{number_at}
-use Rattle.iloc_sched.specs.Steps.Edges.PartialGraph.{IsNearBy, IsNearPairBy, HasEdge, CoversUse, CoversUses, CoversMemory}
-use Rattle.iloc_rules.proofs.Basics.Members.{contains_from, in_from, any_at, from_any, in_left, in_right}
 use Rattle.iloc_rules.proofs.Basics.Registers.{is_register_same, is_register_from}
 use Rattle.iloc_sched.proofs.Basics.LastOnes.{last_is}
-use Rattle.iloc_rules.proofs.DelayPairs.DelayBounds.{kind_delays}
 use Rattle.iloc_rules.proofs.Basics.Kinds.{store_is, output_is}
 
 load_is : (k : Kind) → is_load k ≡ true → k ≡ K.Load

@@ -1,31 +1,10 @@
 -- What is known of the edges between some operations holds once there is one operation more; for `Tables::push`.
-use Rattle.std.proofs.Common.{◌≡◌, ℕ, ◌+◌, ◌<◌, List, [], ◌∷◌, ◌++◌, length, map, get_or, Option, Some, None, inl, inr, sym, ◌∙◌, ap, subst, arith}
-use Rattle.std.proofs.lemmas.List.{length-append, map-append}
+use Rattle.iloc_sched.proofs.Common.{◌≡◌, ℕ, ◌+◌, ◌<◌, true, false, List, [], ◌∷◌, ◌++◌, map, length, get_or, IsTrue, Some, None, Contains, Option, sym, ap, ◌∙◌, subst, inl, inr, arith, length-append, map-append, Vec, defined, Op, op_at, is_load, is_output, is_store, kind, latency, Kind, Latencies, IsDelayPair, delays, memory_delays, uses_result, IsRenamed, Book, IsNear, takes_over, IsLasts, IsNext, IsNearPairBy, IsPartialGraph, Graph, graph_of, Edge, Edges, Lasts}
 use Rattle.std.proofs.Math.ListN.{get_or-append}
 use Rattle.std.proofs.Math.Seq.{get_or-append_seam}
-use Rattle.std.specs.Global.{Vec}
-use Rattle.iloc_ops.specs.declared.op.Op.{Op}
-use Rattle.iloc_ops.specs.Registers.{defined}
-use Rattle.iloc_meaning.specs.Trace.{op_at}
-use Rattle.iloc_timed.specs.declared.latencies.Latencies.{Latencies}
-use Rattle.iloc_timed.specs.Kinds.{kind, is_load, is_store, is_output}
-use Rattle.iloc_timed.specs.Latency.{latency}
-use Rattle.iloc_rules.specs.Delays.{uses_result, memory_delays, delays, IsDelayPair}
-use Rattle.iloc_timed.specs.declared.kind.Kind.{Kind}
-use Rattle.iloc_rules.specs.declared.memory_rule.MemoryRule.TheVariants.{Book}
-use Rattle.iloc_rules.specs.Renaming.{IsRenamed}
-use Rattle.iloc_sched.specs.declared.edges.Edge.{Edge}
-use Rattle.iloc_sched.specs.declared.edges.Edges.{Edges}
-use Rattle.iloc_sched.specs.declared.edges.lasts.Lasts.{Lasts}
-use Rattle.iloc_sched.specs.Graph.Near.{IsNear, takes_over}
-use Rattle.iloc_sched.specs.Steps.Graph.{Graph}
-use Rattle.iloc_sched.specs.Steps.Edges.Lasts.{IsLasts, IsNext}
-use Rattle.iloc_sched.specs.Steps.Edges.PartialGraph.{IsNearPairBy, IsPartialGraph}
-use Rattle.iloc_sched.specs.Steps.Views.{graph_of}
 use Rattle.iloc_sched.proofs.Basics.LastOnes.{last_same}
 use Rattle.iloc_sched.proofs.KeptEdges.AddedEdges.{tables_graph}
 use Rattle.iloc_sched.proofs.Renamed.OneMoreOperation.{op_at_kept}
-use Rattle.std.specs.Prelude.{true, false, Contains, IsTrue}
 
 module _ (ops : List Op) (op : Op) where
   on : (P : Op → Type 0) (k : ℕ) → k < length ops → P (op_at ops k) → P (op_at (ops ++ op ∷ []) k)

@@ -1,16 +1,5 @@
 -- The kept edges grow edge by edge and operation by operation; for `Edges::fill`.
-use Rattle.std.proofs.Common.{◌≡◌, ℕ, ◌+◌, ◌<◌, ◌≤◌, List, length, inl, inr, ◌∙◌, ap, subst, sym, arith}
-use Rattle.iloc_ops.specs.declared.op.Op.{Op}
-use Rattle.iloc_meaning.specs.Trace.{op_at}
-use Rattle.iloc_timed.specs.declared.latencies.Latencies.{Latencies}
-use Rattle.iloc_rules.specs.declared.memory_rule.MemoryRule.{MemoryRule}
-use Rattle.iloc_rules.specs.declared.memory_rule.MemoryRule.TheVariants.{Book, Address}
-use Rattle.iloc_rules.specs.Apart.{by_address}
-use Rattle.iloc_rules.specs.Delays.{IsDelayPairWhere}
-use Rattle.iloc_rules.specs.Rule.{counts_by}
-use Rattle.iloc_sched.specs.Steps.Graph.{Graph, IsLast, IsGraph, LeadsTo, IsGraphOf, IsGraphWhere}
-use Rattle.iloc_sched.specs.Steps.Edges.PartialGraph.{IsNearBy, IsNearPairBy, IsPartialGraph, HasEdge, HasOneMore, Grows}
-use Rattle.iloc_rules.proofs.DelayPairs.DelayBounds.{delay_at_least_where, short_delay_where}
+use Rattle.iloc_sched.proofs.Common.{◌≡◌, ℕ, ◌+◌, ◌<◌, ◌≤◌, List, length, sym, ap, ◌∙◌, subst, inl, inr, arith, Op, op_at, Latencies, delay_at_least_where, short_delay_where, by_address, IsDelayPairWhere, counts_by, MemoryRule, Address, Book, Grows, HasEdge, HasOneMore, IsNearBy, IsNearPairBy, IsPartialGraph, Graph, IsGraph, IsGraphOf, IsGraphWhere, IsLast, LeadsTo}
 use Rattle.iloc_addresses.proofs.FarPairs.{near_or_by_way}
 use Rattle.iloc_sched.proofs.Basics.Cases.{by_eq, by_lt}
 use Rattle.iloc_sched.proofs.Basics.LastOnes.{last_same, last_here, last_before}

@@ -1,20 +1,5 @@
 -- The tables of a graph are sound, by the book and by address; for `Tables::open`, `open_by_address` and the calls of `Graph`.
-use Rattle.std.proofs.Common.{◌≡◌, ℕ, ◌<◌, List, [], length, map, inl, inr, sym, ◌∙◌, ap, subst, arith}
-use Rattle.std.proofs.lemmas.List.{get_or_past}
-use Rattle.iloc_ops.specs.declared.op.Op.{Op}
-use Rattle.iloc_timed.specs.declared.latencies.Latencies.{Latencies}
-use Rattle.iloc_timed.specs.Kinds.{kind}
-use Rattle.iloc_timed.specs.Latency.{latency}
-use Rattle.iloc_rules.specs.declared.memory_rule.MemoryRule.TheVariants.{Book, Address}
-use Rattle.iloc_rules.specs.declared.memory_rule.MemoryRule.{MemoryRule}
-use Rattle.iloc_rules.specs.Apart.{by_address}
-use Rattle.iloc_rules.specs.Delays.{all_count}
-use Rattle.iloc_rules.specs.Rule.{counts_by}
-use Rattle.iloc_sched.specs.declared.tables.Tables.{Tables}
-use Rattle.iloc_sched.specs.Graph.GraphOf.{GraphOf, RuledGraphOf}
-use Rattle.iloc_sched.specs.Steps.Graph.{Graph, IsGraphOf, IsGraphWhere}
-use Rattle.iloc_sched.specs.Steps.Edges.SoundGraph.{IsByTheBook, IsSound, IsOfBlock}
-use Rattle.iloc_sched.specs.Steps.Views.{graph_of, IsEmptied}
+use Rattle.iloc_sched.proofs.Common.{◌≡◌, ℕ, ◌<◌, List, [], map, length, sym, ap, ◌∙◌, subst, inl, inr, arith, get_or_past, Op, kind, latency, Latencies, by_address, all_count, counts_by, MemoryRule, Address, Book, GraphOf, RuledGraphOf, IsByTheBook, IsOfBlock, IsSound, Graph, IsGraphOf, IsGraphWhere, IsEmptied, graph_of, Tables}
 use Rattle.iloc_sched.proofs.KeptEdges.FarPairs.{near_or_by_way}
 
 -- what isn't near goes by way of an operation between

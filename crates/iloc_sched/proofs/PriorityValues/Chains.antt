@@ -1,12 +1,6 @@
 -- Numbers that edges raise become the longest chains; for priorities and starts.
-use Rattle.std.proofs.Common.{◌≡◌, ◌≢◌, ℕ, ◌+◌, ◌<◌, ◌≤◌, max, List, length, set, get_or, arith}
-use Rattle.std.proofs.lemmas.List.{get_or-set_same, get_or-set_other, length-set}
-use Rattle.iloc_ops.specs.declared.op.Op.{Op}
-use Rattle.iloc_timed.specs.declared.latencies.Latencies.{Latencies}
-use Rattle.iloc_rules.specs.Delays.{Counts, IsDelayPairWhere}
-use Rattle.iloc_sched.specs.Steps.Chains.{IsRaised, IsFrom, IsBefore}
+use Rattle.iloc_sched.proofs.Common.{◌≡◌, ℕ, ◌+◌, ◌<◌, ◌≤◌, max, ◌≢◌, List, length, get_or, set, arith, length-set, get_or-set_other, get_or-set_same, Op, Latencies, Counts, IsDelayPairWhere, IsBefore, IsFrom, IsRaised, Graph, IsGraphWhere, LeadsTo}
 use Rattle.iloc_rules.specs.Steps.Chains.{IsChain}
-use Rattle.iloc_sched.specs.Steps.Graph.{Graph, LeadsTo, IsGraphWhere}
 use Rattle.iloc_sched.proofs.KeptEdges.FarPairs.{all_kept}
 
 -- the number of `at` is put to v, which is no less

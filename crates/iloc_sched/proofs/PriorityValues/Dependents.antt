@@ -1,15 +1,5 @@
 -- Which operations depend on which, step by step; for `Heuristic::Descendants`.
-use Rattle.std.proofs.Common.{◌≡◌, ℕ, ◌+◌, ◌<◌, ◌≤◌, zero, suc, Bool, true, ◌==◌, ◌||◌, ◌&&◌, List, [], ◌∷◌, length, ◌⊎◌, inl, refl, sym, arith}
-use Rattle.std.specs.Prelude.{nat_lt}
-use Rattle.std.specs.List.{range_with_len}
-use Rattle.std.proofs.lemmas.Bool.{ltb-true, lt-ltb, and_parts, eq-eqb, true≢false, eqb-true, and_from, or_cases}
-use Rattle.iloc_ops.specs.declared.op.Op.{Op}
-use Rattle.iloc_timed.specs.declared.latencies.Latencies.{Latencies}
-use Rattle.iloc_rules.specs.Delays.{Counts, IsDelayPairWhere}
-use Rattle.iloc_rules.specs.Heuristics.{waits_for_where, depends_where, depends_on_where}
-use Rattle.iloc_rules.specs.Steps.Members.{In}
-use Rattle.iloc_sched.specs.Steps.Ranking.Dependents.{Reaches}
-use Rattle.iloc_rules.proofs.Basics.Members.{contains_from, in_from, any_at, from_any, in_range_from, from_range}
+use Rattle.iloc_sched.proofs.Common.{◌≡◌, ℕ, zero, suc, ◌+◌, ◌<◌, ◌≤◌, Bool, true, ◌&&◌, ◌||◌, ◌⊎◌, List, [], ◌∷◌, length, nat_lt, ◌==◌, sym, refl, inl, true≢false, arith, ltb-true, lt-ltb, eq-eqb, eqb-true, and_from, and_parts, or_cases, range_with_len, Op, Latencies, any_at, contains_from, from_any, from_range, in_from, in_range_from, Counts, IsDelayPairWhere, depends_on_where, depends_where, waits_for_where, In, Reaches}
 
 either : (a b : Bool) → (a ≡ true) ⊎ (b ≡ true) → (a || b) ≡ true
 either a b one = grind (arith, true≢false)

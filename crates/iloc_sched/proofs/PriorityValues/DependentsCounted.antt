@@ -1,20 +1,7 @@
 -- The bits of the sets are counted, 64 operations at a time; for `Heuristic::Descendants`.
-use Rattle.std.proofs.Common.{◌≡◌, ℕ, ◌+◌, ◌<◌, ◌≤◌, ◌^◌, Bool, true, false, cond, List, map, length, get_or, inl, inr, refl, sym, ◌∙◌, ap, ◌-◌, arith, count_ones}
-use Rattle.std.specs.Prelude.{count_by}
-use Rattle.std.specs.List.{range_with_len}
-use Rattle.std.specs.Int.{bit_at}
+use Rattle.iloc_sched.proofs.Common.{◌≡◌, ℕ, ◌+◌, ◌-◌, ◌^◌, ◌<◌, ◌≤◌, Bool, true, false, cond, List, map, length, get_or, count_ones, count_by, sym, refl, ap, ◌∙◌, inl, inr, true≢false, arith, cases_lt, get_or_past, get_or-map-range_with_len, length-map-range_with_len, bit_at-lt, bit_at_above, same_from_bits, bit_at, range_with_len, Op, by_bool, Latencies, Counts, depends_on_where, descendants_where, AreMarked}
 use Rattle.std.specs.Simd.Lanes.{mask_l}
-use Rattle.std.proofs.lemmas.Nat.Bits.{bit_at-lt, bit_at_above, same_from_bits}
 use Rattle.std.proofs.lemmas.Simd.{ones-mask_l, bit_mask_l}
-use Rattle.std.proofs.lemmas.Bool.{cases_lt, true≢false}
-use Rattle.std.proofs.lemmas.List.{get_or_past}
-use Rattle.std.proofs.lemmas.List.FromFn.{length-map-range_with_len, get_or-map-range_with_len}
-use Rattle.iloc_ops.specs.declared.op.Op.{Op}
-use Rattle.iloc_timed.specs.declared.latencies.Latencies.{Latencies}
-use Rattle.iloc_meaning.proofs.Cases.{by_bool}
-use Rattle.iloc_rules.specs.Delays.{Counts}
-use Rattle.iloc_rules.specs.Heuristics.{depends_on_where, descendants_where}
-use Rattle.iloc_sched.specs.Steps.Ranking.Dependents.{AreMarked}
 use Rattle.iloc_rules.proofs.Basics.CountedRanges.{count_range, none_in_range}
 use Rattle.iloc_sched.proofs.PriorityValues.Dependents.{depends_within}
 

@@ -1,18 +1,7 @@
 -- Sets that are joined along the kept edges, the last first, have just the operations that depend on each; for
 -- `Heuristic::Descendants`.
-use Rattle.std.proofs.Common.{◌≡◌, ◌≢◌, ℕ, zero, suc, ◌+◌, ◌<◌, ◌≤◌, true, List, length, set, get_or, ◌⊎◌, inl, inr, sym, ◌∙◌, ap, subst, arith, min}
-use Rattle.std.specs.Prelude.{replicate}
-use Rattle.std.specs.Int.{bit_at}
+use Rattle.iloc_sched.proofs.Common.{◌≡◌, ℕ, zero, suc, ◌+◌, ◌<◌, ◌≤◌, min, true, ◌≢◌, ◌⊎◌, List, length, get_or, set, replicate, sym, ap, ◌∙◌, subst, inl, inr, arith, length-set, get_or-set_other, get_or-set_same, cases_lt, get_or-replicate, length-replicate, bit_at-lt, bit_at-zero, bit_at_or, bit_at, Op, Latencies, Counts, IsDelayPairWhere, depends_on_where, Graph, IsGraphWhere, LeadsTo, AreMarked, IsMarked, Reaches}
 use Rattle.std.specs.Int.Bits.{bit_or}
-use Rattle.std.proofs.lemmas.List.{get_or-set_same, get_or-set_other, length-set, get_or-replicate, length-replicate}
-use Rattle.std.proofs.lemmas.Nat.Bits.{bit_at_or, bit_at-lt, bit_at-zero}
-use Rattle.std.proofs.lemmas.Bool.{cases_lt}
-use Rattle.iloc_ops.specs.declared.op.Op.{Op}
-use Rattle.iloc_timed.specs.declared.latencies.Latencies.{Latencies}
-use Rattle.iloc_rules.specs.Delays.{Counts, IsDelayPairWhere}
-use Rattle.iloc_rules.specs.Heuristics.{depends_on_where}
-use Rattle.iloc_sched.specs.Steps.Graph.{Graph, LeadsTo, IsGraphWhere}
-use Rattle.iloc_sched.specs.Steps.Ranking.Dependents.{Reaches, IsMarked, AreMarked}
 use Rattle.iloc_sched.proofs.PriorityValues.Dependents.{by_pair, first_pair, later}
 use Rattle.iloc_sched.proofs.Basics.Cases.{by_eq}
 

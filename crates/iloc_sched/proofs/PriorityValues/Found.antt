@@ -1,25 +1,7 @@
 -- Numbers that the kept edges have raised are the priorities and the starts; for `chains`, `starts` and `tails`.
-use Rattle.std.proofs.Common.{◌≡◌, ℕ, ◌+◌, ◌<◌, ◌≤◌, max, List, length, map, set, get_or, sym, ◌∙◌, subst, arith}
-use Rattle.std.specs.Prelude.{replicate}
-use Rattle.std.proofs.lemmas.List.{ext_get_or, get_or_read, get_or-map, get_or-replicate, length-map, length-replicate}
-use Rattle.iloc_ops.specs.declared.op.Op.{Op}
-use Rattle.iloc_meaning.specs.Trace.{op_at}
-use Rattle.iloc_timed.specs.declared.latencies.Latencies.{Latencies}
-use Rattle.iloc_timed.specs.Latency.{latency}
-use Rattle.iloc_rules.specs.Delays.{Counts}
-use Rattle.iloc_rules.specs.Priority.{priorities_where}
-use Rattle.iloc_rules.specs.Rule.{counts_by}
-use Rattle.iloc_rules.specs.Starts.{starts_where}
-use Rattle.iloc_sched.specs.declared.edges.Edge.{Edge}
-use Rattle.iloc_sched.specs.declared.tables.Tables.{Tables}
-use Rattle.iloc_sched.specs.Steps.Chains.{AreRaised, ArePrioritiesFrom, AreStartsBefore}
+use Rattle.iloc_sched.proofs.Common.{◌≡◌, ℕ, ◌+◌, ◌<◌, ◌≤◌, max, List, map, length, get_or, set, replicate, sym, ◌∙◌, subst, arith, ext_get_or, get_or-map, get_or-replicate, get_or_read, length-map, length-replicate, Op, op_at, latency, Latencies, length_where, priority_least_where, length-starts_where, start_least_where, Counts, priorities_where, counts_by, starts_where, ArePrioritiesFrom, AreRaised, AreStartsBefore, IsSound, Graph, IsGraph, IsGraphWhere, edge_at, graph_of, Edge, Tables}
 use Rattle.iloc_rules.specs.Steps.Chains.{IsChainOutWhere}
-use Rattle.iloc_sched.specs.Steps.Graph.{Graph, IsGraph, IsGraphWhere}
-use Rattle.iloc_sched.specs.Steps.Edges.SoundGraph.{IsSound}
-use Rattle.iloc_sched.specs.Steps.Views.{graph_of, edge_at}
 use Rattle.iloc_sched.proofs.PriorityValues.Chains.{raise_from, over_pairs}
-use Rattle.iloc_rules.proofs.PriorityValues.LongestWhere.{length_where, priority_least_where}
-use Rattle.iloc_rules.proofs.PriorityValues.Starts.{length-starts_where, start_least_where}
 
 -- what is known of an edge that was read
 pub read_edge : (t : Tables) → IsGraph (graph_of t.edges) → length t.edges.heads.items ≡ length t.ops.items → (x : ℕ) (edge : Edge) → x < length t.edges.edges.items

@@ -1,26 +1,8 @@
 -- The operations that wait for each directly, counted by their kinds and by the edges; for `Heuristic::Successors`.
-use Rattle.std.proofs.Common.{◌≡◌, ◌≢◌, ℕ, ◌+◌, ◌-◌, ◌<◌, ◌≤◌, Bool, true, false, cond, ◌||◌, ◌&&◌, List, ◌++◌, length, map, set, get_or, inl, refl, sym, ◌∙◌, ap, subst, arith}
-use Rattle.std.specs.Prelude.{count_by, replicate, nat_lt, not}
-use Rattle.std.specs.List.{range_with_len}
-use Rattle.std.proofs.lemmas.Bool.{ltb-true, lt-ltb, and_parts, cases_lt, true≢false}
-use Rattle.std.proofs.lemmas.List.{ext_get_or, get_or-set_same, get_or-set_other, get_or_past, length-set, get_or-replicate, length-replicate}
-use Rattle.std.proofs.lemmas.List.FromFn.{length-map-range_with_len, get_or-map-range_with_len}
-use Rattle.iloc_ops.specs.declared.op.Op.{Op}
-use Rattle.iloc_meaning.specs.Trace.{op_at}
-use Rattle.iloc_timed.specs.declared.kind.Kind.{Kind}
-use Rattle.iloc_timed.specs.declared.latencies.Latencies.{Latencies}
-use Rattle.iloc_timed.specs.Kinds.{kind}
-use Rattle.iloc_timed.specs.Latency.{latency}
-use Rattle.iloc_meaning.proofs.Cases.{by_bool}
-use Rattle.iloc_rules.specs.Delays.{delays, uses_result, when, memory_delays, IsDelayPair}
-use Rattle.iloc_rules.specs.Heuristics.{waits_for, successors}
+use Rattle.iloc_sched.proofs.Common.{◌≡◌, ℕ, ◌+◌, ◌-◌, ◌<◌, ◌≤◌, Bool, true, false, cond, not, ◌&&◌, ◌||◌, ◌≢◌, List, ◌++◌, map, length, get_or, set, replicate, nat_lt, count_by, sym, refl, ap, ◌∙◌, subst, inl, true≢false, arith, length-set, get_or-set_other, get_or-set_same, ext_get_or, ltb-true, lt-ltb, and_parts, cases_lt, get_or-replicate, get_or_past, length-replicate, get_or-map-range_with_len, length-map-range_with_len, range_with_len, Op, by_bool, op_at, kind, latency, Kind, Latencies, contains_from, in_left, IsDelayPair, delays, memory_delays, uses_result, when, successors, waits_for, In, IsNear, AreCounted, AreNoted, from_on, waiting_for, waits_by_kind, waits_by_use}
 use Rattle.iloc_sched.specs.declared.edges.later.Later.{Later}
-use Rattle.iloc_rules.specs.Steps.Members.{In}
-use Rattle.iloc_sched.specs.Graph.Near.{IsNear}
-use Rattle.iloc_sched.specs.Steps.Ranking.Successors.{waits_by_kind, waits_by_use, waiting_for, from_on, AreNoted, AreCounted}
 use Rattle.iloc_sched.proofs.Basics.Cases.{by_eq}
 use Rattle.iloc_rules.proofs.Basics.CountedRanges.{count_first, count_range, none_in_range, count_sum, count_most}
-use Rattle.iloc_rules.proofs.Basics.Members.{contains_from, in_left}
 
 -- there is a delay just where the result is used, or memory or outputs ask for one
 some_delay : (a b c : Bool) (d : ℕ) → nat_lt 0 (length (when a d ++ (when b d ++ when c 1))) ≡ (a || (b || c))

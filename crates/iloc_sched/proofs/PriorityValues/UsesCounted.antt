@@ -1,18 +1,5 @@
 -- The edges into an operation, each source once, are the operations that it waits for by use; for `Heuristic::Successors`.
-use Rattle.std.proofs.Common.{◌≡◌, ◌≢◌, ℕ, ◌+◌, ◌<◌, ◌≤◌, Bool, true, false, cond, ◌&&◌, List, length, set, get_or, sym, ◌∙◌, ap, subst, arith}
-use Rattle.std.specs.Prelude.{not}
-use Rattle.std.proofs.lemmas.Bool.{and_parts, eq-eqb, eqb-true, true≢false}
-use Rattle.std.proofs.lemmas.List.{get_or-set_same, get_or-set_other, length-set}
-use Rattle.iloc_ops.specs.declared.op.Op.{Op}
-use Rattle.iloc_meaning.specs.Trace.{op_at}
-use Rattle.iloc_timed.specs.declared.latencies.Latencies.{Latencies}
-use Rattle.iloc_timed.specs.Kinds.{kind}
-use Rattle.iloc_timed.specs.Latency.{latency}
-use Rattle.iloc_meaning.proofs.Cases.{by_bool}
-use Rattle.iloc_rules.specs.Delays.{all_count, IsDelayPair}
-use Rattle.iloc_rules.specs.Heuristics.{waits_for}
-use Rattle.iloc_sched.specs.Steps.Graph.{Graph, IsGraphOf}
-use Rattle.iloc_sched.specs.Steps.Ranking.Successors.{waits_by_kind, waits_by_use, leads_into, adds_one, IsCounting}
+use Rattle.iloc_sched.proofs.Common.{◌≡◌, ℕ, ◌+◌, ◌<◌, ◌≤◌, Bool, true, false, cond, not, ◌&&◌, ◌≢◌, List, length, get_or, set, sym, ap, ◌∙◌, subst, true≢false, arith, length-set, get_or-set_other, get_or-set_same, eq-eqb, eqb-true, and_parts, Op, by_bool, op_at, kind, latency, Latencies, IsDelayPair, all_count, waits_for, Graph, IsGraphOf, IsCounting, adds_one, leads_into, waits_by_kind, waits_by_use}
 use Rattle.iloc_sched.proofs.Basics.Cases.{by_eq, by_lt, by_option}
 use Rattle.iloc_sched.proofs.PriorityValues.Dependents.{pair_waits}
 use Rattle.iloc_sched.proofs.PriorityValues.Successors.{use_pair}

@@ -1,15 +1,5 @@
 -- The calendar of a plan, as ranks are put into it, released and taken.
-use Rattle.std.proofs.Common.{◌≡◌, ◌≢◌, ℕ, ◌+◌, ◌<◌, ◌≤◌, ◌||◌, Bool, true, false, eqb, length, sym, ◌∙◌, ap, arith, inl, inr}
-use Rattle.std.proofs.lemmas.Bool.{true≢false, or_cases}
-use Rattle.iloc_sched.specs.declared.cycle.calendar.Calendar.{Calendar}
-use Rattle.iloc_sched.specs.declared.cycle.class.Class.{Class}
-use Rattle.iloc_sched.specs.declared.cycle.plan.Plan.{Plan}
-use Rattle.iloc_sched.specs.Steps.Cycle.Calendar.{has, IsWithin, HasRoom, KeepsRoom, HasSameSets, Puts, Releases}
-use Rattle.iloc_sched.specs.Steps.Cycle.Classes.{place_of, excludes}
-use Rattle.iloc_sched.specs.Steps.Cycle.RankSets.{rank_bit}
-use Rattle.iloc_sched.specs.Steps.Cycle.SoFar.{class_at, rank_of, KeepsOut, IsPlan, IsCalendar}
-use Rattle.iloc_sched.specs.Steps.Views.{bucket_of}
-use Rattle.iloc_meaning.proofs.Cases.{by_bool}
+use Rattle.iloc_sched.proofs.Common.{◌≡◌, ℕ, ◌+◌, ◌<◌, ◌≤◌, Bool, true, false, ◌||◌, eqb, ◌≢◌, length, sym, ap, ◌∙◌, inl, inr, true≢false, arith, or_cases, by_bool, HasRoom, HasSameSets, IsWithin, KeepsRoom, Puts, Releases, has, excludes, place_of, rank_bit, IsCalendar, IsPlan, KeepsOut, class_at, rank_of, bucket_of, Calendar, Class, Plan}
 use Rattle.iloc_sched.proofs.Basics.Cases.{by_eq}
 use Rattle.iloc_sched.proofs.Ranks.Cells.{by_both}
 use Rattle.iloc_sched.proofs.Walking.EdgeWalk.{Enters}

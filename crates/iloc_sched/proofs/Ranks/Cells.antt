@@ -1,8 +1,5 @@
 -- One word of one set is written.
-use Rattle.std.proofs.Common.{◌≡◌, ◌≢◌, ℕ, zero, suc, ◌+◌, ◌*◌, ◌/◌, ◌%◌, ◌<◌, List, length, get_or, set, replicate, ap, refl, arith, get_or-set_other}
-use Rattle.std.specs.Int.{bit_at}
-use Rattle.std.proofs.lemmas.Grind.{get_or-set_at}
-use Rattle.iloc_sched.specs.Steps.Cycle.RankSets.{word_at, rank_bit}
+use Rattle.iloc_sched.proofs.Common.{◌≡◌, ℕ, zero, suc, ◌+◌, ◌*◌, ◌/◌, ◌%◌, ◌<◌, ◌≢◌, List, length, get_or, set, replicate, refl, ap, arith, get_or-set_other, get_or-set_at, bit_at, rank_bit, word_at}
 use Rattle.iloc_sched.proofs.Basics.Cases.{by_eq}
 
 pub by_both : {P : Type 0} → (t s u w : ℕ) → (t ≡ s → u ≡ w → P) → ((t ≡ s → u ≡ w → ⊥) → P) → P

@@ -1,10 +1,6 @@
 -- The first of what is ready and not kept out; for `Calendar::first`.
-use Rattle.std.proofs.Common.{◌≡◌, ◌≢◌, ℕ, ◌+◌, ◌-◌, ◌*◌, ◌/◌, ◌%◌, ◌^◌, ◌<◌, ◌≤◌, List, length, min, Some, None, ap, sym, ◌∙◌, arith, w64, bit_and}
-use Rattle.std.specs.Int.{bit_at, bit_not, trailing_zeros}
+use Rattle.iloc_sched.proofs.Common.{◌≡◌, ℕ, ◌+◌, ◌-◌, ◌*◌, ◌/◌, ◌%◌, ◌^◌, ◌<◌, ◌≤◌, min, ◌≢◌, List, length, bit_and, Some, None, sym, ap, ◌∙◌, arith, w64, and_le_l, bit_at-trailing_zeros, bit_at_and, bit_at_not, bit_at, bit_not, trailing_zeros, HoldsBits, IsFirstBit, IsFirstWithin, IsSearched}
 use Rattle.std.specs.Int.Count.{count_trailing_zeros, trailing_of_zero}
-use Rattle.std.proofs.lemmas.Nat.{and_le_l}
-use Rattle.std.proofs.lemmas.Nat.Bits.{bit_at_and, bit_at_not, bit_at-trailing_zeros}
-use Rattle.iloc_sched.specs.Steps.Cycle.RankSets.{HoldsBits, IsFirstBit, IsFirstWithin, IsSearched}
 use Rattle.iloc_sched.proofs.Basics.Cases.{by_eq}
 use Rattle.iloc_sched.proofs.Ranks.WordBits.{no_bit}
 

@@ -1,9 +1,6 @@
 -- Words are moved from a bucket to what is ready; for `Calendar::release`.
-use Rattle.std.proofs.Common.{◌≡◌, ◌≢◌, ℕ, ◌+◌, ◌-◌, ◌*◌, ◌/◌, ◌%◌, ◌<◌, ◌≤◌, List, length, set, min, max, eqb, ◌||◌, ap, ap₂, sym, ◌∙◌, arith, bit_or, length-set}
-use Rattle.std.specs.Int.{bit_at}
-use Rattle.std.proofs.lemmas.Nat.Bits.{bit_at_or, bit_at-lt}
+use Rattle.iloc_sched.proofs.Common.{◌≡◌, ℕ, ◌+◌, ◌-◌, ◌*◌, ◌/◌, ◌%◌, ◌<◌, ◌≤◌, min, max, ◌||◌, eqb, ◌≢◌, List, length, set, bit_or, sym, ap, ◌∙◌, ap₂, arith, length-set, bit_at-lt, bit_at_or, bit_at, HoldsBits, IsSummary, MovesAt, NotesMoved, open_bit, rank_bit, word_at}
 use lib.Bits.{or_zero_r}
-use Rattle.iloc_sched.specs.Steps.Cycle.RankSets.{word_at, rank_bit, open_bit, IsSummary, MovesAt, NotesMoved, HoldsBits}
 use Rattle.iloc_sched.proofs.Ranks.Cells.{cell_same, cell_other}
 
 -- all is as it was but what is ready and bucket b in the words that moved

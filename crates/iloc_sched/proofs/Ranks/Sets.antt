@@ -1,15 +1,6 @@
 -- What words say of sets: put, released, first; for the functions of `Calendar`.
-use Rattle.std.proofs.Common.{◌≡◌, ◌≢◌, ℕ, ◌+◌, ◌-◌, ◌*◌, ◌/◌, ◌%◌, ◌<◌, ◌≤◌, ◌&&◌, ◌||◌, not, Bool, true, false, eqb, List, length, min, None, sym, ◌∙◌, ap, subst, arith}
-use Rattle.std.specs.Int.{bit_at}
+use Rattle.iloc_sched.proofs.Common.{◌≡◌, ℕ, ◌+◌, ◌-◌, ◌*◌, ◌/◌, ◌%◌, ◌<◌, ◌≤◌, min, Bool, true, false, not, ◌&&◌, ◌||◌, eqb, ◌≢◌, List, length, None, sym, ap, ◌∙◌, subst, arith, with_items_is, Vec, bit_at, with_items, IsFirst, KeepsRoom, Puts, Releases, has, offers, place_of, AddsBit, HoldsBits, IsSummary, MovesAt, NotesMoved, TakesBit, open_bit, rank_bit, word_at, Calendar, Class}
 use lib.ListN.{get_or-eq_default}
-use Rattle.std.specs.Global.{Vec}
-use Rattle.std.specs.Vec.{with_items}
-use Rattle.std.proofs.lemmas.List.{with_items_is}
-use Rattle.iloc_sched.specs.declared.cycle.calendar.Calendar.{Calendar}
-use Rattle.iloc_sched.specs.declared.cycle.class.Class.{Class}
-use Rattle.iloc_sched.specs.Steps.Cycle.Calendar.{has, offers, IsFirst, KeepsRoom, Puts, Releases}
-use Rattle.iloc_sched.specs.Steps.Cycle.Classes.{place_of}
-use Rattle.iloc_sched.specs.Steps.Cycle.RankSets.{word_at, rank_bit, IsSummary, AddsBit, TakesBit, MovesAt, NotesMoved, HoldsBits, open_bit}
 use Rattle.iloc_sched.proofs.Basics.Cases.{by_lt}
 use Rattle.iloc_sched.proofs.Ranks.Calendars.{place_small}
 use Rattle.iloc_sched.proofs.Ranks.Moves.{KeepsElse, moved_ready}

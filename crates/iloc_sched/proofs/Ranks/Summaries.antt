@@ -1,8 +1,5 @@
 -- A rank is added to a set or taken out, or words are searched, and the summary stays right.
-use Rattle.std.proofs.Common.{◌≡◌, ℕ, ◌+◌, ◌-◌, ◌*◌, ◌/◌, ◌%◌, ◌^◌, ◌<◌, ◌≤◌, List, length, set, max, Bool, true, false, ap, ap₂, sym, ◌∙◌, arith, bit_and, bit_or, length-set}
-use Rattle.std.specs.Int.{bit_at}
-use Rattle.std.proofs.lemmas.Nat.Bits.{bit_at-lt, bit_at_and}
-use Rattle.iloc_sched.specs.Steps.Cycle.RankSets.{word_at, rank_bit, open_bit, IsSummary, IsSearched, AddsBit, TakesBit}
+use Rattle.iloc_sched.proofs.Common.{◌≡◌, ℕ, ◌+◌, ◌-◌, ◌*◌, ◌/◌, ◌%◌, ◌^◌, ◌<◌, ◌≤◌, max, Bool, true, false, List, length, set, bit_and, bit_or, sym, ap, ◌∙◌, ap₂, arith, length-set, bit_at-lt, bit_at_and, bit_at, AddsBit, IsSearched, IsSummary, TakesBit, open_bit, rank_bit, word_at}
 use Rattle.iloc_sched.proofs.Ranks.WordBits.{one_if, and_same, and_other, or_same, or_other, or_some}
 use Rattle.iloc_sched.proofs.Ranks.Cells.{by_both, cell_same, cell_other, put_same, put_other}
 

@@ -1,9 +1,5 @@
 -- One bit of a word.
-use Rattle.std.proofs.Common.{◌≡◌, ◌≢◌, ℕ, ◌-◌, ◌*◌, ◌%◌, ◌^◌, ◌<◌, set, min, max, Bool, true, false, eqb, ◌||◌, ap, ◌∙◌, arith, w64, bit_and, bit_or}
-use Rattle.std.specs.Int.{bit_at, bit_not, from_bool}
-use Rattle.std.proofs.lemmas.Bool.{eq-eqb}
-use Rattle.std.proofs.lemmas.Nat.{one_shl, pow_pos, le_or_r, and_le_l}
-use Rattle.std.proofs.lemmas.Nat.Bits.{bit_at_set_same, bit_at_set_other, bit_at_clear_same, bit_at_clear_other, bit_at_and, bit_at_not, bit_at-lt, bit_at-zero}
+use Rattle.iloc_sched.proofs.Common.{◌≡◌, ℕ, ◌-◌, ◌*◌, ◌%◌, ◌^◌, ◌<◌, min, max, Bool, true, false, ◌||◌, eqb, ◌≢◌, set, bit_and, bit_or, ap, ◌∙◌, arith, pow_pos, w64, eq-eqb, and_le_l, le_or_r, one_shl, bit_at-lt, bit_at-zero, bit_at_and, bit_at_clear_other, bit_at_clear_same, bit_at_not, bit_at_set_other, bit_at_set_same, bit_at, bit_not, from_bool}
 use lib.Bits.{or_zero_r}
 
 -- 1 for true, as `u64::from` gives it

@@ -1,14 +1,9 @@
 -- A register is named by the place of its source, use after use; for `rename` (`renamed`).
-use Rattle.std.proofs.Common.{◌≡◌, ◌≢◌, ℕ, ◌+◌, ◌<◌, ◌≤◌, ◌⊎◌, ◌==◌, ◌||◌, Bool, true, false, if◌then◌else◌, List, [], ◌∷◌, ◌++◌, length, Option, Some, None, refl, sym, ap, ◌∙◌, arith, inl, inr, length-append, append_assoc, append-nil, ne_eqb, eq-eqb}
-use Rattle.std.proofs.lemmas.Bool.{eqb-true}
-use Rattle.std.specs.List.{list_any}
+use Rattle.iloc_sched.proofs.Common.{◌≡◌, ℕ, ◌+◌, ◌<◌, ◌≤◌, Bool, true, false, ◌||◌, ◌≢◌, ◌⊎◌, List, [], ◌∷◌, ◌++◌, length, if◌then◌else◌, ◌==◌, Some, None, Option, sym, refl, ap, ◌∙◌, inl, inr, append_assoc, append-nil, arith, length-append, eq-eqb, ne_eqb, eqb-true, list_any, Reg, by_bool, Source, is_source, struck, Stands, Follows, NamesNext, also, also_all}
 use Rattle.std.proofs.lemmas.List.Folds.{list_any-append}
-use Rattle.iloc_ops.specs.declared.op.Reg.{Reg}
-use Rattle.iloc_meaning.proofs.Cases.{by_bool}
-use Rattle.iloc_rules.specs.Renaming.{Source, is_source, struck, place_of}
+use Rattle.iloc_rules.specs.Renaming.{place_of}
 use Rattle.iloc_rules.specs.Renaming.Source.{Start, Result}
-use Rattle.iloc_sched.specs.Steps.Renaming.NamingWalk.{also, also_all, number_of, Follows, NamesNext}
-use Rattle.iloc_rules.specs.Steps.Stands.{Stands}
+use Rattle.iloc_sched.specs.Steps.Renaming.NamingWalk.{number_of}
 use Rattle.iloc_rules.proofs.Renamed.Sources.{is_source-refl, is_source-true, is_source-false, stands_left, stands_right}
 
 abbrev unless : Bool → Source → List Source

@@ -1,14 +1,10 @@
 -- The registers of an operation that is made of an opcode and numbers; for `rename` (`registers`).
-use Rattle.std.proofs.Common.{◌≡◌, ℕ, suc, List, [], ◌∷◌, get_or, slice_get, refl, sym, ap, ◌∙◌}
-use Rattle.std.specs.List.{filter_map}
-use Rattle.iloc_ops.specs.declared.op.Op.{Op}
-use Rattle.iloc_ops.specs.declared.op.Op.TheVariants.{Nop}
+use Rattle.iloc_sched.proofs.Common.{◌≡◌, ℕ, suc, List, [], ◌∷◌, get_or, slice_get, filter_map, sym, refl, ap, ◌∙◌, defined_in, used_in, Op, Nop}
 use Rattle.iloc_ops.specs.declared.forms.Opcode.{Opcode}
 use Rattle.iloc_ops.specs.declared.forms.Operands.{Operands}
 use Rattle.iloc_ops.specs.Forms.{Value, Operand, ◌▹◌, opcode, operands, op_of}
 use Rattle.iloc_ops.specs.Forms.Value.{Use, Definition, Constant}
 use Rattle.iloc_ops.specs.Operands.{operands_in}
-use Rattle.iloc_ops.specs.Registers.{used_in, defined_in}
 use Rattle.iloc_sched.specs.declared.registers.OperandRegisters.{OperandRegisters}
 use Rattle.iloc_sched.specs.Steps.Renaming.Registers.{listed, AreRegistersOf}
 

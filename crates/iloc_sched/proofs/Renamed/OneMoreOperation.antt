@@ -1,16 +1,8 @@
 -- Sources and numbering of a block with one operation more; for `rename` (`renamed`).
-use Rattle.std.proofs.Common.{◌≡◌, ℕ, zero, suc, ◌<◌, ◌≤◌, List, [], ◌∷◌, ◌++◌, length, refl, ap, ◌∙◌, arith, inl, inr, length-append}
+use Rattle.iloc_sched.proofs.Common.{◌≡◌, ℕ, zero, suc, ◌<◌, ◌≤◌, List, [], ◌∷◌, ◌++◌, length, refl, ap, ◌∙◌, inl, inr, arith, length-append, defined, used, Op, Nop, Reg, op_at, Source, mentions, mentions_before, name_of, numbering, own_source, source, In, Stands, also, also_all, numbering_with}
 use Rattle.std.proofs.Math.ListN.{get_or-append}
 use Rattle.std.proofs.Math.Seq.{get_or-append_seam}
-use Rattle.iloc_ops.specs.declared.op.Reg.{Reg}
-use Rattle.iloc_ops.specs.declared.op.Op.{Op}
-use Rattle.iloc_ops.specs.declared.op.Op.TheVariants.{Nop}
-use Rattle.iloc_ops.specs.Registers.{used, defined}
-use Rattle.iloc_meaning.specs.Trace.{op_at}
-use Rattle.iloc_rules.specs.Renaming.{Source, source, own_source, mentions, mentions_before, numbering, place_of, name_of}
-use Rattle.iloc_sched.specs.Steps.Renaming.NamingWalk.{also, also_all, numbering_with}
-use Rattle.iloc_rules.specs.Steps.Stands.{Stands}
-use Rattle.iloc_rules.specs.Steps.Members.{In}
+use Rattle.iloc_rules.specs.Renaming.{place_of}
 use Rattle.iloc_rules.proofs.Renamed.Sources.{is_source-refl, stands_left, stands_right}
 use Rattle.iloc_sched.proofs.Renamed.GivenNames.{struck_more, place_kept}
 

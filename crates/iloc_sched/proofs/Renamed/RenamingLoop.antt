@@ -1,29 +1,14 @@
 -- The loop that renames: a use, a definition, an operation, the block; for `rename` (`renamed`, `size`).
-use Rattle.std.proofs.Common.{◌≡◌, ℕ, zero, suc, ◌+◌, ◌<◌, ◌≤◌, true, false, if◌then◌else◌, List, [], ◌∷◌, ◌++◌, length, map, take, get_or, slice_get, not, cond, Option, Some, None, option_map, refl, sym, ap, ◌∙◌, arith, inl, inr, append-nil}
-use Rattle.std.proofs.lemmas.List.{map-append, take_all}
-use Rattle.std.specs.List.{list_any, range_with_len, filter_map}
-use Rattle.std.proofs.lemmas.List.Elements.{filter_more, filter-append}
-use Rattle.std.proofs.lemmas.List.FromFn.{map-range_with_len_more}
-use Rattle.std.proofs.lemmas.List.Sums.{length-filter, count_by-le-length}
-use Rattle.iloc_ops.specs.declared.op.Reg.{Reg}
-use Rattle.iloc_ops.specs.declared.op.Op.{Op}
+use Rattle.iloc_sched.proofs.Common.{◌≡◌, ℕ, zero, suc, ◌+◌, ◌<◌, ◌≤◌, true, false, cond, not, List, [], ◌∷◌, ◌++◌, map, length, get_or, take, if◌then◌else◌, slice_get, Some, None, Option, option_map, filter_map, sym, refl, ap, ◌∙◌, inl, inr, append-nil, arith, take_all, map-append, filter-append, filter_more, map-range_with_len_more, count_by-le-length, length-filter, list_any, range_with_len, defined, defined_in, renumbered, used, used_in, with_registers, Op, Reg, is_register, op_at, in_map, map_same, Source, is_nop, is_source, name_of, numbering, own_source, renamed, renamed_by, renamed_op, source, without_nops, In, Stands, Follows, Named, NamesAll, NamesDefinition, NamesNext, NamesUse, NextNamed, UsesNamed, also, also_all, next_renamed, numbering_with}
 use Rattle.iloc_ops.specs.declared.forms.Opcode.{Opcode}
 use Rattle.iloc_ops.specs.declared.forms.Operands.{Operands}
 use Rattle.iloc_ops.specs.Forms.{opcode, operands, op_of}
 use Rattle.iloc_ops.specs.Operands.{operands_in}
-use Rattle.iloc_ops.specs.Registers.{used, defined, used_in, defined_in, renumbered, with_registers}
 use Rattle.iloc_ops.proofs.Renaming.{with_registers-same}
-use Rattle.iloc_meaning.specs.Trace.{op_at, is_register}
-use Rattle.iloc_rules.specs.Renaming.{Source, is_source, source, own_source, numbering, name_of, renamed_op, renamed_by, is_nop, without_nops, renamed}
 use Rattle.iloc_rules.specs.Renaming.Source.{Result}
-use Rattle.iloc_sched.specs.Steps.Renaming.NamingWalk.{also, also_all, Follows, NamesNext, NamesUse, NamesDefinition, Named, numbering_with, UsesNamed, NextNamed, NamesAll, next_renamed}
-use Rattle.iloc_rules.specs.Steps.Stands.{Stands}
-use Rattle.iloc_rules.specs.Steps.Members.{In}
-use Rattle.iloc_rules.proofs.Basics.Members.{in_map}
 use Rattle.iloc_rules.proofs.Renamed.MentionedSources.{use_numbered, definition_numbered, length-renamed_by}
 use Rattle.iloc_sched.proofs.Renamed.GivenNames.{place_new, define_new}
 use Rattle.iloc_sched.proofs.Renamed.OneMoreOperation.{op_at_kept, op_at_last, source_kept, length_more, also_all-append, numbering_more, name_also_all, used_stands}
-use Rattle.iloc_rules.proofs.Basics.Members.{map_same}
 
 -- before the uses of the next operation
 pub uses_begin : (done : List Op) (given : ℕ) (current : Reg → Option ℕ) → Named done given current

@@ -1,8 +1,5 @@
 -- The bucket of a cycle modulo 32 has just what becomes ready then; for `Waiting::release`.
-use Rattle.std.proofs.Common.{◌≡◌, ◌≢◌, ℕ, ◌+◌, ◌%◌, ◌<◌, Bool, true, false, Option, None, ◌⊎◌, inl, inr, arith}
-use Rattle.std.proofs.lemmas.Bool.{true≢false}
-use Rattle.iloc_sched.specs.Steps.Graph.{Graph, IsGraph}
-use Rattle.iloc_sched.specs.Steps.Cycle.Progress.{Progress, Waits, CanIssue}
+use Rattle.iloc_sched.proofs.Common.{◌≡◌, ℕ, ◌+◌, ◌%◌, ◌<◌, Bool, true, false, ◌≢◌, ◌⊎◌, None, Option, inl, inr, true≢false, arith, CanIssue, Progress, Waits, Graph, IsGraph}
 
 pub earliest_bound : (graph : Graph) (w : Progress) (f i : ℕ) (at : Option ℕ) → IsGraph graph → Waits graph w f i at
     → (j : ℕ) → j < graph.ops → w.earliest j < f + 16

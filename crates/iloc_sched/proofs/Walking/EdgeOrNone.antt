@@ -1,19 +1,5 @@
 -- One step along the edges out of an issued operation, where an edge may be left or none; for `Waiting::pass`.
-use Rattle.std.proofs.Common.{◌≡◌, ℕ, ◌+◌, ◌-◌, ◌%◌, ◌<◌, ◌≤◌, ◌||◌, ◌&&◌, List, length, max, set, get_or, nat_eq, Bool, if◌then◌else◌, Option, Some, None, refl, sym, ◌∙◌, ap, subst, arith, eq-eqb}
-use Rattle.std.specs.Int.{from_bool}
-use Rattle.std.specs.Option.{is_some, unwrap_or}
-use Rattle.std.proofs.lemmas.Bool.{eqb-true}
-use Rattle.std.proofs.lemmas.List.{set-get_or}
-use Rattle.iloc_sched.specs.declared.edges.Edge.{Edge}
-use Rattle.iloc_sched.specs.declared.cycle.waiting.OperationState.{OperationState}
-use Rattle.iloc_sched.specs.declared.cycle.waiting.Waiting.{Waiting}
-use Rattle.iloc_sched.specs.declared.cycle.calendar.Calendar.{Calendar}
-use Rattle.iloc_sched.specs.declared.cycle.plan.Plan.{Plan}
-use Rattle.iloc_sched.specs.Steps.Graph.{Graph, IsLast}
-use Rattle.iloc_sched.specs.Steps.Cycle.Calendar.{has, Puts}
-use Rattle.iloc_sched.specs.Steps.Cycle.Progress.{Progress, Waits, Walks, KeepsPlaces}
-use Rattle.iloc_sched.specs.Steps.Cycle.SoFar.{IsPlan, rank_of}
-use Rattle.iloc_sched.specs.Steps.Views.{edge_at, graph_of, issued_list, unmet_list, earliest_list, progress_of, bucket_of, IsSized}
+use Rattle.iloc_sched.proofs.Common.{◌≡◌, ℕ, ◌+◌, ◌-◌, ◌%◌, ◌<◌, ◌≤◌, max, Bool, ◌&&◌, ◌||◌, List, length, get_or, set, is_some, if◌then◌else◌, nat_eq, Some, None, Option, unwrap_or, sym, refl, ap, ◌∙◌, subst, arith, eq-eqb, eqb-true, set-get_or, from_bool, Puts, has, KeepsPlaces, Progress, Waits, Walks, IsPlan, rank_of, Graph, IsLast, IsSized, bucket_of, earliest_list, edge_at, graph_of, issued_list, progress_of, unmet_list, Calendar, Plan, OperationState, Waiting, Edge}
 use Rattle.iloc_sched.proofs.Ranks.Calendars.{puts_enters}
 use Rattle.iloc_sched.proofs.Ranks.Cells.{by_both}
 use Rattle.iloc_sched.proofs.Walking.EdgeWalk.{Enters}

@@ -1,7 +1,5 @@
 -- The walk along the edges out of an issued operation keeps what is known of what waits; for `Waiting::issue`.
-use Rattle.std.proofs.Common.{◌≡◌, ◌≢◌, ℕ, ◌+◌, ◌-◌, ◌%◌, ◌<◌, ◌≤◌, max, Bool, true, false, Option, Some, None, ◌⊎◌, inl, inr, sym, ◌∙◌, ap, subst, arith}
-use Rattle.iloc_sched.specs.Steps.Graph.{Graph, IsLast, IsGraph}
-use Rattle.iloc_sched.specs.Steps.Cycle.Progress.{Progress, UpTo, Waits, CanIssue, count_from}
+use Rattle.iloc_sched.proofs.Common.{◌≡◌, ℕ, ◌+◌, ◌-◌, ◌%◌, ◌<◌, ◌≤◌, max, Bool, true, false, ◌≢◌, ◌⊎◌, Some, None, Option, sym, ap, ◌∙◌, subst, inl, inr, arith, CanIssue, Progress, UpTo, Waits, count_from, Graph, IsGraph, IsLast}
 use Rattle.iloc_sched.proofs.Walking.UnmetEdges.{not_true, without, without_it, without_other, count_same, count_less}
 use Rattle.iloc_sched.proofs.Basics.Cases.{by_eq, by_lt, not_both}
 

@@ -1,23 +1,5 @@
 -- The states and buckets with which a schedule begins; for `Waiting::open`.
-use Rattle.std.proofs.Common.{◌≡◌, ◌≢◌, ℕ, ◌+◌, ◌-◌, ◌<◌, ◌≤◌, ◌||◌, List, [], ◌∷◌, ◌++◌, length, map, get_or, Bool, true, false, eqb, None, inl, refl, sym, ◌∙◌, ap, arith, eq-eqb}
-use Rattle.std.specs.Prelude.{replicate}
-use Rattle.std.proofs.lemmas.Bool.{eqb-true, true≢false}
-use Rattle.std.proofs.lemmas.List.{length-map, length-replicate, replicate_more}
-use Rattle.std.proofs.lemmas.List.FromFn.{get_or-map-range_with_len, map-range_with_len_more}
-use Rattle.std.specs.List.{range_with_len}
-use Rattle.iloc_meaning.proofs.Cases.{by_bool}
-use Rattle.iloc_sched.specs.declared.cycle.calendar.Calendar.{Calendar}
-use Rattle.iloc_sched.specs.declared.cycle.class.Class.{Class}
-use Rattle.iloc_sched.specs.declared.cycle.plan.Plan.{Plan}
-use Rattle.iloc_sched.specs.declared.cycle.waiting.OperationState.{OperationState}
-use Rattle.iloc_sched.specs.declared.cycle.waiting.Waiting.{Waiting}
-use Rattle.iloc_sched.specs.Steps.Cycle.Calendar.{has, HasRoom, KeepsRoom, Puts}
-use Rattle.iloc_sched.specs.Steps.Cycle.Classes.{place_of, excludes}
-use Rattle.iloc_sched.specs.Steps.Graph.{Graph, IsGraph}
-use Rattle.iloc_sched.specs.Steps.Cycle.Progress.{Progress, Waits}
-use Rattle.iloc_sched.specs.Steps.Views.{graph_of, unmet_in, issued_list, unmet_list, earliest_list, progress_of, IsSized}
-use Rattle.iloc_sched.specs.Steps.Cycle.SoFar.{class_at, rank_of, IsPlan, IsCalendar, IsSoFar}
-use Rattle.iloc_sched.specs.Steps.Cycle.Opening.{not_issued, IsOpening}
+use Rattle.iloc_sched.proofs.Common.{◌≡◌, ℕ, ◌+◌, ◌-◌, ◌<◌, ◌≤◌, Bool, true, false, ◌||◌, eqb, ◌≢◌, List, [], ◌∷◌, ◌++◌, map, length, get_or, replicate, None, sym, refl, ap, ◌∙◌, inl, true≢false, arith, eq-eqb, eqb-true, length-map, length-replicate, replicate_more, get_or-map-range_with_len, map-range_with_len_more, range_with_len, by_bool, HasRoom, KeepsRoom, Puts, has, excludes, place_of, IsOpening, not_issued, Progress, Waits, IsCalendar, IsPlan, IsSoFar, class_at, rank_of, Graph, IsGraph, IsSized, earliest_list, graph_of, issued_list, progress_of, unmet_in, unmet_list, Calendar, Class, Plan, OperationState, Waiting}
 use Rattle.iloc_sched.proofs.Basics.Cases.{by_eq, not_both}
 use Rattle.iloc_sched.proofs.Ranks.Calendars.{place_small, room_kept, room_trans, short_kept, ranks_apart, kept_put, keeps_out_more}
 use Rattle.iloc_sched.proofs.Ranks.Cells.{by_both, read_replicate}

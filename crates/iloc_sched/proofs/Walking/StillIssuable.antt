@@ -1,7 +1,5 @@
 -- Who can be issued once another was; for `Waiting::issue_first`.
-use Rattle.std.proofs.Common.{◌≡◌, ◌≢◌, ℕ, ◌+◌, ◌-◌, ◌<◌, false, Some, None, sym, ◌∙◌, arith}
-use Rattle.iloc_sched.specs.Steps.Graph.{Graph, IsGraph}
-use Rattle.iloc_sched.specs.Steps.Cycle.Progress.{Progress, Waits, CanIssue, KeepsPlaces}
+use Rattle.iloc_sched.proofs.Common.{◌≡◌, ℕ, ◌+◌, ◌-◌, ◌<◌, false, ◌≢◌, Some, None, sym, ◌∙◌, arith, CanIssue, KeepsPlaces, Progress, Waits, Graph, IsGraph}
 use Rattle.iloc_sched.proofs.Walking.EdgeWalk.{within_count}
 use Rattle.iloc_sched.proofs.Walking.UnmetEdges.{count_none, count_some}
 

@@ -1,12 +1,5 @@
 -- What is read of the tables is what their views say; for `Waiting::pass`.
-use Rattle.std.proofs.Common.{◌≡◌, ℕ, ◌<◌, List, length, get_or, ◌∙◌, ap, arith}
-use Rattle.std.proofs.lemmas.List.{length-map, get_or-map}
-use Rattle.iloc_sched.specs.declared.edges.Edge.{Edge}
-use Rattle.iloc_sched.specs.declared.edges.Edges.{Edges}
-use Rattle.iloc_sched.specs.declared.cycle.waiting.OperationState.{OperationState}
-use Rattle.iloc_sched.specs.declared.cycle.waiting.Waiting.{Waiting}
-use Rattle.iloc_sched.specs.Steps.Graph.{IsGraph}
-use Rattle.iloc_sched.specs.Steps.Views.{edge_at, graph_of, issued_list, unmet_list, earliest_list, progress_of, IsSized}
+use Rattle.iloc_sched.proofs.Common.{◌≡◌, ℕ, ◌<◌, List, length, get_or, ap, ◌∙◌, arith, get_or-map, length-map, IsGraph, IsSized, earliest_list, edge_at, graph_of, issued_list, progress_of, unmet_list, OperationState, Waiting, Edge, Edges}
 
 module _ (e : Edges) (w : Waiting) (sized : IsSized e w) where
   pub issued_size : length (issued_list w) ≡ length e.heads.items

@@ -1,7 +1,5 @@
 -- How many edges are unmet once one more is over; for `Waiting::pass`, `open`.
-use Rattle.std.proofs.Common.{◌≡◌, ◌≢◌, ℕ, zero, suc, ◌+◌, ◌<◌, ◌≤◌, Bool, true, false, ◌⊎◌, inl, inr, refl, arith}
-use Rattle.std.proofs.lemmas.Bool.{cases_eq}
-use Rattle.iloc_sched.specs.Steps.Cycle.Progress.{count_from}
+use Rattle.iloc_sched.proofs.Common.{◌≡◌, ℕ, zero, suc, ◌+◌, ◌<◌, ◌≤◌, Bool, true, false, ◌≢◌, ◌⊎◌, refl, inl, inr, arith, cases_eq, count_from}
 
 pub not_true : {P : Type 0} → (b : Bool) → b ≡ false → b ≡ true → P
 not_true b is_false is_true = cc

@@ -1,14 +1,5 @@
 -- The same walk in the tables of the code, step by step; for `Waiting::issue`, `pass`.
-use Rattle.std.proofs.Common.{◌≡◌, ◌≢◌, ℕ, ◌+◌, ◌%◌, ◌<◌, ◌≤◌, List, length, max, set, get_or, Option, Some, None, inl, inr, refl, sym, ◌∙◌, ap, subst, arith}
-use Rattle.std.proofs.lemmas.List.{get_or-set_same, get_or-set_other}
-use Rattle.iloc_sched.specs.declared.edges.Edge.{Edge}
-use Rattle.iloc_sched.specs.declared.edges.Edges.{Edges}
-use Rattle.iloc_sched.specs.declared.cycle.waiting.OperationState.{OperationState}
-use Rattle.iloc_sched.specs.declared.cycle.waiting.Waiting.{Waiting}
-use Rattle.iloc_sched.specs.declared.cycle.calendar.Calendar.{Calendar}
-use Rattle.iloc_sched.specs.Steps.Graph.{Graph, IsLast, IsGraph}
-use Rattle.iloc_sched.specs.Steps.Cycle.Progress.{Progress, Waits, Walks, CanIssue, KeepsPlaces}
-use Rattle.iloc_sched.specs.Steps.Views.{edge_at, graph_of, issued_list, unmet_list, earliest_list, progress_of, bucket_of, IsSized}
+use Rattle.iloc_sched.proofs.Common.{◌≡◌, ℕ, ◌+◌, ◌%◌, ◌<◌, ◌≤◌, max, ◌≢◌, List, length, get_or, set, Some, None, Option, sym, refl, ap, ◌∙◌, subst, inl, inr, arith, get_or-set_other, get_or-set_same, CanIssue, KeepsPlaces, Progress, Waits, Walks, Graph, IsGraph, IsLast, IsSized, bucket_of, earliest_list, edge_at, graph_of, issued_list, progress_of, unmet_list, Calendar, OperationState, Waiting, Edge, Edges}
 use Rattle.iloc_sched.proofs.Walking.EdgeWalk.{begins, some_unmet, moves, Enters}
 use Rattle.iloc_sched.proofs.Walking.TableReads.{issued_size, unmet_size, earliest_size, earliest_read}
 

@@ -1,8 +1,4 @@
-use Rattle.std.proofs.Common.{◌≡◌, get_or, ◌∙◌}
-use Rattle.std.proofs.lemmas.List.{get_or_default}
-use Rattle.iloc_ops.specs.declared.op.Op.{Op}
-use Rattle.iloc_ops.specs.declared.op.Op.TheVariants.{Nop}
-use Rattle.iloc_meaning.specs.Trace.{op_at}
+use Rattle.iloc_addresses.proofs.Common.{◌≡◌, get_or, ◌∙◌, get_or_default, Op, Nop, op_at}
 use Rattle.iloc_addresses.proofs.KnownBefore.{address_known, listed_more}
 use Rattle.iloc_addresses.proofs.addresses.known_addresses.Goals as goal
 

@@ -1,7 +1,4 @@
-use Rattle.std.specs.Prelude.{◌≡◌, map}
-use Rattle.std.specs.List.{range_with_len}
-use Rattle.iloc_rules.specs.Apart.{address_at}
-use Rattle.iloc_addresses.specs.Steps.Registers.{AreBefore}
+use Rattle.iloc_addresses.proofs.Common.{◌≡◌, map, range_with_len, address_at, AreBefore}
 use Rattle.iloc_addresses.proofs.addresses.known_addresses.Given as goal
 
 abbrev pub invariant-loop-i : goal.invariant-loop-i

@@ -1,10 +1,4 @@
-use Rattle.std.proofs.Common.{ℕ, ◌≡◌, ◌+◌, ◌-◌, ◌<◌, List, Some, None, length, refl, sym, ◌∙◌, ap, subst, arith}
-use Rattle.std.proofs.lemmas.List.{get_or_read, get_or_default}
-use Rattle.iloc_ops.specs.declared.op.Op.TheVariants.{Nop}
-use Rattle.iloc_meaning.specs.Trace.{op_at}
-use Rattle.iloc_timed.specs.Kinds.{kind}
-use Rattle.iloc_rules.specs.Apart.{address_at}
-use Rattle.iloc_addresses.specs.Steps.Successors.{AreCounted, AreNoted}
+use Rattle.iloc_addresses.proofs.Common.{◌≡◌, ℕ, ◌+◌, ◌-◌, ◌<◌, List, length, Some, None, sym, refl, ap, ◌∙◌, subst, arith, get_or_default, get_or_read, Nop, op_at, kind, address_at, AreCounted, AreNoted}
 use Rattle.iloc_addresses.proofs.SuccessorsCounted.{address_read, only_uses, none_noted, one_noted, skip_noted, waiting_is, waiting_few, found_few, one_counted, skip_counted, all_counted}
 use Rattle.iloc_addresses.proofs.successors.count_successors.Goals as goal
 

@@ -1,5 +1,4 @@
-use Rattle.std.proofs.Common.{◌≡◌}
-use Rattle.iloc_rules.specs.Pairs.{pairs_before}
+use Rattle.iloc_rules.proofs.Common.{◌≡◌, pairs_before}
 use Rattle.iloc_rules.proofs.delay_pairs.pairs.Given as goal
 
 abbrev pub invariant-loop-second : goal.invariant-loop-second

@@ -1,5 +1,4 @@
-use Rattle.std.proofs.Common.{◌≡◌, ◌++◌, take}
-use Rattle.iloc_rules.specs.Pairs.{with_delays}
+use Rattle.iloc_rules.proofs.Common.{◌≡◌, ◌++◌, take, with_delays}
 use Rattle.iloc_rules.proofs.delay_pairs.push_delays.Given as goal
 
 abbrev pub invariant-loop-delay : goal.invariant-loop-delay

@@ -1,5 +1,4 @@
-use Rattle.std.proofs.Common.{◌≡◌, ◌++◌}
-use Rattle.iloc_rules.specs.Pairs.{pairs_from}
+use Rattle.iloc_rules.proofs.Common.{◌≡◌, ◌++◌, pairs_from}
 use Rattle.iloc_rules.proofs.delay_pairs.push_pairs_to.Given as goal
 
 abbrev pub invariant-loop-first : goal.invariant-loop-first

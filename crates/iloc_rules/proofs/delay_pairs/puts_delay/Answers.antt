@@ -1,7 +1,4 @@
-use Rattle.std.proofs.Common.{◌||◌, ◌∙◌, ap₂, sym}
-use Rattle.iloc_timed.specs.Latency.{latency}
-use Rattle.iloc_timed.specs.Kinds.{kind}
-use Rattle.iloc_rules.specs.Delays.{uses_result, reads_stored, keeps_order}
+use Rattle.iloc_rules.proofs.Common.{◌||◌, sym, ◌∙◌, ap₂, kind, latency, keeps_order, reads_stored, uses_result}
 use Rattle.iloc_rules.proofs.DelayPairs.PutDelays.{put_delay}
 use Rattle.iloc_rules.proofs.delay_pairs.puts_delay.Goals as goal
 

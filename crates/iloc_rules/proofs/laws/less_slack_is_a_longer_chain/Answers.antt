@@ -1,8 +1,4 @@
-use Rattle.std.proofs.Common.{ℕ, ◌+◌, ◌-◌, ◌<◌, ◌≤◌, List, length, ◌↔◌, arith}
-use Rattle.iloc_ops.specs.declared.op.Op.{Op}
-use Rattle.iloc_timed.specs.declared.latencies.Latencies.{Latencies}
-use Rattle.iloc_rules.specs.Priority.{priority}
-use Rattle.iloc_rules.specs.Starts.{start}
+use Rattle.iloc_rules.proofs.Common.{ℕ, ◌+◌, ◌-◌, ◌<◌, ◌≤◌, ◌↔◌, List, length, arith, Op, Latencies, priority, start}
 use Rattle.iloc_rules.specs.Heuristics.{through, longest, slack}
 use Rattle.iloc_rules.proofs.Basics.Members.{in_at}
 use Rattle.iloc_rules.proofs.Basics.Maxima.{fold_max_each}

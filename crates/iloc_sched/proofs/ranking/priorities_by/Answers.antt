@@ -1,13 +1,5 @@
-use Rattle.std.proofs.Common.{◌≡◌, List, ◌∙◌, arith}
-use Rattle.std.proofs.lemmas.List.{take_all}
-use Rattle.iloc_ops.specs.declared.op.Op.{Op}
-use Rattle.iloc_timed.specs.declared.latencies.Latencies.{Latencies}
+use Rattle.iloc_sched.proofs.Common.{◌≡◌, List, ◌∙◌, arith, take_all, Op, Latencies, priorities_by_all, priorities_by, priorities_by_where, counts_by, MemoryRule, Book}
 use Rattle.iloc_rules.specs.declared.heuristic.Heuristic.{Heuristic}
-use Rattle.iloc_rules.specs.declared.memory_rule.MemoryRule.{MemoryRule}
-use Rattle.iloc_rules.specs.declared.memory_rule.MemoryRule.TheVariants.{Book}
-use Rattle.iloc_rules.specs.Heuristics.{priorities_by, priorities_by_where}
-use Rattle.iloc_rules.specs.Rule.{counts_by}
-use Rattle.iloc_rules.proofs.PriorityValues.Named.{priorities_by_all}
 use Rattle.iloc_sched.proofs.ranking.priorities_by.Goals as goal
 
 by_the_book : (rule : MemoryRule) (heuristic : Heuristic) (lat lat' : Latencies) (ops ops' : List Op) → rule ≡ Book

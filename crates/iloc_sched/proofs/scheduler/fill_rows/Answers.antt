@@ -1,5 +1,4 @@
-use Rattle.std.proofs.Common.{◌≡◌, arith}
-use Rattle.iloc_sched.specs.Steps.Cycle.SoFar.{waiting_count}
+use Rattle.iloc_sched.proofs.Common.{◌≡◌, arith, waiting_count}
 use Rattle.iloc_sched.proofs.Choice.NextRow.{few_rows, greedy_at_end}
 use Rattle.iloc_sched.proofs.Walking.FirstStates.{so_far_opened}
 use Rattle.iloc_sched.proofs.scheduler.fill_rows.Goals as goal

@@ -1,6 +1,4 @@
-use Rattle.std.proofs.Common.{ℕ, ◌≡◌, ◌≤◌, ◌+◌, ◌-◌, [], length}
-use Rattle.iloc_timed.specs.Rows.{row_at, slots}
-use Rattle.iloc_sched.specs.Steps.Cycle.SoFar.{IsSoFar, waiting_count}
+use Rattle.iloc_sched.proofs.Common.{◌≡◌, ℕ, ◌+◌, ◌-◌, ◌≤◌, [], length, row_at, slots, IsSoFar, waiting_count}
 use Rattle.iloc_sched.proofs.scheduler.fill_rows.Given as goal
 
 abbrev pub invariant-loop-left : goal.invariant-loop-left

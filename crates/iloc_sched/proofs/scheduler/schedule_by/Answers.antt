@@ -1,10 +1,4 @@
-use Rattle.std.proofs.Common.{length, subst, sym, ap, ◌∙◌}
-use Rattle.std.proofs.lemmas.Result.{IfOk-weaker}
-use Rattle.iloc_rules.specs.Greedy.{IsGreedyWhere}
-use Rattle.iloc_rules.specs.Priority.{priorities_where}
-use Rattle.iloc_rules.specs.Rule.{counts_by}
-use Rattle.iloc_rules.proofs.PriorityValues.LongestWhere.{length_where}
-use Rattle.iloc_sched.specs.Graph.GraphOf.{RuledGraphOf}
+use Rattle.iloc_sched.proofs.Common.{length, sym, ap, ◌∙◌, subst, IfOk-weaker, length_where, IsGreedyWhere, priorities_where, counts_by, RuledGraphOf}
 use Rattle.iloc_sched.proofs.Choice.Scheduled.{the_schedule}
 use Rattle.iloc_sched.proofs.scheduler.schedule_by.Goals as goal
 

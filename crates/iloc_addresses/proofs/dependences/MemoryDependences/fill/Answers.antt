@@ -1,12 +1,5 @@
-use Rattle.std.proofs.Common.{◌≡◌, ◌++◌, ◌+◌, true, length, Some, None, ap, sym, refl, ◌∙◌, subst, arith, length-append}
-use Rattle.std.specs.Prelude.{count_by}
-use Rattle.std.specs.Option.{option_to_list}
-use Rattle.std.proofs.lemmas.Result.{on_ok_weaker}
-use Rattle.iloc_meaning.specs.Trace.{op_at}
+use Rattle.iloc_addresses.proofs.Common.{◌≡◌, ◌+◌, true, ◌++◌, length, Some, None, count_by, option_to_list, sym, refl, ap, ◌∙◌, subst, arith, length-append, on_ok_weaker, op_at, is_output, is_store, kind, address_at, known_before, Finds, IsLast, IsStoreAt, waiting_by}
 use Rattle.iloc_timed.specs.declared.kind.Kind.TheVariants as K
-use Rattle.iloc_timed.specs.Kinds.{kind, is_store, is_output}
-use Rattle.iloc_rules.specs.Apart.{address_at, known_before}
-use Rattle.iloc_addresses.specs.Steps.Dependences.{Finds, IsLast, IsStoreAt, waiting_by}
 use Rattle.iloc_addresses.proofs.LastOnes.{last_here, last_before}
 use Rattle.iloc_addresses.proofs.Sources.{sources_of_load, sources_of_output, sources_of_store, short_option, all_counted}
 use Rattle.iloc_addresses.proofs.Taken.{of_both, no_address, other_before, read_before, store_before}

@@ -1,5 +1,4 @@
-use Rattle.std.proofs.Common.{rules, ◌≡◌}
-use Rattle.iloc_addresses.specs.Steps.Registers.{word_in}
+use Rattle.iloc_addresses.proofs.Common.{◌≡◌, rules, word_in}
 use Rattle.iloc_addresses.proofs.registers.KnownRegisters.result_of.Goals as goal
 
 pub returns-in-Add : goal.returns-in-Add

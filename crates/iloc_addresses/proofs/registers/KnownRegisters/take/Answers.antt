@@ -1,8 +1,4 @@
-use Rattle.std.proofs.Common.{rules, ◌≡◌, Some, subst}
-use Rattle.std.proofs.lemmas.Result.{on_ok_weaker}
-use Rattle.iloc_ops.specs.Registers.{defined}
-use Rattle.iloc_rules.specs.Apart.{result_word}
-use Rattle.iloc_addresses.specs.Steps.Registers.{word_in, ChangesOnly}
+use Rattle.iloc_addresses.proofs.Common.{◌≡◌, Some, subst, rules, on_ok_weaker, defined, result_word, ChangesOnly, word_in}
 use Rattle.iloc_addresses.proofs.KnownBefore.{one_more}
 use Rattle.iloc_addresses.proofs.registers.KnownRegisters.take.Goals as goal
 

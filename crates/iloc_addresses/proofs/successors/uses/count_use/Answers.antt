@@ -1,8 +1,4 @@
-use Rattle.std.proofs.Common.{ℕ, ◌≡◌, ◌<◌, length, sym, ◌∙◌, ap, arith}
-use Rattle.std.proofs.lemmas.List.{get_or_read, get_or_default}
-use Rattle.iloc_ops.specs.declared.op.Op.TheVariants.{Nop}
-use Rattle.iloc_timed.specs.Kinds.{kind}
-use Rattle.iloc_addresses.specs.Steps.Successors.{is_by_memory}
+use Rattle.iloc_addresses.proofs.Common.{◌≡◌, ℕ, ◌<◌, length, sym, ap, ◌∙◌, arith, get_or_default, get_or_read, Nop, kind, is_by_memory}
 use Rattle.iloc_addresses.proofs.SuccessorsCounted.{is_its, listed_size, address_read, waits_read, use_counted, use_skipped}
 use Rattle.iloc_addresses.proofs.successors.uses.count_use.Goals as goal
 

@@ -1,11 +1,4 @@
-use Rattle.std.proofs.Common.{◌≡◌, ◌&&◌, not, get_or, sym, ◌∙◌, ap, subst, arith, length}
-use Rattle.std.specs.List.{list_any}
-use Rattle.std.proofs.lemmas.List.{get_or_default}
-use Rattle.iloc_ops.specs.declared.op.Op.{Op}
-use Rattle.iloc_ops.specs.declared.op.Op.TheVariants.{Nop}
-use Rattle.iloc_ops.specs.Registers.{used}
-use Rattle.iloc_meaning.specs.Trace.{op_at}
-use Rattle.iloc_addresses.specs.Steps.Successors.{definer, is_by_memory, is_number, AreUsesCounted}
+use Rattle.iloc_addresses.proofs.Common.{◌≡◌, not, ◌&&◌, length, get_or, sym, ap, ◌∙◌, subst, arith, get_or_default, list_any, used, Op, Nop, op_at, AreUsesCounted, definer, is_by_memory, is_number}
 use Rattle.iloc_addresses.proofs.AddressesCounted.{at_most_one}
 use Rattle.iloc_addresses.proofs.SuccessorsCounted.{all_uses, uses_few, uses_more}
 use Rattle.iloc_addresses.proofs.successors.uses.count_uses.Goals as goal

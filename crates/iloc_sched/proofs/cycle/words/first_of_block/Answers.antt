@@ -1,6 +1,4 @@
-use Rattle.std.proofs.Common.{◌/◌, ◌%◌, arith, w64}
-use Rattle.std.specs.Int.{trailing_zeros}
-use Rattle.std.proofs.lemmas.Nat.Bits.{bit_at_clear_same, bit_at_clear_other}
+use Rattle.iloc_sched.proofs.Common.{◌/◌, ◌%◌, arith, w64, bit_at_clear_other, bit_at_clear_same, trailing_zeros}
 use Rattle.iloc_sched.proofs.Ranks.WordBits.{cleared_less, no_bit}
 use Rattle.iloc_sched.proofs.Ranks.Firsts.{low_set, low_one, found_here, next_search}
 use Rattle.iloc_sched.proofs.cycle.words.first_of_block.Goals as goal

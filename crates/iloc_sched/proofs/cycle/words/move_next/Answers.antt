@@ -1,6 +1,4 @@
-use Rattle.std.proofs.Common.{arith, w64}
-use Rattle.std.proofs.lemmas.Nat.{and_le_l}
-use Rattle.std.proofs.lemmas.Nat.Bits.{bit_at-trailing_zeros, bit_at_clear_same, bit_at_clear_other}
+use Rattle.iloc_sched.proofs.Common.{arith, w64, and_le_l, bit_at-trailing_zeros, bit_at_clear_other, bit_at_clear_same}
 use Rattle.iloc_sched.proofs.Ranks.WordBits.{cleared_less}
 use Rattle.iloc_sched.proofs.cycle.words.move_next.Goals as goal
 

@@ -1,5 +1,4 @@
-use Rattle.std.proofs.Common.{◌%◌, arith, w64}
-use Rattle.std.specs.Int.{trailing_zeros}
+use Rattle.iloc_sched.proofs.Common.{◌%◌, arith, w64, trailing_zeros}
 use Rattle.iloc_sched.proofs.Ranks.Firsts.{low_there, low_set, still_held}
 use Rattle.iloc_sched.proofs.Ranks.Moves.{moving_start, moving_step}
 use Rattle.iloc_sched.proofs.cycle.words.move_words.Goals as goal

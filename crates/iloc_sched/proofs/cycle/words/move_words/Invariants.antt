@@ -1,5 +1,4 @@
-use Rattle.std.proofs.Common.{◌<◌, ◌^◌}
-use Rattle.iloc_sched.specs.Steps.Cycle.RankSets.{HoldsBits}
+use Rattle.iloc_sched.proofs.Common.{◌^◌, ◌<◌, HoldsBits}
 use Rattle.iloc_sched.proofs.Ranks.Moves.{IsMoving}
 use Rattle.iloc_sched.proofs.cycle.words.move_words.Given as goal
 

@@ -1,7 +1,6 @@
 use Rattle.iloc_sched.proofs.KeptEdges.AddedEdges.{adds_one}
 use Rattle.iloc_sched.proofs.edges.Edges.add.Goals as goal
-use Rattle.std.proofs.Common.{None, arith}
-use Rattle.std.proofs.lemmas.List.{get_or_read}
+use Rattle.iloc_sched.proofs.Common.{None, arith, get_or_read}
 
 pub returns-clause-adds : goal.returns-clause-adds
 returns-clause-adds c =

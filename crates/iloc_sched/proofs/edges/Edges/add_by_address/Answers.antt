@@ -1,8 +1,4 @@
-use Rattle.std.proofs.Common.{ℕ, ◌≡◌, ◌+◌, length, get_or, ◌∙◌, ap, arith}
-use Rattle.std.specs.Global.{Vec}
-use Rattle.iloc_rules.specs.declared.memory_rule.MemoryRule.TheVariants.{Address}
-use Rattle.iloc_sched.specs.Steps.Edges.PartialGraph.{CoversUses}
-use Rattle.iloc_sched.specs.Steps.Views.{graph_of}
+use Rattle.iloc_sched.proofs.Common.{◌≡◌, ℕ, ◌+◌, length, get_or, ap, ◌∙◌, arith, Vec, Address, CoversUses, graph_of}
 use Rattle.iloc_sched.proofs.KeptEdges.PartialGraphs.{closed}
 use Rattle.iloc_sched.proofs.KeptEdges.BySources.{near_is_source}
 use Rattle.iloc_sched.proofs.KeptEdges.AddedEdges.{use_covered, starts_pushed}

@@ -1,9 +1,4 @@
-use Rattle.std.proofs.Common.{ℕ, ◌<◌, length, take, sym, subst, arith}
-use Rattle.std.proofs.lemmas.List.{take_more, take_all}
-use Rattle.iloc_rules.specs.Steps.Members.{In}
-use Rattle.iloc_sched.specs.Steps.Edges.PartialGraph.{AddsFrom}
-use Rattle.iloc_sched.specs.Steps.Views.{graph_of}
-use Rattle.iloc_rules.proofs.Basics.Members.{in_at}
+use Rattle.iloc_sched.proofs.Common.{ℕ, ◌<◌, length, take, sym, subst, arith, take_all, take_more, in_at, In, AddsFrom, graph_of}
 use Rattle.iloc_sched.proofs.KeptEdges.AddedEdges.{adds_more}
 use Rattle.iloc_sched.proofs.edges.Edges.add_each.Goals as goal
 

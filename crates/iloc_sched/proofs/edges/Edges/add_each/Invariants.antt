@@ -1,7 +1,4 @@
-use Rattle.std.proofs.Common.{◌≡◌, ◌+◌, length, take}
-use Rattle.iloc_rules.specs.Steps.Members.{In}
-use Rattle.iloc_sched.specs.Steps.Edges.PartialGraph.{KeepsFrame, AddsFrom}
-use Rattle.iloc_sched.specs.Steps.Views.{graph_of}
+use Rattle.iloc_sched.proofs.Common.{◌≡◌, ◌+◌, length, take, In, AddsFrom, KeepsFrame, graph_of}
 use Rattle.iloc_sched.proofs.edges.Edges.add_each.Given as goal
 
 abbrev pub invariant-loop-i : goal.invariant-loop-i

@@ -1,7 +1,4 @@
-use Rattle.std.proofs.Common.{sym, ◌∙◌, subst}
-use Rattle.iloc_rules.specs.Steps.Members.{In}
-use Rattle.iloc_sched.specs.Steps.Edges.PartialGraph.{AddsFrom}
-use Rattle.iloc_sched.specs.Steps.Views.{graph_of}
+use Rattle.iloc_sched.proofs.Common.{sym, ◌∙◌, subst, In, AddsFrom, graph_of}
 use Rattle.iloc_sched.proofs.KeptEdges.AddedEdges.{memory_load, memory_output, memory_store}
 use Rattle.iloc_sched.proofs.edges.Edges.add_memory.Goals as goal
 

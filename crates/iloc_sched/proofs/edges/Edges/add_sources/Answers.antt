@@ -1,16 +1,4 @@
-use Rattle.std.proofs.Common.{ℕ, ◌≡◌, ◌<◌, List, length, take, get_or, refl, sym, ◌∙◌, ap, ap₂, subst, arith}
-use Rattle.std.proofs.lemmas.List.{take_more, take_all, get_or_default}
-use Rattle.iloc_ops.specs.declared.op.Op.{Op}
-use Rattle.iloc_ops.specs.declared.op.Op.TheVariants.{Nop}
-use Rattle.iloc_meaning.specs.Trace.{op_at}
-use Rattle.iloc_timed.specs.Kinds.{kind}
-use Rattle.iloc_rules.specs.Apart.{by_address}
-use Rattle.iloc_rules.proofs.Basics.Members.{in_at}
-use Rattle.iloc_addresses.specs.Dependences.{AreSources}
-use Rattle.iloc_timed.specs.declared.latencies.Latencies.{Latencies}
-use Rattle.iloc_sched.specs.Steps.Edges.ByAddress.{delay_after, CoversSources}
-use Rattle.iloc_sched.specs.Steps.Edges.PartialGraph.{AddsFrom}
-use Rattle.iloc_sched.specs.Steps.Views.{graph_of}
+use Rattle.iloc_sched.proofs.Common.{◌≡◌, ℕ, ◌<◌, List, length, get_or, take, sym, refl, ap, ◌∙◌, subst, ap₂, arith, take_all, get_or_default, take_more, Op, Nop, op_at, kind, Latencies, in_at, by_address, AreSources, CoversSources, delay_after, AddsFrom, graph_of}
 use Rattle.iloc_sched.proofs.KeptEdges.BySources.{source_pair, source_more}
 use Rattle.iloc_sched.proofs.edges.Edges.add_sources.Goals as goal
 

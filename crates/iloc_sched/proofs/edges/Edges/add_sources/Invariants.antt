@@ -1,8 +1,4 @@
-use Rattle.std.proofs.Common.{◌≡◌, ◌+◌, length, take}
-use Rattle.iloc_rules.specs.declared.memory_rule.MemoryRule.TheVariants.{Address}
-use Rattle.iloc_sched.specs.Steps.Edges.ByAddress.{CoversSources}
-use Rattle.iloc_sched.specs.Steps.Edges.PartialGraph.{KeepsFrame, Grows}
-use Rattle.iloc_sched.specs.Steps.Views.{graph_of}
+use Rattle.iloc_sched.proofs.Common.{◌≡◌, ◌+◌, length, take, Address, CoversSources, Grows, KeepsFrame, graph_of}
 use Rattle.iloc_sched.proofs.edges.Edges.add_sources.Given as goal
 
 abbrev pub invariant-loop-i : goal.invariant-loop-i

@@ -1,10 +1,4 @@
-use Rattle.std.proofs.Common.{◌≡◌, ◌<◌, length, get_or, Some, sym, ◌∙◌, arith}
-use Rattle.iloc_meaning.specs.Trace.{op_at}
-use Rattle.iloc_timed.specs.Latency.{latency}
-use Rattle.iloc_rules.specs.declared.memory_rule.MemoryRule.{MemoryRule}
-use Rattle.iloc_sched.specs.Steps.Renaming.ByRegister.{number_at}
-use Rattle.iloc_sched.specs.Steps.Edges.PartialGraph.{IsPartialGraph, Grows, CoversUse}
-use Rattle.iloc_sched.specs.Steps.Views.{graph_of}
+use Rattle.iloc_sched.proofs.Common.{◌≡◌, ◌<◌, length, get_or, Some, sym, ◌∙◌, arith, op_at, latency, MemoryRule, CoversUse, Grows, IsPartialGraph, number_at, graph_of}
 use Rattle.iloc_sched.proofs.KeptEdges.ListedKinds.{latency_listed}
 use Rattle.iloc_sched.proofs.KeptEdges.NearPairs.{definer_there}
 use Rattle.iloc_sched.proofs.KeptEdges.AddedEdges.{adds_use}

@@ -1,6 +1,5 @@
-use Rattle.std.proofs.Common.{refl, sym, ◌∙◌, ap, arith}
+use Rattle.iloc_sched.proofs.Common.{sym, refl, ap, ◌∙◌, arith, graph_of}
 use Rattle.iloc_sched.specs.Steps.Renaming.Registers.{listed}
-use Rattle.iloc_sched.specs.Steps.Views.{graph_of}
 use Rattle.iloc_sched.proofs.KeptEdges.AddedEdges.{one_covered, two_covered}
 use Rattle.iloc_sched.proofs.KeptEdges.PartialGraphs.{grows_then}
 use Rattle.iloc_sched.proofs.edges.Edges.add_uses.Goals as goal

@@ -1,5 +1,4 @@
-use Rattle.std.proofs.Common.{sym, subst}
-use Rattle.iloc_sched.specs.Steps.Edges.PartialGraph.{IsPartialGraph}
+use Rattle.iloc_sched.proofs.Common.{sym, subst, IsPartialGraph}
 use Rattle.iloc_sched.proofs.KeptEdges.AddedEdges.{tables_graph}
 use Rattle.iloc_sched.proofs.edges.Edges.empty.Goals as goal
 

@@ -1,11 +1,4 @@
-use Rattle.std.proofs.Common.{◌≡◌, ◌<◌, length, refl, ◌∙◌, ap, subst, arith}
-use Rattle.std.proofs.lemmas.List.{get_or_default}
-use Rattle.iloc_ops.specs.declared.op.Op.TheVariants.{Nop}
-use Rattle.iloc_ops.specs.Registers.{defined}
-use Rattle.iloc_rules.specs.declared.memory_rule.MemoryRule.TheVariants.{Book}
-use Rattle.iloc_timed.specs.Kinds.{kind}
-use Rattle.iloc_sched.specs.Steps.Edges.PartialGraph.{IsPartialGraph}
-use Rattle.iloc_sched.specs.Steps.Views.{graph_of}
+use Rattle.iloc_sched.proofs.Common.{◌≡◌, ◌<◌, length, refl, ap, ◌∙◌, subst, arith, get_or_default, defined, Nop, kind, Book, IsPartialGraph, graph_of}
 use Rattle.iloc_sched.proofs.KeptEdges.PartialGraphs.{kept_at_end}
 use Rattle.iloc_sched.proofs.edges.Edges.fill.Goals as goal
 

@@ -1,8 +1,4 @@
-use Rattle.std.proofs.Common.{◌≡◌, ◌+◌, ◌*◌, ◌≤◌, length}
-use Rattle.iloc_rules.specs.declared.memory_rule.MemoryRule.TheVariants.{Book}
-use Rattle.iloc_sched.specs.Steps.Edges.Lasts.{IsLasts}
-use Rattle.iloc_sched.specs.Steps.Edges.PartialGraph.{HasCapacity, IsPartialGraph}
-use Rattle.iloc_sched.specs.Steps.Views.{graph_of}
+use Rattle.iloc_sched.proofs.Common.{◌≡◌, ◌+◌, ◌*◌, ◌≤◌, length, Book, IsLasts, HasCapacity, IsPartialGraph, graph_of}
 use Rattle.iloc_sched.proofs.edges.Edges.fill.Given as goal
 
 abbrev pub invariant-loop-j : goal.invariant-loop-j

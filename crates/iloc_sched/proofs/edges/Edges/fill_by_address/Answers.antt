@@ -1,17 +1,5 @@
-use Rattle.std.proofs.Common.{ℕ, ◌≡◌, ◌<◌, List, length, map, get_or, Option, refl, sym, ◌∙◌, ap, subst, arith}
-use Rattle.std.specs.List.{range_with_len}
-use Rattle.std.proofs.lemmas.List.{get_or_default}
-use Rattle.std.proofs.lemmas.List.FromFn.{length-map-range_with_len, get_or-map-range_with_len}
-use Rattle.iloc_ops.specs.declared.op.Op.{Op}
-use Rattle.iloc_ops.specs.declared.op.Op.TheVariants.{Nop}
-use Rattle.iloc_ops.specs.Registers.{defined}
-use Rattle.iloc_timed.specs.Kinds.{kind}
-use Rattle.iloc_rules.specs.declared.memory_rule.MemoryRule.TheVariants.{Address}
+use Rattle.iloc_sched.proofs.Common.{◌≡◌, ℕ, ◌<◌, List, map, length, get_or, Option, sym, refl, ap, ◌∙◌, subst, arith, get_or_default, get_or-map-range_with_len, length-map-range_with_len, range_with_len, defined, Op, Nop, kind, address_at, by_address, Address, AreSources, IsPartialGraph, graph_of}
 use Rattle.iloc_rules.specs.declared.word.Word.{Word}
-use Rattle.iloc_rules.specs.Apart.{by_address, address_at}
-use Rattle.iloc_addresses.specs.Dependences.{AreSources}
-use Rattle.iloc_sched.specs.Steps.Edges.PartialGraph.{IsPartialGraph}
-use Rattle.iloc_sched.specs.Steps.Views.{graph_of}
 use Rattle.iloc_sched.proofs.KeptEdges.PartialGraphs.{kept_by_address}
 use Rattle.iloc_sched.proofs.edges.Edges.fill_by_address.Goals as goal
 

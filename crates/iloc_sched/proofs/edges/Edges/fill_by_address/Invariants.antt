@@ -1,9 +1,5 @@
-use Rattle.std.proofs.Common.{◌≡◌, ◌+◌, ◌*◌, ◌≤◌, length}
-use Rattle.iloc_rules.specs.declared.memory_rule.MemoryRule.TheVariants.{Address}
+use Rattle.iloc_sched.proofs.Common.{◌≡◌, ◌+◌, ◌*◌, ◌≤◌, length, Address, IsLasts, HasCapacity, IsPartialGraph, graph_of}
 use Rattle.iloc_addresses.specs.Steps.Dependences.{IsBefore, waiting}
-use Rattle.iloc_sched.specs.Steps.Edges.Lasts.{IsLasts}
-use Rattle.iloc_sched.specs.Steps.Edges.PartialGraph.{HasCapacity, IsPartialGraph}
-use Rattle.iloc_sched.specs.Steps.Views.{graph_of}
 use Rattle.iloc_sched.proofs.edges.Edges.fill_by_address.Given as goal
 
 abbrev pub invariant-loop-j : goal.invariant-loop-j

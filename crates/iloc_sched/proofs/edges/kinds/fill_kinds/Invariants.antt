@@ -1,5 +1,4 @@
-use Rattle.std.proofs.Common.{◌≡◌, map, take}
-use Rattle.iloc_timed.specs.Kinds.{kind}
+use Rattle.iloc_sched.proofs.Common.{◌≡◌, map, take, kind}
 use Rattle.iloc_sched.proofs.edges.kinds.fill_kinds.Given as goal
 
 abbrev pub invariant-loop-op : goal.invariant-loop-op

@@ -1,9 +1,4 @@
-use Rattle.std.proofs.Common.{◌∙◌, ap}
-use Rattle.std.proofs.lemmas.Result.{on_ok_weaker}
-use Rattle.iloc_rules.specs.Rule.{counts_by}
-use Rattle.iloc_rules.specs.Priority.{priorities_where, priorities}
-use Rattle.iloc_rules.proofs.PriorityValues.LongestWhere.{priorities_all}
-use Rattle.iloc_sched.specs.Graph.GraphOf.{GraphOf}
+use Rattle.iloc_sched.proofs.Common.{ap, ◌∙◌, on_ok_weaker, priorities_all, priorities, priorities_where, counts_by, GraphOf}
 use Rattle.iloc_sched.proofs.graph.Graph.chains.Goals as goal
 
 pub returns : goal.returns

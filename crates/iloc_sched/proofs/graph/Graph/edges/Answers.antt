@@ -1,10 +1,4 @@
-use Rattle.std.proofs.Common.{subst, sym}
-use Rattle.std.specs.Prelude.{All}
-use Rattle.std.proofs.lemmas.List.Elements.{All-from_get_or}
-use Rattle.iloc_sched.specs.declared.edges.Edge.{Edge}
-use Rattle.iloc_rules.specs.Delays.{IsDelayPair}
-use Rattle.iloc_sched.specs.Steps.Graph.{IsGraphOf}
-use Rattle.iloc_sched.specs.Steps.Views.{graph_of, no_edge}
+use Rattle.iloc_sched.proofs.Common.{All, sym, subst, All-from_get_or, IsDelayPair, IsGraphOf, graph_of, no_edge, Edge}
 use Rattle.iloc_sched.proofs.KeptEdges.SoundGraphs.{book_graph}
 use Rattle.iloc_sched.proofs.KeptEdges.EdgesInto.{all_edges}
 use Rattle.iloc_sched.proofs.graph.Graph.edges.Goals as goal

@@ -1,5 +1,4 @@
-use Rattle.iloc_sched.specs.Steps.Graph.{IsGraphOf}
-use Rattle.iloc_sched.specs.Steps.Views.{graph_of}
+use Rattle.iloc_sched.proofs.Common.{IsGraphOf, graph_of}
 use Rattle.iloc_sched.proofs.KeptEdges.SoundGraphs.{book_graph}
 use Rattle.iloc_sched.proofs.KeptEdges.EdgesInto.{all_into, each_into}
 use Rattle.iloc_sched.proofs.graph.Graph.edges_into.Goals as goal

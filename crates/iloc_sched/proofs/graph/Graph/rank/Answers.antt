@@ -1,9 +1,4 @@
-use Rattle.std.proofs.Common.{◌∙◌, ap}
-use Rattle.std.proofs.lemmas.Result.{on_ok_weaker}
-use Rattle.iloc_rules.specs.Rule.{counts_by}
-use Rattle.iloc_rules.specs.Heuristics.{priorities_by_where, priorities_by}
-use Rattle.iloc_rules.proofs.PriorityValues.Named.{priorities_by_all}
-use Rattle.iloc_sched.specs.Graph.GraphOf.{GraphOf}
+use Rattle.iloc_sched.proofs.Common.{ap, ◌∙◌, on_ok_weaker, priorities_by_all, priorities_by, priorities_by_where, counts_by, GraphOf}
 use Rattle.iloc_sched.proofs.graph.Graph.rank.Goals as goal
 
 pub returns : goal.returns

@@ -1,8 +1,4 @@
-use Rattle.std.proofs.Common.{◌∙◌, ap}
-use Rattle.std.proofs.lemmas.Result.{on_ok_weaker}
-use Rattle.iloc_rules.specs.Rule.{counts_by}
-use Rattle.iloc_rules.specs.Starts.{starts_where, starts}
-use Rattle.iloc_sched.specs.Graph.GraphOf.{GraphOf}
+use Rattle.iloc_sched.proofs.Common.{ap, ◌∙◌, on_ok_weaker, counts_by, starts, starts_where, GraphOf}
 use Rattle.iloc_sched.proofs.graph.Graph.starts.Goals as goal
 
 pub returns : goal.returns

@@ -1,6 +1,4 @@
-use Rattle.std.proofs.Common.{subst, sym}
-use Rattle.iloc_rules.specs.Renaming.{IsRenamed}
-use Rattle.iloc_rules.proofs.Renamed.RenamedBlocks.{renamed_is_renamed}
+use Rattle.iloc_sched.proofs.Common.{sym, subst, renamed_is_renamed, IsRenamed}
 use Rattle.iloc_sched.proofs.graph.RuledGraph.rank.Goals as goal
 
 pub fill_ranks-requires-clause-renamed : goal.fill_ranks-requires-clause-renamed

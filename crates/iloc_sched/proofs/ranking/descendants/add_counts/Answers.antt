@@ -1,6 +1,4 @@
-use Rattle.std.proofs.Common.{arith}
-use Rattle.std.proofs.lemmas.List.{get_or_read}
-use Rattle.std.proofs.lemmas.Nat.{ones-le}
+use Rattle.iloc_sched.proofs.Common.{arith, get_or_read, ones-le}
 use Rattle.iloc_sched.proofs.ranking.descendants.add_counts.Goals as goal
 
 pub overflow_add-index_mut : goal.overflow_add-index_mut

@@ -1,13 +1,4 @@
-use Rattle.std.proofs.Common.{ℕ, ◌≡◌, ◌+◌, ◌*◌, ◌/◌, ◌%◌, ◌≤◌, min, List, length, map, get_or, count_ones, sym, ◌∙◌, ap, subst, arith}
-use Rattle.std.specs.Prelude.{count_by}
-use Rattle.std.specs.List.{range_with_len}
-use Rattle.std.proofs.lemmas.List.{ext_get_or}
-use Rattle.std.proofs.lemmas.List.Sums.{count_by-le-length}
-use Rattle.std.proofs.lemmas.List.FromFn.{length-range_with_len, length-map-range_with_len, get_or-map-range_with_len}
-use Rattle.std.proofs.lemmas.Grind.{div_ceil_times}
-use Rattle.iloc_rules.specs.Heuristics.{depends_on_where, descendants_where}
-use Rattle.iloc_rules.specs.Rule.{counts_by}
-use Rattle.iloc_sched.specs.Steps.Ranking.Dependents.{AreMarked}
+use Rattle.iloc_sched.proofs.Common.{◌≡◌, ℕ, ◌+◌, ◌*◌, ◌/◌, ◌%◌, ◌≤◌, min, List, map, length, get_or, count_ones, count_by, sym, ap, ◌∙◌, subst, arith, ext_get_or, div_ceil_times, get_or-map-range_with_len, length-map-range_with_len, length-range_with_len, count_by-le-length, range_with_len, depends_on_where, descendants_where, counts_by, AreMarked}
 use Rattle.iloc_sched.proofs.PriorityValues.DependentsCounted.{counted_more, counted_all}
 use Rattle.iloc_sched.proofs.ranking.descendants.count_descendants.Goals as goal
 

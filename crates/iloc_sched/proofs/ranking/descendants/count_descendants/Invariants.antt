@@ -1,8 +1,4 @@
-use Rattle.std.proofs.Common.{ℕ, ◌*◌, ◌≡◌, ◌<◌, length, get_or}
-use Rattle.std.specs.Prelude.{count_by}
-use Rattle.std.specs.List.{range_with_len}
-use Rattle.iloc_rules.specs.Heuristics.{depends_on_where}
-use Rattle.iloc_rules.specs.Rule.{counts_by}
+use Rattle.iloc_sched.proofs.Common.{◌≡◌, ℕ, ◌*◌, ◌<◌, length, get_or, count_by, range_with_len, depends_on_where, counts_by}
 use Rattle.iloc_sched.proofs.ranking.descendants.count_descendants.Given as goal
 
 abbrev pub invariant-loop-chunk : goal.invariant-loop-chunk

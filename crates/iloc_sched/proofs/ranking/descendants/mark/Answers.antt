@@ -1,12 +1,5 @@
-use Rattle.std.proofs.Common.{ℕ, ◌≡◌, ◌+◌, ◌-◌, ◌<◌, min, List, length, set, ap, ap₂, subst, arith}
+use Rattle.iloc_sched.proofs.Common.{◌≡◌, ℕ, ◌+◌, ◌-◌, ◌<◌, min, List, length, set, ap, subst, ap₂, arith, get_or_read, counts_by, IsSound, IsMarked, edge_at, graph_of, Edge, Tables}
 use Rattle.std.specs.Int.Bits.{bit_or}
-use Rattle.std.proofs.lemmas.List.{get_or_read}
-use Rattle.iloc_rules.specs.Rule.{counts_by}
-use Rattle.iloc_sched.specs.declared.edges.Edge.{Edge}
-use Rattle.iloc_sched.specs.declared.tables.Tables.{Tables}
-use Rattle.iloc_sched.specs.Steps.Ranking.Dependents.{IsMarked}
-use Rattle.iloc_sched.specs.Steps.Edges.SoundGraph.{IsSound}
-use Rattle.iloc_sched.specs.Steps.Views.{graph_of, edge_at}
 use Rattle.iloc_sched.proofs.PriorityValues.DependentsFound.{early_target, marked_none, marked_more, marked_all}
 use Rattle.iloc_sched.proofs.PriorityValues.Found.{read_edge}
 use Rattle.iloc_sched.proofs.ranking.descendants.mark.Goals as goal

@@ -1,6 +1,4 @@
-use Rattle.iloc_rules.specs.Rule.{counts_by}
-use Rattle.iloc_sched.specs.Steps.Ranking.Dependents.{IsMarked}
-use Rattle.iloc_sched.specs.Steps.Views.{graph_of}
+use Rattle.iloc_sched.proofs.Common.{counts_by, IsMarked, graph_of}
 use Rattle.iloc_sched.proofs.ranking.descendants.mark.Given as goal
 
 abbrev pub invariant-loop-x : goal.invariant-loop-x

@@ -1,8 +1,5 @@
-use Rattle.std.proofs.Common.{ap, sym, ◌∙◌}
-use Rattle.std.proofs.lemmas.Result.{on_ok_weaker}
+use Rattle.iloc_sched.proofs.Common.{sym, ap, ◌∙◌, on_ok_weaker, priorities_by_where, counts_by}
 use Rattle.std.proofs.lemmas.Simd.{splat_is_map}
-use Rattle.iloc_rules.specs.Heuristics.{priorities_by_where}
-use Rattle.iloc_rules.specs.Rule.{counts_by}
 use Rattle.iloc_sched.proofs.ranking.heuristic.fill_ranks.Goals as goal
 
 pub returns-in-Order : goal.returns-in-Order

@@ -1,11 +1,5 @@
-use Rattle.std.proofs.Common.{ℕ, ◌≡◌, ◌-◌, length, subst, arith}
-use Rattle.std.proofs.lemmas.List.{get_or_read}
-use Rattle.iloc_rules.specs.Priority.{priority_where}
-use Rattle.iloc_rules.specs.Rule.{counts_by}
-use Rattle.iloc_sched.specs.Steps.Chains.{ArePrioritiesFrom, AreRaised}
-use Rattle.iloc_sched.specs.Steps.Views.{graph_of}
+use Rattle.iloc_sched.proofs.Common.{◌≡◌, ℕ, ◌-◌, length, subst, arith, get_or_read, is_priority, priority_most_where, priority_where, counts_by, ArePrioritiesFrom, AreRaised, graph_of}
 use Rattle.iloc_sched.proofs.PriorityValues.Found.{read_edge, raise_read, none_raised, priorities_found}
-use Rattle.iloc_rules.proofs.PriorityValues.LongestWhere.{is_priority, priority_most_where}
 use Rattle.iloc_sched.proofs.ranking.priority.fill_chains.Goals as goal
 
 pub loop-x-init : goal.loop-x-init

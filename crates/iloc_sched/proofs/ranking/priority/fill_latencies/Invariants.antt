@@ -1,5 +1,4 @@
-use Rattle.std.proofs.Common.{◌≡◌, map, take}
-use Rattle.iloc_timed.specs.Latency.{latency_of}
+use Rattle.iloc_sched.proofs.Common.{◌≡◌, map, take, latency_of}
 use Rattle.iloc_sched.proofs.ranking.priority.fill_latencies.Given as goal
 
 abbrev pub invariant-loop-kind : goal.invariant-loop-kind

@@ -1,12 +1,4 @@
-use Rattle.std.proofs.Common.{◌≡◌, ◌+◌, length, map, get_or, sym, ◌∙◌, ap, arith}
-use Rattle.std.specs.List.{range_with_len}
-use Rattle.std.proofs.lemmas.List.{ext_get_or}
-use Rattle.std.proofs.lemmas.List.FromFn.{length-map-range_with_len, get_or-map-range_with_len}
-use Rattle.iloc_rules.specs.Starts.{starts_where, start_where}
-use Rattle.iloc_rules.specs.Heuristics.{through_where}
-use Rattle.iloc_rules.specs.Rule.{counts_by}
-use Rattle.iloc_rules.proofs.PriorityValues.LongestWhere.{length_where, priority_most_where}
-use Rattle.iloc_rules.proofs.PriorityValues.Starts.{length-starts_where, start_most_where}
+use Rattle.iloc_sched.proofs.Common.{◌≡◌, ◌+◌, map, length, get_or, sym, ap, ◌∙◌, arith, ext_get_or, get_or-map-range_with_len, length-map-range_with_len, range_with_len, length_where, priority_most_where, length-starts_where, start_most_where, through_where, counts_by, start_where, starts_where}
 use Rattle.iloc_sched.proofs.ranking.slack.fill_through.Goals as goal
 
 pub add_each-requires-clause-size : goal.add_each-requires-clause-size

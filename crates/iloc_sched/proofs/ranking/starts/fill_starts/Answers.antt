@@ -1,13 +1,6 @@
-use Rattle.std.proofs.Common.{ℕ, ◌≡◌, ◌<◌, List, length, subst, arith}
-use Rattle.std.proofs.lemmas.List.{get_or_read}
-use Rattle.iloc_sched.specs.declared.edges.Edge.{Edge}
-use Rattle.iloc_rules.specs.Rule.{counts_by}
-use Rattle.iloc_rules.specs.Starts.{start_where}
-use Rattle.iloc_sched.specs.Steps.Chains.{AreStartsBefore}
-use Rattle.iloc_sched.specs.Steps.Views.{graph_of}
+use Rattle.iloc_sched.proofs.Common.{◌≡◌, ℕ, ◌<◌, List, length, subst, arith, get_or_read, is_start_where, start_most_where, counts_by, start_where, AreStartsBefore, graph_of, Edge}
 use Rattle.iloc_sched.proofs.PriorityValues.Chains.{raise_to}
 use Rattle.iloc_sched.proofs.PriorityValues.Found.{read_edge, starts_none, starts_found}
-use Rattle.iloc_rules.proofs.PriorityValues.Starts.{is_start_where, start_most_where}
 use Rattle.iloc_sched.proofs.ranking.starts.fill_starts.Goals as goal
 
 pub loop-x-init : goal.loop-x-init

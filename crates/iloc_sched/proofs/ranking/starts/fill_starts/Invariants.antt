@@ -1,6 +1,4 @@
-use Rattle.iloc_rules.specs.Rule.{counts_by}
-use Rattle.iloc_sched.specs.Steps.Chains.{AreStartsBefore}
-use Rattle.iloc_sched.specs.Steps.Views.{graph_of}
+use Rattle.iloc_sched.proofs.Common.{counts_by, AreStartsBefore, graph_of}
 use Rattle.iloc_sched.proofs.ranking.starts.fill_starts.Given as goal
 
 abbrev pub invariant-loop-x : goal.invariant-loop-x

@@ -1,9 +1,5 @@
-use Rattle.std.proofs.Common.{ℕ, ◌≡◌, ◌+◌, ◌-◌, ◌<◌, ◌≤◌, List, length, set, get_or, ◌∙◌, ap, subst, arith}
-use Rattle.std.proofs.lemmas.List.{get_or_read, get_or-set_same, get_or-set_other}
-use Rattle.iloc_ops.specs.declared.op.Op.{Op}
+use Rattle.iloc_sched.proofs.Common.{◌≡◌, ℕ, ◌+◌, ◌-◌, ◌<◌, ◌≤◌, List, length, get_or, set, ap, ◌∙◌, subst, arith, get_or-set_other, get_or-set_same, get_or_read, Op, Latencies, AreCounted, AreNoted, waiting_for}
 use Rattle.iloc_timed.specs.declared.kind.Kind.TheVariants.{Store}
-use Rattle.iloc_timed.specs.declared.latencies.Latencies.{Latencies}
-use Rattle.iloc_sched.specs.Steps.Ranking.Successors.{waiting_for, AreCounted, AreNoted}
 use Rattle.iloc_sched.proofs.KeptEdges.ListedKinds.{kind_listed}
 use Rattle.iloc_sched.proofs.PriorityValues.Successors.{none_counted, one_counted, all_counted, none_noted, one_noted, noted_few, waiting_few, counted_few}
 use Rattle.iloc_sched.proofs.ranking.successors.count_successors.Goals as goal

@@ -1,9 +1,4 @@
-use Rattle.std.proofs.Common.{ℕ, ◌≡◌, ◌+◌, ◌<◌, ◌≤◌, List, length, set, get_or, sym, ◌∙◌, ap, subst, arith}
-use Rattle.std.specs.Global.{Vec}
-use Rattle.std.proofs.lemmas.List.{get_or_read}
-use Rattle.iloc_sched.specs.declared.edges.Edge.{Edge}
-use Rattle.iloc_sched.specs.Steps.Ranking.Successors.{IsCounting}
-use Rattle.iloc_sched.specs.Steps.Views.{graph_of}
+use Rattle.iloc_sched.proofs.Common.{◌≡◌, ℕ, ◌+◌, ◌<◌, ◌≤◌, List, length, get_or, set, sym, ap, ◌∙◌, subst, arith, get_or_read, Vec, IsCounting, graph_of, Edge}
 use Rattle.iloc_sched.proofs.PriorityValues.Found.{read_edge}
 use Rattle.iloc_sched.proofs.PriorityValues.UsesCounted.{none_counting, into_j, skipped, counts, before_count, all_counting}
 use Rattle.iloc_sched.proofs.ranking.successors.count_uses.Goals as goal

@@ -1,6 +1,4 @@
-use Rattle.std.proofs.Common.{◌+◌, ◌≤◌}
-use Rattle.iloc_sched.specs.Steps.Ranking.Successors.{IsCounting}
-use Rattle.iloc_sched.specs.Steps.Views.{graph_of}
+use Rattle.iloc_sched.proofs.Common.{◌+◌, ◌≤◌, IsCounting, graph_of}
 use Rattle.iloc_sched.proofs.ranking.successors.count_uses.Given as goal
 
 abbrev pub invariant-loop-x : goal.invariant-loop-x

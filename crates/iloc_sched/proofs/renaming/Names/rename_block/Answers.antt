@@ -1,6 +1,5 @@
-use Rattle.std.proofs.Common.{arith, sym, ◌∙◌}
+use Rattle.iloc_sched.proofs.Common.{sym, ◌∙◌, arith, renamed_is_renamed, renaming_keeps_the_outcome}
 use Rattle.iloc_sched.proofs.Renamed.RenamingLoop.{nop_passed, op_taken, next_pushed, all_renamed, renamed_fits}
-use Rattle.iloc_rules.proofs.Renamed.RenamedBlocks.{renamed_is_renamed, renaming_keeps_the_outcome}
 use Rattle.iloc_sched.proofs.renaming.Names.rename_block.Goals as goal
 use Rattle.iloc_sched.proofs.renaming.Names.rename_block.Goals.{then-not-is_nop+in_ok-rename+in_ok-push, else-not-is_nop}
 

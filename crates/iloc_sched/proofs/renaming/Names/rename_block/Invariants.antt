@@ -1,6 +1,4 @@
-use Rattle.std.proofs.Common.{◌≡◌, ◌*◌, ◌≤◌, take}
-use Rattle.iloc_rules.specs.Renaming.{without_nops, numbering, renamed_by}
-use Rattle.iloc_sched.specs.Steps.Renaming.NamingWalk.{Named}
+use Rattle.iloc_sched.proofs.Common.{◌≡◌, ◌*◌, ◌≤◌, take, numbering, renamed_by, without_nops, Named}
 use Rattle.iloc_sched.specs.Steps.Renaming.CurrentNames.{current_of}
 use Rattle.iloc_sched.proofs.renaming.Names.rename_block.Given as goal
 

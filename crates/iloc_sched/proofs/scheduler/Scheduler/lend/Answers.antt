@@ -1,6 +1,4 @@
-use Rattle.std.proofs.Common.{ap, ◌∙◌}
-use Rattle.std.proofs.lemmas.Result.{IfOk-weaker}
-use Rattle.iloc_rules.specs.declared.memory_rule.MemoryRule.TheVariants.{Book}
+use Rattle.iloc_sched.proofs.Common.{ap, ◌∙◌, IfOk-weaker, Book}
 use Rattle.iloc_sched.proofs.Choice.Scheduled.{by_the_book}
 use Rattle.iloc_sched.proofs.scheduler.Scheduler.lend.Goals as goal
 

@@ -1,10 +1,4 @@
-use Rattle.std.proofs.Common.{arith, ◌≡◌, ◌++◌, ap, subst, sym, ◌∙◌}
-use Rattle.std.specs.Global.{Vec}
-use Rattle.iloc_ops.specs.declared.op.Op.{Op}
-use Rattle.iloc_timed.specs.declared.row.Row.{Row}
-use Rattle.iloc_sched.specs.Graph.GraphOf.{RuledGraphOf}
-use Rattle.iloc_rules.specs.Greedy.{IsGreedyWhere}
-use Rattle.iloc_rules.specs.Rule.{counts_by}
+use Rattle.iloc_sched.proofs.Common.{◌≡◌, ◌++◌, sym, ap, ◌∙◌, subst, arith, Vec, Op, Row, IsGreedyWhere, counts_by, RuledGraphOf}
 use Rattle.iloc_sched.proofs.Choice.Scheduled.{handed_out, the_schedule}
 use Rattle.iloc_sched.proofs.scheduler.Scheduler.lend_ruled.Goals as goal
 

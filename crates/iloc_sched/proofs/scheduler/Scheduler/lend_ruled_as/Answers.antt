@@ -1,9 +1,4 @@
-use Rattle.std.proofs.Common.{ap, length, subst, sym, ◌∙◌}
-use Rattle.std.proofs.lemmas.Result.{IfOk-weaker}
-use Rattle.iloc_rules.specs.Greedy.{IsGreedyWhere}
-use Rattle.iloc_rules.specs.Rule.{counts_by, priorities_under}
-use Rattle.iloc_rules.proofs.PriorityValues.Named.{length-priorities_by_where, ruled_priorities}
-use Rattle.iloc_sched.specs.Graph.GraphOf.{RuledGraphOf}
+use Rattle.iloc_sched.proofs.Common.{length, sym, ap, ◌∙◌, subst, IfOk-weaker, length-priorities_by_where, ruled_priorities, IsGreedyWhere, counts_by, priorities_under, RuledGraphOf}
 use Rattle.iloc_sched.proofs.Choice.Scheduled.{the_schedule}
 use Rattle.iloc_sched.proofs.scheduler.Scheduler.lend_ruled_as.Goals as goal
 

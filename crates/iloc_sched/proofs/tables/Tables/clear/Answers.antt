@@ -1,10 +1,4 @@
-use Rattle.std.proofs.Common.{◌≡◌, [], length, map, sym, ◌∙◌, ap, subst, arith}
-use Rattle.iloc_rules.specs.declared.memory_rule.MemoryRule.TheVariants.{Book}
-use Rattle.iloc_timed.specs.Kinds.{kind}
-use Rattle.iloc_timed.specs.Latency.{latency}
-use Rattle.iloc_sched.specs.Steps.Edges.Lasts.{IsLasts}
-use Rattle.iloc_sched.specs.Steps.Edges.PartialGraph.{IsPartialGraph}
-use Rattle.iloc_sched.specs.Steps.Views.{graph_of}
+use Rattle.iloc_sched.proofs.Common.{◌≡◌, [], map, length, sym, ap, ◌∙◌, subst, arith, kind, latency, Book, IsLasts, IsPartialGraph, graph_of}
 use Rattle.iloc_sched.proofs.tables.Tables.clear.Goals as goal
 
 pub returns-clause-filling : goal.returns-clause-filling

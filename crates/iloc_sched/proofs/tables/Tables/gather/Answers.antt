@@ -1,7 +1,6 @@
-use Rattle.std.proofs.Common.{sym, ◌∙◌, take, arith}
+use Rattle.iloc_sched.proofs.Common.{take, sym, ◌∙◌, arith, graph_of}
 use Rattle.iloc_sched.proofs.Renamed.RenamingLoop.{nop_passed, op_taken, all_renamed}
 use Rattle.iloc_sched.proofs.KeptEdges.PartialGraphs.{kept_at_end}
-use Rattle.iloc_sched.specs.Steps.Views.{graph_of}
 use Rattle.iloc_sched.proofs.tables.Tables.gather.Goals as goal
 use Rattle.iloc_sched.proofs.tables.Tables.gather.Goals.{then-not-is_nop+in_ok-push_by_shape, else-not-is_nop}
 

@@ -1,5 +1,4 @@
-use Rattle.std.proofs.Common.{◌≡◌, ◌*◌, ◌≤◌, take, length}
-use Rattle.iloc_rules.specs.Renaming.{without_nops}
+use Rattle.iloc_sched.proofs.Common.{◌≡◌, ◌*◌, ◌≤◌, length, take, without_nops}
 use Rattle.iloc_sched.specs.Steps.Edges.Filling.{CanHold, IsGathered}
 use Rattle.iloc_sched.proofs.tables.Tables.gather.Given as goal
 

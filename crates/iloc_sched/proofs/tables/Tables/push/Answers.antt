@@ -1,15 +1,4 @@
-use Rattle.std.proofs.Common.{◌≡◌, ◌+◌, ◌∷◌, ◌++◌, [], List, length, ◌∙◌, ap, sym, subst, arith}
-use Rattle.std.specs.Global.{Vec}
-use Rattle.iloc_sched.specs.declared.edges.Edge.{Edge}
-use Rattle.iloc_ops.specs.declared.op.Op.{Op}
-use Rattle.iloc_ops.specs.Registers.{defined}
-use Rattle.iloc_meaning.specs.Trace.{op_at}
-use Rattle.iloc_rules.specs.declared.memory_rule.MemoryRule.TheVariants.{Book}
-use Rattle.iloc_timed.specs.Kinds.{kind}
-use Rattle.iloc_timed.specs.Latency.{latency_of}
-use Rattle.iloc_sched.specs.Steps.Edges.Lasts.{IsLasts}
-use Rattle.iloc_sched.specs.Steps.Edges.PartialGraph.{IsPartialGraph}
-use Rattle.iloc_sched.specs.Steps.Views.{graph_of}
+use Rattle.iloc_sched.proofs.Common.{◌≡◌, ◌+◌, List, [], ◌∷◌, ◌++◌, length, sym, ap, ◌∙◌, subst, arith, Vec, defined, Op, op_at, kind, latency_of, Book, IsLasts, IsPartialGraph, graph_of, Edge}
 use Rattle.iloc_sched.proofs.KeptEdges.OneMoreInTables.{is_next, partial_grown, kinds_more, latencies_more, size_more}
 use Rattle.iloc_sched.proofs.Renamed.OneMoreOperation.{op_at_last}
 use Rattle.iloc_sched.proofs.tables.Tables.push.Goals as goal

@@ -1,8 +1,5 @@
-use Rattle.std.proofs.Common.{arith, ◌∷◌, ◌++◌, [], List, length, refl, sym, ◌∙◌, ap, subst}
-use Rattle.iloc_ops.specs.declared.op.Op.{Op}
-use Rattle.iloc_rules.specs.Renaming.{numbering, renamed_by, IsRenamed}
+use Rattle.iloc_sched.proofs.Common.{List, [], ◌∷◌, ◌++◌, length, sym, refl, ap, ◌∙◌, subst, arith, Op, renamed_is_renamed, IsRenamed, numbering, renamed_by}
 use Rattle.iloc_sched.proofs.Renamed.RenamingLoop.{next_pushed, without_nops_more}
-use Rattle.iloc_rules.proofs.Renamed.RenamedBlocks.{renamed_is_renamed}
 use Rattle.iloc_sched.proofs.KeptEdges.OneMoreInTables.{size_more}
 use Rattle.iloc_sched.proofs.tables.Tables.push_renamed.Goals as goal
 

@@ -1,9 +1,4 @@
-use Rattle.std.proofs.Common.{rules, ◌≡◌, ◌+◌, [], ap, sym, refl, ◌∙◌, subst, FitsSigned, w32}
-use Rattle.std.specs.Prelude.{count_by}
-use Rattle.std.proofs.lemmas.Int.{to_z-of_z}
-use Rattle.std.proofs.lemmas.Result.{on_ok_weaker}
-use Rattle.iloc_addresses.specs.Steps.ByConstant.{ops_at, count_in, Moves}
-use Rattle.iloc_addresses.specs.Steps.Dependences.{constant_of}
+use Rattle.iloc_addresses.proofs.Common.{◌≡◌, ◌+◌, [], FitsSigned, count_by, sym, refl, ap, ◌∙◌, subst, w32, rules, to_z-of_z, on_ok_weaker, Moves, count_in, ops_at, constant_of}
 use Rattle.iloc_addresses.proofs.Accessed.{finds_own, finds_others, own_taken}
 use Rattle.iloc_addresses.proofs.dependences.accesses.Accesses.find.Goals as goal
 use Rattle.iloc_addresses.proofs.dependences.accesses.Accesses.find.Goals.{then-have_one_base+in_ok-move_at, else-have_one_base+in_ok-move_all}

@@ -1,8 +1,4 @@
-use Rattle.std.proofs.Common.{rules, ◌≡◌, ℤ, int_eq, if◌then◌else◌, [], ◌∷◌, ◌++◌, ap, sym, refl, ◌∙◌, subst, FitsSigned, w32}
-use Rattle.std.proofs.lemmas.Int.{to_z-of_z}
-use Rattle.iloc_addresses.specs.declared.dependences.accesses.Accesses.{Accesses}
-use Rattle.iloc_addresses.specs.Steps.ByConstant.{ops_at}
-use Rattle.iloc_addresses.specs.Steps.Dependences.{AreFar, constant_of}
+use Rattle.iloc_addresses.proofs.Common.{◌≡◌, [], ◌∷◌, ◌++◌, ℤ, if◌then◌else◌, FitsSigned, int_eq, sym, refl, ap, ◌∙◌, subst, w32, rules, to_z-of_z, ops_at, AreFar, constant_of, Accesses}
 use Rattle.iloc_addresses.proofs.Accessed.{are_far, finds_more, keeps_more, keeps_apart}
 use Rattle.iloc_addresses.proofs.dependences.accesses.Accesses.find_recent.Goals as goal
 

@@ -1,6 +1,4 @@
-use Rattle.std.proofs.Common.{◌≡◌, [], length}
-use Rattle.iloc_addresses.specs.Steps.ByConstant.{ops_at}
-use Rattle.iloc_addresses.specs.Steps.Dependences.{constant_of, Finds}
+use Rattle.iloc_addresses.proofs.Common.{◌≡◌, [], length, ops_at, Finds, constant_of}
 use Rattle.iloc_addresses.proofs.dependences.accesses.Accesses.find_recent.Given as goal
 
 abbrev pub invariant-loop-access : goal.invariant-loop-access

@@ -1,6 +1,4 @@
-use Rattle.std.proofs.Common.{ℕ, ℤ, length}
-use Rattle.iloc_rules.specs.Steps.Members.{In}
-use Rattle.iloc_addresses.specs.Steps.ByConstant.{ops_at, Moves}
+use Rattle.iloc_addresses.proofs.Common.{ℕ, length, ℤ, In, Moves, ops_at}
 use Rattle.iloc_addresses.proofs.dependences.by_constant.ByConstant.move_all.Given as goal
 
 abbrev pub invariant-loop-ops : goal.invariant-loop-ops

@@ -1,7 +1,4 @@
-use Rattle.std.proofs.Common.{rules, [], ◌++◌, ap, sym, ◌∙◌, FitsSigned, w32}
-use Rattle.std.proofs.lemmas.Int.{to_z-of_z}
-use Rattle.std.specs.Option.{option_map_or}
-use Rattle.std.proofs.lemmas.List.{append-nil}
+use Rattle.iloc_addresses.proofs.Common.{[], ◌++◌, FitsSigned, sym, ap, ◌∙◌, append-nil, w32, rules, to_z-of_z, option_map_or}
 use Rattle.iloc_addresses.proofs.ByConstants.{removed_count}
 use Rattle.iloc_addresses.proofs.dependences.by_constant.ByConstant.move_at.Goals as goal
 

@@ -1,6 +1,4 @@
-use Rattle.std.proofs.Common.{rules, ◌≡◌, [], ◌∷◌, ◌++◌, ap, ◌∙◌, FitsSigned, w32}
-use Rattle.std.proofs.lemmas.Int.{to_z-of_z}
-use Rattle.std.specs.Option.{option_map_or}
+use Rattle.iloc_addresses.proofs.Common.{◌≡◌, [], ◌∷◌, ◌++◌, FitsSigned, ap, ◌∙◌, w32, rules, to_z-of_z, option_map_or}
 use Rattle.iloc_addresses.proofs.ByConstants.{at, put_count, removed_count, inserted_count, taken_items}
 use Rattle.iloc_addresses.proofs.dependences.by_constant.ByConstant.put.Goals as goal
 

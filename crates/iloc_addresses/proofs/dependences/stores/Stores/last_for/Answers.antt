@@ -1,8 +1,4 @@
-use Rattle.std.proofs.Common.{rules, ◌≡◌, true, ap, sym, ◌∙◌, FitsSigned, w32, int_cmp}
-use Rattle.std.specs.BTreeMap.{get}
-use Rattle.std.specs.Option.{option_or}
-use Rattle.std.proofs.lemmas.Int.{to_z-of_z}
-use Rattle.iloc_addresses.specs.Steps.Dependences.{constant_of, have_one_base}
+use Rattle.iloc_addresses.proofs.Common.{◌≡◌, true, FitsSigned, int_cmp, sym, ap, ◌∙◌, w32, rules, to_z-of_z, get, option_or, constant_of, have_one_base}
 use Rattle.iloc_addresses.proofs.dependences.stores.Stores.last_for.Goals as goal
 
 pub returns-then-have_one_base-clause-last : goal.returns-then-have_one_base-clause-last

@@ -1,6 +1,4 @@
-use Rattle.std.proofs.Common.{rules, ◌+◌, ◌-◌, ap, ◌∙◌, FitsSigned, w32}
-use Rattle.std.proofs.lemmas.Int.{to_z-of_z}
-use Rattle.iloc_addresses.specs.Steps.Successors.{base_of, with_base, with_both}
+use Rattle.iloc_addresses.proofs.Common.{◌+◌, ◌-◌, FitsSigned, ap, ◌∙◌, w32, rules, to_z-of_z, base_of, with_base, with_both}
 use Rattle.iloc_addresses.proofs.successors.address_counts.AddressCounts.count_near.Goals as goal
 
 pub returns-clause-near : goal.returns-clause-near

@@ -1,7 +1,5 @@
-use Rattle.std.proofs.Common.{rules, ◌+◌, refl, subst, FitsSigned, w32}
-use Rattle.std.proofs.lemmas.Int.{to_z-of_z}
+use Rattle.iloc_addresses.proofs.Common.{◌+◌, FitsSigned, refl, subst, w32, rules, to_z-of_z, IsShort}
 use Rattle.iloc_addresses.specs.declared.successors.address_counts.AddressCounts.{AddressCounts}
-use Rattle.iloc_addresses.specs.Steps.Dependences.{IsShort}
 use Rattle.iloc_addresses.proofs.AddressesCounted.{near_more, nested_more}
 use Rattle.iloc_addresses.proofs.successors.address_counts.AddressCounts.note.Goals as goal
 

@@ -1,6 +1,4 @@
-use Rattle.std.proofs.Common.{rules, ap, ◌∙◌, FitsSigned, w32}
-use Rattle.std.specs.Prelude.{unwrap_or}
-use Rattle.std.proofs.lemmas.Int.{to_z-of_z}
+use Rattle.iloc_addresses.proofs.Common.{FitsSigned, unwrap_or, ap, ◌∙◌, w32, rules, to_z-of_z}
 use Rattle.iloc_addresses.proofs.successors.address_counts.AddressCounts.with_both.Goals as goal
 
 pub returns : goal.returns

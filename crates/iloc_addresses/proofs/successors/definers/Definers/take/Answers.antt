@@ -1,5 +1,4 @@
-use Rattle.std.proofs.Common.{rules, ◌≡◌, Some, ap, ◌∙◌}
-use Rattle.iloc_ops.specs.Registers.{defined}
+use Rattle.iloc_addresses.proofs.Common.{◌≡◌, Some, ap, ◌∙◌, rules, defined}
 use Rattle.iloc_addresses.specs.declared.successors.definers.Definers.{Definers}
 use Rattle.iloc_addresses.proofs.SuccessorsCounted.{definers_more}
 use Rattle.iloc_addresses.proofs.successors.definers.Definers.take.Goals as goal

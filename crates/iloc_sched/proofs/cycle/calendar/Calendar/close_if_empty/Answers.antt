@@ -1,7 +1,4 @@
-use Rattle.std.proofs.Common.{◌≡◌, ◌+◌, ◌*◌, ◌==◌, sym, ◌∙◌, arith}
-use Rattle.std.proofs.lemmas.Bool.{eqb-true}
-use Rattle.std.proofs.lemmas.List.{get_or_read}
-use Rattle.iloc_sched.specs.Steps.Cycle.RankSets.{word_at}
+use Rattle.iloc_sched.proofs.Common.{◌≡◌, ◌+◌, ◌*◌, ◌==◌, sym, ◌∙◌, arith, eqb-true, get_or_read, word_at}
 use Rattle.iloc_sched.proofs.Ranks.Sets.{takes_back}
 use Rattle.iloc_sched.proofs.Ranks.Summaries.{IsSummary-emptied}
 use Rattle.iloc_sched.proofs.cycle.calendar.Calendar.close_if_empty.Goals as goal

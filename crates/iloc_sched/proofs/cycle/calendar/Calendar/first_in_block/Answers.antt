@@ -1,7 +1,4 @@
-use Rattle.std.proofs.Common.{◌≡◌, ◌*◌, ◌/◌, ◌+◌, ◌≤◌, bit_and, length, ap₂, subst, ◌∙◌, arith, length-set}
-use Rattle.std.proofs.lemmas.List.{get_or_read}
-use Rattle.iloc_sched.specs.Steps.Cycle.Classes.{place_of}
-use Rattle.iloc_sched.specs.Steps.Cycle.RankSets.{word_at, IsFirstWithin, IsSearched}
+use Rattle.iloc_sched.proofs.Common.{◌≡◌, ◌+◌, ◌*◌, ◌/◌, ◌≤◌, length, bit_and, ◌∙◌, subst, ap₂, arith, length-set, get_or_read, place_of, IsFirstWithin, IsSearched, word_at}
 use Rattle.iloc_sched.proofs.Ranks.Sets.{open_there}
 use Rattle.iloc_sched.proofs.Ranks.Summaries.{IsSummary-searched, both_less, both_closed}
 use Rattle.iloc_sched.proofs.cycle.calendar.Calendar.first_in_block.Goals as goal

@@ -1,7 +1,4 @@
-use Rattle.std.proofs.Common.{ℕ, ◌≡◌, ◌/◌, ◌<◌}
-use Rattle.iloc_sched.specs.Steps.Cycle.Calendar.{HasSameSets}
-use Rattle.iloc_sched.specs.Steps.Cycle.Classes.{place_of}
-use Rattle.iloc_sched.specs.Steps.Cycle.RankSets.{open_bit}
+use Rattle.iloc_sched.proofs.Common.{◌≡◌, ℕ, ◌/◌, ◌<◌, HasSameSets, place_of, open_bit}
 use Rattle.iloc_sched.proofs.cycle.calendar.Calendar.first_of_blocks.Given as goal
 
 abbrev pub invariant-loop-block : goal.invariant-loop-block

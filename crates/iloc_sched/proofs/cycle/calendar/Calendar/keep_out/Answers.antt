@@ -1,7 +1,4 @@
-use Rattle.std.proofs.Common.{◌*◌, ◌+◌, ◌<◌, ◌≤◌, sym, subst, ◌∙◌}
-use Rattle.std.specs.Vec.{with_items}
-use Rattle.iloc_sched.specs.Steps.Cycle.Classes.{excludes, place_of}
-use Rattle.iloc_sched.specs.Steps.Cycle.RankSets.{AddsBit}
+use Rattle.iloc_sched.proofs.Common.{◌+◌, ◌*◌, ◌<◌, ◌≤◌, sym, ◌∙◌, subst, with_items, excludes, place_of, AddsBit}
 use Rattle.iloc_sched.proofs.Ranks.Calendars.{rest_is_free}
 use Rattle.iloc_sched.proofs.Ranks.Sets.{puts_from, adds_back}
 use Rattle.iloc_sched.proofs.Ranks.Summaries.{IsSummary-kept_out}

@@ -1,7 +1,4 @@
-use Rattle.std.proofs.Common.{refl, ◌≡◌, ◌*◌, ◌/◌, ◌+◌, ◌%◌, ◌<◌, ◌≤◌, sym, subst, ◌∙◌, arith, eq-eqb}
-use Rattle.std.proofs.lemmas.Bool.{eqb-true, false≢true}
-use Rattle.std.specs.Vec.{with_items}
-use Rattle.iloc_sched.specs.Steps.Cycle.RankSets.{AddsBit}
+use Rattle.iloc_sched.proofs.Common.{◌≡◌, ◌+◌, ◌*◌, ◌/◌, ◌%◌, ◌<◌, ◌≤◌, sym, refl, ◌∙◌, subst, arith, eq-eqb, eqb-true, false≢true, with_items, AddsBit}
 use Rattle.iloc_sched.proofs.Ranks.Sets.{puts_from, adds_back}
 use Rattle.iloc_sched.proofs.Ranks.Summaries.{IsSummary-added}
 use Rattle.iloc_sched.proofs.cycle.calendar.Calendar.put_if.Goals as goal

@@ -1,5 +1,4 @@
-use Rattle.std.proofs.Common.{◌≡◌, ◌%◌, sym, ◌∙◌, arith}
-use Rattle.std.proofs.lemmas.Bool.{eqb-true}
+use Rattle.iloc_sched.proofs.Common.{◌≡◌, ◌%◌, sym, ◌∙◌, arith, eqb-true}
 use Rattle.iloc_sched.proofs.Ranks.Sets.{moves_back, kept_back, one_word_released}
 use Rattle.iloc_sched.proofs.cycle.calendar.Calendar.release.Goals as goal
 

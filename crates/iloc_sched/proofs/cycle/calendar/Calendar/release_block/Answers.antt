@@ -1,7 +1,4 @@
-use Rattle.std.proofs.Common.{◌≡◌, ◌≢◌, ◌*◌, ◌/◌, ◌+◌, ◌<◌, ◌≤◌, length, sym, subst, ◌∙◌, arith}
-use Rattle.std.specs.Vec.{with_items}
-use Rattle.std.proofs.lemmas.List.{get_or_read}
-use Rattle.iloc_sched.specs.Steps.Cycle.RankSets.{word_at, HoldsBits}
+use Rattle.iloc_sched.proofs.Common.{◌≡◌, ◌+◌, ◌*◌, ◌/◌, ◌<◌, ◌≤◌, ◌≢◌, length, sym, ◌∙◌, subst, arith, get_or_read, with_items, HoldsBits, word_at}
 use Rattle.iloc_sched.proofs.Ranks.Moves.{summary_moved}
 use Rattle.iloc_sched.proofs.Ranks.Sets.{leads_there, moves_back, kept_back, size_back, notes_back, block_as_released, block_without, block_union, block_empty, block_others}
 use Rattle.iloc_sched.proofs.cycle.calendar.Calendar.release_block.Goals as goal

@@ -1,6 +1,5 @@
 -- `and` makes the empty struct, with the cycles that its clause names. Assumes `Logic`.
-use Rattle.std.proofs.Common.{[], ◌∷◌, refl, Some, w32, w64}
-use Rattle.std.specs.Prelude.{slice_set}
+use Rattle.iloc_sched.proofs.Common.{[], ◌∷◌, slice_set, Some, refl, w32, w64}
 use Rattle.std.proofs.raw_atomic.Walks.{proved}
 use base.Fml.{ftrue}
 use mir.Syntax.{named}

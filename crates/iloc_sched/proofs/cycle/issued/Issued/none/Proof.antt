@@ -1,6 +1,5 @@
 -- `none` makes the empty struct, with the cycles that its clause names. Assumes `Logic`.
-use Rattle.std.proofs.Common.{[], ◌∷◌, refl, None, w64}
-use Rattle.std.specs.Prelude.{replicate}
+use Rattle.iloc_sched.proofs.Common.{[], ◌∷◌, replicate, None, refl, w64}
 use Rattle.std.proofs.raw_atomic.Walks.{proved}
 use base.Fml.{ftrue}
 use types.Kit.{‵, raw, ◌$◌, ◌∵◌, !, qed, done, keep, join, fjoin, group, suffices}

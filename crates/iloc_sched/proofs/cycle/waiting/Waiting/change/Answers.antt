@@ -1,5 +1,4 @@
-use Rattle.std.proofs.Common.{arith}
-use Rattle.std.proofs.lemmas.List.{map-set}
+use Rattle.iloc_sched.proofs.Common.{arith, map-set}
 use Rattle.iloc_sched.proofs.cycle.waiting.Waiting.change.Goals as goal
 
 pub returns-clause-unmet : goal.returns-clause-unmet

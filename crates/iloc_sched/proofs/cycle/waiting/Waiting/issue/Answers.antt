@@ -1,8 +1,4 @@
-use Rattle.std.proofs.Common.{arith, refl, subst, sym}
-use Rattle.std.proofs.lemmas.List.{length-set}
-use Rattle.iloc_sched.specs.declared.cycle.waiting.Waiting.{Waiting}
-use Rattle.iloc_sched.specs.Steps.Cycle.Progress.{Walks}
-use Rattle.iloc_sched.specs.Steps.Views.{graph_of, progress_of}
+use Rattle.iloc_sched.proofs.Common.{sym, refl, subst, arith, length-set, Walks, graph_of, progress_of, Waiting}
 use Rattle.iloc_sched.proofs.Walking.WalkInTables.{started, places_as_before}
 use Rattle.iloc_sched.proofs.cycle.waiting.Waiting.issue.Goals as goal
 

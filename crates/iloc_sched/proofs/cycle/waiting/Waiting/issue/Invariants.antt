@@ -1,8 +1,4 @@
-use Rattle.std.proofs.Common.{ℕ, ◌≡◌, slice_set, Some}
-use Rattle.iloc_sched.specs.Steps.Cycle.Calendar.{has}
-use Rattle.iloc_sched.specs.Steps.Cycle.Progress.{Walks, KeepsPlaces, edges_left}
-use Rattle.iloc_sched.specs.Steps.Cycle.SoFar.{IsCalendar}
-use Rattle.iloc_sched.specs.Steps.Views.{graph_of, issued_list, progress_of, IsSized}
+use Rattle.iloc_sched.proofs.Common.{◌≡◌, ℕ, slice_set, Some, has, KeepsPlaces, Walks, edges_left, IsCalendar, IsSized, graph_of, issued_list, progress_of}
 use Rattle.iloc_sched.proofs.cycle.waiting.Waiting.issue.Given as goal
 
 abbrev pub invariant-loop-at : goal.invariant-loop-at

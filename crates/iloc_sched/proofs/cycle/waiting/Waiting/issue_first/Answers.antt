@@ -1,5 +1,4 @@
-use Rattle.std.proofs.Common.{arith, ◌+◌, false, get_or, sym, refl, subst}
-use Rattle.iloc_sched.specs.Steps.Cycle.Calendar.{Puts}
+use Rattle.iloc_sched.proofs.Common.{◌+◌, false, get_or, sym, refl, subst, arith, Puts}
 use Rattle.iloc_sched.proofs.Choice.IssuedChoice.{same_under_way, none_is_best, is_best, rank_there, rank_below, number_there, rank_is, can_issue, taken_calendar, taken_can, taken_waits, issues_choice}
 use Rattle.iloc_sched.proofs.Ranks.Calendars.{room_none}
 use Rattle.iloc_sched.proofs.cycle.waiting.Waiting.issue_first.Goals as goal

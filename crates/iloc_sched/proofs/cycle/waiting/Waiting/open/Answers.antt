@@ -1,9 +1,4 @@
-use Rattle.std.proofs.Common.{◌≡◌, ◌+◌, ◌-◌, ◌<◌, length, ap, nat_eq, refl, ◌∙◌, subst, arith}
-use Rattle.iloc_sched.specs.declared.cycle.waiting.OperationState.{OperationState}
-use Rattle.iloc_sched.specs.declared.cycle.waiting.Waiting.{Waiting}
-use Rattle.iloc_sched.specs.Steps.Cycle.Classes.{class_of}
-use Rattle.iloc_sched.specs.Steps.Cycle.Opening.{IsOpening}
-use Rattle.iloc_sched.specs.Steps.Views.{graph_of}
+use Rattle.iloc_sched.proofs.Common.{◌≡◌, ◌+◌, ◌-◌, ◌<◌, length, nat_eq, refl, ap, ◌∙◌, subst, arith, class_of, IsOpening, graph_of, OperationState, Waiting}
 use Rattle.iloc_sched.proofs.Ranks.Calendars.{within_kept}
 use Rattle.iloc_sched.proofs.Walking.FirstStates.{opening_none, opening_more, none_issued, all_opened, all_sized, all_calendar, none_ready}
 use Rattle.iloc_sched.proofs.cycle.waiting.Waiting.open.Goals as goal

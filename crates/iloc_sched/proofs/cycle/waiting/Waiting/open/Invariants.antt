@@ -1,7 +1,4 @@
-use Rattle.std.proofs.Common.{◌≡◌, ◌≤◌}
-use Rattle.std.specs.Prelude.{vec_capacity, vec_len}
-use Rattle.iloc_sched.specs.Steps.Cycle.Opening.{IsOpening}
-use Rattle.iloc_sched.specs.Steps.Views.{graph_of}
+use Rattle.iloc_sched.proofs.Common.{◌≡◌, ◌≤◌, vec_len, vec_capacity, IsOpening, graph_of}
 use Rattle.iloc_sched.proofs.cycle.waiting.Waiting.open.Given as goal
 
 abbrev pub invariant-loop-j : goal.invariant-loop-j

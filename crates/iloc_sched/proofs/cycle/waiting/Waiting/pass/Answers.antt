@@ -1,12 +1,4 @@
-use Rattle.std.proofs.Common.{◌≡◌, ◌+◌, ◌-◌, ◌%◌, ◌<◌, ◌&&◌, ◌||◌, ℕ, nat_eq, length, max, if◌then◌else◌, refl, ap, ◌∙◌, subst, arith}
-use Rattle.std.specs.Int.{from_bool}
-use Rattle.std.specs.Option.{is_some, unwrap_or}
-use Rattle.iloc_sched.specs.declared.edges.Edge.{Edge}
-use Rattle.iloc_sched.specs.declared.cycle.waiting.Waiting.{Waiting}
-use Rattle.iloc_sched.specs.declared.cycle.calendar.Calendar.{Calendar}
-use Rattle.iloc_sched.specs.Steps.Cycle.Calendar.{has, KeepsRoom, Puts}
-use Rattle.iloc_sched.specs.Steps.Cycle.SoFar.{rank_of}
-use Rattle.iloc_sched.specs.Steps.Views.{edge_at, graph_of, progress_of}
+use Rattle.iloc_sched.proofs.Common.{◌≡◌, ℕ, ◌+◌, ◌-◌, ◌%◌, ◌<◌, max, ◌&&◌, ◌||◌, length, is_some, if◌then◌else◌, nat_eq, unwrap_or, refl, ap, ◌∙◌, subst, arith, from_bool, KeepsRoom, Puts, has, rank_of, edge_at, graph_of, progress_of, Calendar, Waiting, Edge}
 use Rattle.iloc_sched.proofs.Ranks.Calendars.{calendar_put, puts_as}
 use Rattle.iloc_sched.proofs.Walking.EdgeOrNone.{edge_there, some_left, places_after, walks_on}
 use Rattle.iloc_sched.proofs.cycle.waiting.Waiting.pass.Goals as goal

@@ -1,5 +1,4 @@
-use Rattle.std.proofs.Common.{arith, subst, ◌∙◌}
-use Rattle.iloc_sched.specs.Steps.Cycle.SoFar.{IsBest}
+use Rattle.iloc_sched.proofs.Common.{◌∙◌, subst, arith, IsBest}
 use Rattle.iloc_sched.proofs.Choice.NextRow.{step_none, step_some, step_count}
 use Rattle.iloc_sched.proofs.cycle.waiting.Waiting.step.Goals as goal
 

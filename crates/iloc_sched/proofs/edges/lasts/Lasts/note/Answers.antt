@@ -1,5 +1,4 @@
-use Rattle.std.proofs.Common.{arith}
-use Rattle.std.proofs.lemmas.Result.{on_ok_weaker}
+use Rattle.iloc_sched.proofs.Common.{arith, on_ok_weaker}
 use Rattle.iloc_sched.proofs.KeptEdges.LastsNoted.{noted_in_turn}
 use Rattle.iloc_sched.proofs.edges.lasts.Lasts.note.Goals as goal
 
