@@ -1,5 +1,5 @@
-//! What is known of the addresses that a block's operations reach, which of them differ whatever memory it starts with, and
-//! which operations depend on which by memory where such don't count.
+//! What is known of the addresses that a block's operations reach, which of them differ whatever memory it starts with, and,
+//! where such don't count, which operations depend on which by memory and how many wait for each directly.
 #![tactic(auto)]
 
 mod addresses;

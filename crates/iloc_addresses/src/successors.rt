@@ -18,8 +18,8 @@ use later::Later;
 use std::alloc::Global;
 use uses::count_uses;
 
-/// Promise: By operation how many later ones have to wait for it directly, where operations that are apart don't count,
-/// whatever the latencies.
+/// Promise: By operation how many later ones have to wait for it directly, whatever the latencies, where operations that are
+/// apart don't count, unless both store.
 ///
 /// It takes time of order n log n.
 pub fn count_successors(alloc: Global, ops: &[Op]) -> Result<Vec<u32>, NoMemory>

@@ -1,7 +1,7 @@
 //! What is known of addresses, and which operations depend on which by memory.
 use crate::asserted::assert_list;
 use crate::written::block_of;
-use iloc_addresses::{MemoryDependences, are_apart, known_addresses};
+use iloc_addresses::{MemoryDependences, are_apart, count_successors, known_addresses};
 use iloc_rules::Word;
 use iloc_sched::rename;
 use iloc_timed::Kind;
@@ -89,5 +89,18 @@ fn finds_sources(rt: HostRuntime) -> Result<(), Fail> {
         dependences.take(Kind::of(op), address, j as u32, &mut sources)?;
         assert_list(&rt, sources.as_slice(), *wanted);
     }
+    Ok(())
+}
+
+/// By operation of the fields how many wait for it directly. The store into the record waits once for the load of the word
+/// that it stores, whose base it doesn't know; the last store waits for the earlier ones, but not for the loads and the output
+/// from which it is apart.
+const SUCCESSORS: &[u32] = &[3, 4, 1, 5, 3, 1, 3, 0, 1, 1, 1, 1, 1, 0];
+
+#[test]
+fn counts_successors(rt: HostRuntime) -> Result<(), Fail> {
+    let ops = rename(rt.alloc(), &block_of(rt.alloc(), FIELDS)?)?;
+    let found = count_successors(rt.alloc(), &ops)?;
+    assert_list(&rt, found.as_slice(), SUCCESSORS);
     Ok(())
 }
