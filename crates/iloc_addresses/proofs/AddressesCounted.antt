@@ -4,7 +4,7 @@ use Rattle.std.specs.Ordering.{eq_by_cmp, ordering_then}
 use Rattle.iloc_meaning.specs.Arithmetic.{wrapped}
 use Rattle.iloc_addresses.specs.declared.successors.address_counts.AddressCounts.{AddressCounts}
 
-numbers_are : (a b : ℕ) → eq_by_cmp nat_cmp a b ≡ (a == b)
+pub numbers_are : (a b : ℕ) → eq_by_cmp nat_cmp a b ≡ (a == b)
 numbers_are a b = grind arith
 
 one_base : (a b : Option ℕ) → is_eq (base_cmp a b) ≡ true → a ≡ b

@@ -1,9 +1,9 @@
 -- The names that many proofs import, passed on from one place. Declares nothing.
-pub use Rattle.std.proofs.Common.{BTreeMap, ◌≡◌, ℕ, zero, suc, ◌+◌, ◌-◌, ◌<◌, ◌≤◌, Bool, true, false, cond, not, ◌&&◌, ◌||◌, ◌≢◌, ◌⊎◌, List, [], ◌∷◌, ◌++◌, map, length, get_or, set, replicate, ℤ, pos, if◌then◌else◌, OnOk, nat_lt, ◌==◌, slice_get, FitsSigned, Some, None, Ok, Err, Contains, sum_by, count_by, Option, Result, option_map, option_to_list, nat_cmp, int_cmp, int_eq, is_eq, Ordering, Less, Equal, Greater, unwrap_or, sym, refl, ap, ◌∙◌, subst, inl, inr, true≢false, append_assoc, append-nil, add-one, arith, length-append, length-set, get_or-set_other, get_or-set_same, ext_get_or, w32, rules, ltb-true, lt-ltb, eqb-true}
+pub use Rattle.std.proofs.Common.{BTreeMap, ◌≡◌, ℕ, zero, suc, ◌+◌, ◌-◌, ◌<◌, ◌≤◌, Bool, true, false, cond, not, ◌&&◌, ◌||◌, ◌≢◌, ◌⊎◌, List, [], ◌∷◌, ◌++◌, map, length, get_or, set, ℤ, pos, if◌then◌else◌, OnOk, nat_lt, ◌==◌, slice_get, FitsSigned, Some, None, Ok, Err, Contains, sum_by, count_by, Option, Result, option_map, option_to_list, nat_cmp, int_cmp, int_eq, is_eq, Ordering, Less, Equal, Greater, unwrap_or, sym, refl, ap, ◌∙◌, subst, inl, inr, true≢false, append_assoc, append-nil, add-one, arith, length-append, length-set, get_or-set_other, get_or-set_same, ext_get_or, w32, rules, ltb-true, lt-ltb, eqb-true}
 pub use Rattle.std.proofs.lemmas.Bool.{and_from, and_parts, cases_eq, cases_lt, eqb-false, false≢true, or_cases}
 pub use Rattle.std.proofs.lemmas.Bool.Decides.{Decides-int_eq}
 pub use Rattle.std.proofs.lemmas.Int.{to_z-of_z}
-pub use Rattle.std.proofs.lemmas.List.{get_or-replicate, get_or_default, get_or_past, get_or_read, length-replicate}
+pub use Rattle.std.proofs.lemmas.List.{get_or_default, get_or_read}
 pub use Rattle.std.proofs.lemmas.List.Sums.{count_by-le-length, sum_by-append, sum_by-cons, sum_by_push}
 pub use Rattle.std.proofs.lemmas.Result.{on_ok_weaker}
 pub use Rattle.std.specs.BTreeMap.{IsOrdered, get, insert_entry, is_at, values}

@@ -1,6 +1,5 @@
 -- The operations that wait for each directly, counted by use and by memory; for `count_successors`.
-use Rattle.iloc_addresses.proofs.Common.{◌≡◌, ℕ, suc, ◌+◌, ◌-◌, ◌<◌, ◌≤◌, Bool, true, false, cond, not, ◌&&◌, ◌||◌, ◌≢◌, List, [], ◌∷◌, ◌++◌, map, length, get_or, set, replicate, if◌then◌else◌, nat_lt, ◌==◌, Some, None, count_by, Option, nat_cmp, sym, refl, ap, ◌∙◌, inl, inr, true≢false, arith, length-set, get_or-set_other, get_or-set_same, ext_get_or, ltb-true, lt-ltb, eqb-true, and_parts, cases_eq, cases_lt, get_or-replicate, get_or_past, length-replicate, get, is_at, list_any, range_with_len, defined, used, Op, Reg, by_bool, is_register, op_at, is_store, kind, latency, Kind, Latencies, address_at, apart_if_both, by_address, known_before, keeps_order_where, reads_stored, uses_result, when, Word, IsShort, constant_of, AreCounted, AreCounts, AreDefiners, AreNoted, AreUsesCounted, count_from, definer, is_by_memory, is_by_use, is_number, noted, uses_before, waiting_for, waits_by_memory}
-use Rattle.std.specs.Ordering.{eq_by_cmp}
+use Rattle.iloc_addresses.proofs.Common.{◌≡◌, ℕ, suc, ◌+◌, ◌-◌, ◌<◌, ◌≤◌, Bool, true, false, cond, not, ◌&&◌, ◌||◌, ◌≢◌, List, [], ◌∷◌, ◌++◌, map, length, get_or, set, if◌then◌else◌, nat_lt, ◌==◌, Some, None, count_by, Option, nat_cmp, sym, refl, ap, ◌∙◌, inl, inr, true≢false, arith, length-set, get_or-set_other, get_or-set_same, ext_get_or, ltb-true, lt-ltb, eqb-true, cases_eq, cases_lt, get, is_at, list_any, range_with_len, defined, used, Op, Reg, by_bool, is_register, op_at, is_store, kind, latency, Kind, Latencies, address_at, apart_if_both, by_address, known_before, keeps_order_where, reads_stored, uses_result, when, Word, IsShort, constant_of, AreCounted, AreCounts, AreDefiners, AreNoted, AreUsesCounted, count_from, definer, is_by_memory, is_by_use, is_number, noted, uses_before, waiting_for, waits_by_memory}
 use Rattle.std.proofs.lemmas.List.FromFn.{length-map-range_with_len, get_or-map-range_with_len}
 use Rattle.iloc_rules.specs.Heuristics.{waits_for_where, successors_where}
 use Rattle.iloc_rules.specs.Renaming.{IsRenamed}
@@ -8,6 +7,7 @@ use Rattle.iloc_rules.proofs.Basics.Registers.{is_register_same}
 use Rattle.iloc_rules.proofs.Basics.CountedRanges.{count_first, count_range, none_in_range, count_sum, count_most}
 use Rattle.iloc_addresses.specs.declared.successors.definers.Definers.{Definers}
 use Rattle.iloc_addresses.specs.declared.successors.later.Later.{Later}
+use Rattle.iloc_addresses.proofs.AddressesCounted.{numbers_are}
 use Rattle.iloc_addresses.proofs.Taken.{no_address}
 use Rattle.iloc_addresses.proofs.Waited.{reads}
 
@@ -96,9 +96,6 @@ front_one p ops j within =
 at_end : (p : ℕ → Bool) (ops : List Op) (j : ℕ) → length ops ≤ j → count_from p ops j ≡ 0
 at_end p ops j after =
     let none : length ops - j ≡ 0 = omega arith in ap (λ n. count_by p (range_with_len j n)) none
-
-numbers_are : (a b : ℕ) → eq_by_cmp nat_cmp a b ≡ (a == b)
-numbers_are a b = grind arith
 
 by_eq : {P : Type 0} → (a b : ℕ) → (a ≡ b → P) → (a ≢ b → P) → P
 by_eq a b same apart = elim (cases_eq a b) [ inl e ↦ same e | inr e ↦ apart e ]
@@ -193,19 +190,6 @@ module _ (ops : List Op) (j : ℕ) (definers : Definers) (first second : Option 
       ≡ (nat_lt i j && uses_result (op_at ops i) (op_at ops j))
   sources_are i = each i ∙ uses_listed ops j definers are i (used (op_at ops j))
 
-  either_later : (i : ℕ) → (is_number i first || is_number i second) ≡ true → i < j
-  either_later i is = ltb-true i j (and_parts (nat_lt i j) _ (sym (sources_are i) ∙ is)).0
-
-  pub first_before : (i : ℕ) → is_number i first ≡ true → i < j
-  first_before i is = either_later i (ap (λ b. b || is_number i second) is)
-
-  pub second_before : (i : ℕ) → is_number i second ≡ true → i < j
-  second_before i is = either_later i (or_second (is_number i first) _ is)
-    where
-      or_second : (a b : Bool) → b ≡ true → (a || b) ≡ true
-      or_second true b holds = refl
-      or_second false b holds = holds
-
   by_source : (a b l u m : Bool) → (a || b) ≡ (l && u) → (a && b) ≡ false
       → cond {A = ℕ} (l && (u && not m)) 1 0 ≡ cond {A = ℕ} (a && not m) 1 0 + cond {A = ℕ} (b && not m) 1 0
   by_source a b l u m either not_both = grind arith
@@ -225,21 +209,6 @@ module _ (ops : List Op) (j : ℕ) (definers : Definers) (first second : Option 
         (uses_result (op_at ops i) (op_at ops j)) (is_by_memory ops i j) (sources_are i) (once i) in
         omega (arith, one i, two i, counted.each i, count_last (is_by_use ops i) j, more);
   }
-
-pub no_uses : (ops : List Op) (found : List ℕ) (n : ℕ) → n ≡ length ops → found ≡ replicate n 0 → AreUsesCounted ops found 0
-no_uses ops found n size are = record {
-  size = ap length are ∙ length-replicate n 0 ∙ size;
-  each = λ i. ap (λ xs. get_or xs i 0) are ∙ zero_at i;
-}
-  where
-    zeros : List ℕ
-    zeros = replicate n 0
-
-    zero_at : (i : ℕ) → get_or zeros i 0 ≡ 0
-    zero_at i = elim (cases_lt i n) [
-      | inl there ↦ get_or-replicate n i 0 0 there
-      | inr past ↦ get_or_past zeros i 0 (let size : length zeros ≡ n = length-replicate n 0 in omega arith)
-    ]
 
 pub uses_few : (ops : List Op) (i j : ℕ) → uses_before ops i j ≤ j
 uses_few ops i j = count_most (is_by_use ops i) 0 j
