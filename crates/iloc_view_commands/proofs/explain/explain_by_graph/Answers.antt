@@ -1,12 +1,20 @@
-use Rattle.std.proofs.Common.{ap, length, ◌∙◌}
+use Rattle.std.proofs.Common.{ap, length, subst, sym, ◌∙◌}
 use Rattle.std.proofs.lemmas.Result.{on_ok_weaker}
 use Rattle.iloc_rules.proofs.PriorityValues.Named.{length-priorities_by}
+use Rattle.iloc_explain.specs.Measures.{AreMeasures}
 use Rattle.iloc_view_commands.proofs.explain.explain_by_graph.Goals as goal
 
 pub measure-requires : goal.measure-requires
 measure-requires c =
     let graph = c.args.graph.now in
     ap length c.in_ok-ranks.ensures ∙ length-priorities_by c.args.heuristic graph.latencies graph.ops
+
+pub push_explanation-requires-clause-measured : goal.push_explanation-requires-clause-measured
+push_explanation-requires-clause-measured c =
+    let measures = c.in_ok-measures.measures in
+    subst (λ ops. AreMeasures c.latencies-latencies.result.now ops measures) (c.requires.graph ∙ sym c.requires.names)
+    (subst (λ lat. AreMeasures lat c.args.graph.now.ops measures) (sym c.latencies-latencies.ensures)
+    c.in_ok-measures.ensures.measures)
 
 pub returns : goal.returns
 returns c =
