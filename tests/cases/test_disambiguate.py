@@ -1,5 +1,5 @@
-"""`--disambiguate`: schedules in which loads and outputs don't wait for stores that are known to go elsewhere, beside the
-oracle; and that they do what their blocks do."""
+"""`--disambiguate`: schedules in which loads and outputs don't wait for stores that are known to go elsewhere, beside
+the oracle; and that they do what their blocks do."""
 import random
 
 from cases.test_drawn import FOUR_CONSTANTS
@@ -54,7 +54,7 @@ def drawn_blocks(seed):
 def unlike_the_oracle(latencies, seeds):
     for seed in seeds:
         chance, blocks = drawn_blocks(seed)
-        by, command = chance.choice([order for order in ORDERS if order != "successors"]), chance.choice(TAKING[:2])
+        by, command = chance.choice(ORDERS), chance.choice(TAKING[:2])
         words = [command, "--disambiguate", *words_for(latencies), "--priority", by, "--workers", chance.choice("1238")]
         got, due = ending(words, text_of(blocks)), (0, listing(command, blocks, latencies, by), b"")
         yield from unlike(f"{' '.join(words)}, seed {seed}", got, due)
@@ -66,7 +66,8 @@ def unlike_a_plain_run(seeds):
         _, blocks = drawn_blocks(seed)
         for memory in range(MEMORIES):
             words = ["--at", "0", *(str(drawn_word(seed + memory, number)) for number in range(300))]
-            got, due = (ending([*command, *words], text_of(blocks)) for command in (["simulate", "--disambiguate"], ["run"]))
+            got, due = (ending([*command, *words], text_of(blocks))
+                        for command in (["simulate", "--disambiguate"], ["run"]))
             yield from unlike(f"simulate --disambiguate, seed {seed}, memory {memory}", got, due)
 
 
@@ -80,10 +81,9 @@ def by_workers():
 
 def edges():
     for name, (text, book, apart) in EDGES.items():
-        yield listed(f"disambiguate/{name}_by_the_book", text.encode(), f"block 1 - cycles {book}\ntotal {book}\n".encode(),
-                     ["counts"])
-        yield listed(f"disambiguate/{name}", text.encode(), f"block 1 - cycles {apart}\ntotal {apart}\n".encode(),
-                     ["counts", "--disambiguate"])
+        for words, cycles in ((["counts"], book), (["counts", "--disambiguate"], apart)):
+            yield listed(f"disambiguate/{name}/{'_'.join(words)}", text.encode(),
+                         f"block 1 - cycles {cycles}\ntotal {cycles}\n".encode(), words)
 
 
 def disambiguate_cases():
