@@ -126,43 +126,43 @@ counts_entry = record {
   rules = workers_rule ∷ latency_rules ++ priority_rule ∷ priorities_rule ∷ map flag_rule (Disambiguate ∷ Csv ∷ []);
 }
 
--- `compare [--nodes N] [--workers N] [--load N] [--store N] [--mult N] [--priorities FILE] [--csv]`
+-- `compare [--nodes N] [--workers N] [--load N] [--store N] [--mult N] [--priorities FILE] [--disambiguate] [--csv]`
 abbrev pub compare_entry : Subcommand
 compare_entry = record {
   name = codes "compare";
   task = Compare;
-  rules = search_rule ∷ workers_rule ∷ latency_rules ++ priorities_rule ∷ flag_rule Csv ∷ [];
+  rules = search_rule ∷ workers_rule ∷ latency_rules ++ priorities_rule ∷ map flag_rule (Disambiguate ∷ Csv ∷ []);
 }
 
--- `optimize [--nodes N] [--workers N] [--load N] [--store N] [--mult N]`
+-- `optimize [--nodes N] [--workers N] [--load N] [--store N] [--mult N] [--disambiguate]`
 abbrev pub optimize_entry : Subcommand
 optimize_entry = record {
   name = codes "optimize";
   task = Optimize;
-  rules = nodes_rule ∷ workers_rule ∷ latency_rules;
+  rules = nodes_rule ∷ workers_rule ∷ latency_rules ++ flag_rule Disambiguate ∷ [];
 }
 
--- `explain [--workers N] [--load N] [--store N] [--mult N] [--priority NAME] [--priorities FILE] [--task FILE] [--either-slot] [--cycles]`
+-- `explain [--workers N] [--load N] [--store N] [--mult N] [--priority NAME] [--priorities FILE] [--task FILE] [--either-slot] [--disambiguate] [--cycles]`
 abbrev pub explain_entry : Subcommand
 explain_entry = record {
   name = codes "explain";
   task = Explain;
   rules = workers_rule ∷ latency_rules ++ priority_rule ∷ priorities_rule ∷ task_rule
-      ∷ map flag_rule (EitherSlot ∷ Cycles ∷ []);
+      ∷ map flag_rule (EitherSlot ∷ Disambiguate ∷ Cycles ∷ []);
 }
 
--- `check [--at N] [WORD].. [--load N] [--store N] [--mult N] [--nodes N] [--task FILE] [--either-slot] [--lawful] [--operations] [--outputs] [--csv] [--json]`
+-- `check [--at N] [WORD].. [--load N] [--store N] [--mult N] [--nodes N] [--task FILE] [--either-slot] [--disambiguate] [--lawful] [--operations] [--outputs] [--csv] [--json]`
 abbrev pub check_entry : Subcommand
 check_entry = record {
   name = codes "check";
   task = Check;
   rules = at_rule ∷ words_rule ∷ latency_rules ++ search_rule ∷ task_rule
-      ∷ map flag_rule (EitherSlot ∷ Lawful ∷ Operations ∷ Outputs ∷ Csv ∷ Json ∷ []);
+      ∷ map flag_rule (EitherSlot ∷ Disambiguate ∷ Lawful ∷ Operations ∷ Outputs ∷ Csv ∷ Json ∷ []);
 }
 
--- `graph [--load N] [--store N] [--mult N]`
+-- `graph [--load N] [--store N] [--mult N] [--disambiguate]`
 abbrev pub graph_entry : Subcommand
-graph_entry = record { name = codes "graph"; task = Graph; rules = latency_rules }
+graph_entry = record { name = codes "graph"; task = Graph; rules = latency_rules ++ flag_rule Disambiguate ∷ [] }
 
 -- `lint`
 abbrev pub lint_entry : Subcommand
