@@ -1,6 +1,5 @@
 pub mod Arguments
 pub mod Commands
-pub mod Files
 pub mod Fits
 pub mod Getters
 pub mod Leaves

@@ -1,5 +1,5 @@
 -- What a command line comes to: a request, or one of the faults.
-use Rattle.std.specs.Prelude.{◌≡◌, ◌≢◌, ◌⊎◌, ◌<◌, ◌≤◌, ◌+◌, ◌*◌, ◌%◌, ◌&&◌, true, is_some, ℕ, List, [], Some, length}
+use Rattle.std.specs.Prelude.{◌≡◌, ◌≢◌, ◌⊎◌, ◌<◌, ◌≤◌, ◌+◌, ◌*◌, ◌%◌, true, is_some, ℕ, List, [], Some, length}
 use Rattle.clap.specs.Kinds.{IsAmong, Kinds}
 use Rattle.clap.specs.Words.{Text, fault_of}
 use Rattle.clap.specs.declared.error.kind.ErrorKind.{ErrorKind}
@@ -8,9 +8,10 @@ use Rattle.iloc_meaning.specs.Memory.{WORDS}
 use Rattle.iloc_args.specs.Asked.{Asked, asked}
 use Rattle.iloc_args.specs.Command.{farm_app}
 use Rattle.iloc_args.specs.Priority.{IsNoPriority}
-use Rattle.iloc_args.specs.declared.flag.Flag.TheVariants.{Csv, Json}
+use Rattle.iloc_args.specs.declared.fault.Exclusion.{Exclusion}
+use Rattle.iloc_args.specs.Exclusions.{excludes}
 use Rattle.iloc_args.specs.declared.fault.LineFault.{LineFault}
-use Rattle.iloc_args.specs.declared.fault.LineFault.TheVariants.{Help, Refused, BadStart, TooManyWords, NoSuchPriority, TwoForms, TwoFiles, NoMemory}
+use Rattle.iloc_args.specs.declared.fault.LineFault.TheVariants.{Help, Refused, BadStart, TooManyWords, NoSuchPriority, Excluded, NoMemory}
 
 -- what the parser finds wrong with the words: the kinds of the first step that fails, and none
 -- where it takes them
@@ -38,17 +39,11 @@ pub record RanksByNone (a : Asked) : Type 0 where
   pub fits : a.at + 4 * length a.words ≤ 4 * WORDS
   pub none : IsNoPriority a.priority
 
--- the words fit into the memory, and a listing is asked for in two forms
-pub record AsksForTwoForms (a : Asked) : Type 0 where
+-- the words fit into the memory, and options are given that exclude each other
+pub record AsksForBoth (exclusion : Exclusion) (a : Asked) : Type 0 where
   pub aligned : a.at % 4 ≡ 0
   pub fits : a.at + 4 * length a.words ≤ 4 * WORDS
-  pub both : a.flags Csv && a.flags Json ≡ true
-
--- the words fit into the memory, and numbers are to rank the operations of blocks that are in a file of their own
-pub record AsksForTwoFiles (a : Asked) : Type 0 where
-  pub aligned : a.at % 4 ≡ 0
-  pub fits : a.at + 4 * length a.words ≤ 4 * WORDS
-  pub both : is_some a.priorities_file && is_some a.task_file ≡ true
+  pub both : excludes a.task a.flags (is_some a.priorities_file) (is_some a.task_file) exclusion ≡ true
 
 -- an error of this kind is a text that was asked for
 abbrev pub IsAskedFor : ErrorKind → Type 0
@@ -62,6 +57,5 @@ IsDue words (Refused text) =
 IsDue words (BadStart at) = (a : Asked) × Asks words a × StartsAmiss at a
 IsDue words TooManyWords = (a : Asked) × Asks words a × Overflows a
 IsDue words NoSuchPriority = (a : Asked) × Asks words a × RanksByNone a
-IsDue words TwoForms = (a : Asked) × Asks words a × AsksForTwoForms a
-IsDue words TwoFiles = (a : Asked) × Asks words a × AsksForTwoFiles a
+IsDue words (Excluded exclusion) = (a : Asked) × Asks words a × AsksForBoth exclusion a
 IsDue words NoMemory = Unit {0}

@@ -1,6 +1,7 @@
 pub mod Asked
 pub mod Command
 pub mod Due
+pub mod Exclusions
 pub mod Fault
 pub mod Flags
 pub mod Priority

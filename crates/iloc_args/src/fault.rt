@@ -1,7 +1,7 @@
 //! Why a command line gives no request.
 ghost use Rattle.std.specs.Prelude.{◌≡◌, IfOk};
 ghost use Rattle.clap.specs.Words.{kind_of};
-ghost use Rattle.iloc_args.specs.Fault.{status_of};
+ghost use Rattle.iloc_args.specs.Fault.{excluded_text, status_of};
 ghost use Rattle.iloc_args.specs.Steps.Refusing.{IsFaultBy};
 ghost use Rattle.iloc_args.specs.declared.fault.LineFault.TheVariants.{NoMemory};
 
@@ -11,6 +11,19 @@ use clap::error::{Error as ClapError, ErrorKind};
 use std::alloc::{AllocError, AllocFailed, Global};
 use std::error::Error;
 use std::fmt::{self, Display, Formatter};
+
+/// Options that exclude each other.
+#[derive(Clone, Copy, Debug, PartialEq, Eq)]
+pub enum Exclusion {
+    /// A listing as a table and one as JSON.
+    CsvAndJson,
+    /// Priorities from a file, and blocks from a file apart from their rows.
+    PrioritiesAndTask,
+    /// Only lawful schedules pass, which wait for each other by the book, and blocks are scheduled by address.
+    LawfulAndDisambiguate,
+    /// Rows that others made are explained, which is done by the book, and blocks are scheduled by address.
+    TaskAndDisambiguate,
+}
 
 /// Why a command line gives no request. Its `Display` is the text for the user.
 #[derive(Debug, Drop, PartialEq, Eq)]
@@ -25,12 +38,24 @@ pub enum LineFault {
     TooManyWords,
     /// The priority is the name of no heuristic.
     NoSuchPriority,
-    /// A listing is asked for as a table and as JSON.
-    TwoForms,
-    /// A file is named for priorities, and one for the blocks apart from their rows.
-    TwoFiles,
+    /// Options are given that exclude each other.
+    Excluded(Exclusion),
     /// The growth of a list or a text was refused.
     NoMemory,
+}
+
+impl Exclusion {
+    /// What is said of it.
+    fn text(self) -> &'static str
+        ensures { result.now ≡ excluded_text self }
+    {
+        match self {
+            Exclusion::CsvAndJson => "--csv and --json exclude each other",
+            Exclusion::PrioritiesAndTask => "--priorities and --task exclude each other",
+            Exclusion::LawfulAndDisambiguate => "--lawful and --disambiguate exclude each other",
+            Exclusion::TaskAndDisambiguate => "--task and --disambiguate exclude each other",
+        }
+    }
 }
 
 impl Display for LineFault {
@@ -45,8 +70,7 @@ impl Display for LineFault {
             LineFault::BadStart(_) => f.write_str("--at is not a multiple of 4"),
             LineFault::TooManyWords => f.write_str("the words do not fit into memory"),
             LineFault::NoSuchPriority => { f.write_str(NO_SUCH_PRIORITY) }
-            LineFault::TwoForms => f.write_str("--csv and --json exclude each other"),
-            LineFault::TwoFiles => f.write_str("--priorities and --task exclude each other"),
+            LineFault::Excluded(exclusion) => f.write_str(exclusion.text()),
             LineFault::NoMemory => f.write_str("out of memory"),
         }
     }
@@ -102,8 +126,7 @@ pub fn line_status(fault: &LineFault) -> u8
         | LineFault::BadStart(_)
         | LineFault::TooManyWords
         | LineFault::NoSuchPriority
-        | LineFault::TwoForms
-        | LineFault::TwoFiles => 2,
+        | LineFault::Excluded(_) => 2,
         LineFault::NoMemory => 3,
     }
 }

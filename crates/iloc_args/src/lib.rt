@@ -9,7 +9,7 @@ mod line;
 mod priority;
 mod request;
 
-pub use fault::{LineFault, line_status};
+pub use fault::{Exclusion, LineFault, line_status};
 pub use flag::{Flag, Flags};
 pub use line::parse_line;
 pub use priority::priority_name;

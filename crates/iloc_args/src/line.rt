@@ -1,5 +1,5 @@
 //! Reading a command line.
-ghost use Rattle.std.specs.Prelude.{◌≡◌, ◌≤◌, ◌&&◌, IfErr, IfOk, MatchOption, OnOk, [], codes, false, is_some, map, option_map, true};
+ghost use Rattle.std.specs.Prelude.{◌≡◌, ◌≤◌, IfErr, IfOk, MatchOption, OnOk, [], codes, false, map, option_map, true};
 ghost use Rattle.std.specs.Option.{ForSome};
 ghost use Rattle.std.specs.String.{string_bytes};
 ghost use Rattle.clap.specs.Words.{first_of, found_of, has_subcommand, rows_of, subcommand_of};
@@ -7,15 +7,18 @@ ghost use Rattle.clap.specs.Words.{subcommand_rows_of};
 ghost use Rattle.iloc_args.specs.Asked.{asked_as, asked_in, number_if, number_or, numbers_in, priorities_in, text_or};
 ghost use Rattle.iloc_args.specs.Command.{farm_app};
 ghost use Rattle.iloc_args.specs.Due.{Asks, IsDue, faults_in};
+ghost use Rattle.iloc_args.specs.Exclusions.{excludes};
+ghost use Rattle.iloc_args.specs.Flags.{has};
 ghost use Rattle.iloc_args.specs.Priority.{IsNoPriority, priority_word};
 ghost use Rattle.iloc_args.specs.Ranking.{ranks_by_own};
-ghost use Rattle.iloc_args.specs.Steps.Refusing.{IsOutOfRange, NamesTwo};
+ghost use Rattle.iloc_args.specs.Steps.Refusing.{IsOutOfRange};
 ghost use Rattle.iloc_args.specs.Steps.Taken.{HoldValues, HoldsIn};
+ghost use Rattle.iloc_args.specs.declared.fault.Exclusion.{Exclusion as exclusion_value};
 ghost use Rattle.iloc_timed.specs.Latency.{IsLatency};
 
 use crate::command::{farm_command, task_of};
-use crate::fault::LineFault;
-use crate::flag::{Flag, flags_in};
+use crate::fault::{Exclusion, LineFault};
+use crate::flag::{Flag, Flags, flags_in};
 use crate::priority::heuristic_of;
 use crate::request::{Request, Task};
 use clap::ArgMatches;
@@ -42,8 +45,8 @@ const DEFAULT_PRIORITY: &str = "chain";
 ///
 /// `Help` or `Refused` with the parser's text where it gives no matches, `BadStart` where the words
 /// would not start at a multiple of 4, else `TooManyWords` where they would end beyond the memory,
-/// else `NoSuchPriority` where no heuristic has the name, else `TwoForms` where both a table and JSON are asked for, else
-/// `TwoFiles` where priorities are given for blocks in a file of their own, and `NoMemory` where a growth was refused.
+/// else `NoSuchPriority` where no heuristic has the name, else `Excluded` where options are given that exclude each other, and
+/// `NoMemory` where a growth was refused.
 pub fn parse_line<S: AsStr>(alloc: Global, words: &[S]) -> Result<Request, LineFault>
     ensures ok { IfOk result (λ request. Asks (map S.text words.now) (asked_in request)) }
     ensures err { IfErr result (IsDue (map S.text words.now)) }
@@ -76,7 +79,6 @@ fn matches_of<'a, S: AsStr>(alloc: Global, words: &'a [S]) -> Result<ArgMatches<
 }
 
 /// The request for a task, by the matches of the command's arguments.
-#[tactic(auto, using(crate::proofs::Files::out_of_range))]
 fn request_in(alloc: Global, task: Task, given: &ArgMatches<'_>) -> Result<Request, LineFault>
     requires { HoldValues (rows_of (found_of given.now)) }
     ensures ok { IfOk result (λ request.
@@ -95,10 +97,12 @@ fn request_in(alloc: Global, task: Task, given: &ArgMatches<'_>) -> Result<Reque
         return Err(LineFault::NoSuchPriority);
     };
     let flags = flags_in(given);
-    if are_both(flags.has(Flag::Csv), flags.has(Flag::Json)) {
-        return Err(LineFault::TwoForms);
+    let priorities_file = priorities_in(alloc, task, given)?;
+    let task_file = file_in(alloc, given, "task")?;
+    let files = (priorities_file.is_some(), task_file.is_some());
+    if let Some(exclusion) = excluded(task, flags, files.0, files.1) {
+        return Err(LineFault::Excluded(exclusion));
     }
-    let (priorities_file, task_file) = files_in(alloc, task, given)?;
     Ok(Request {
         task,
         workers: workers_in(given),
@@ -113,11 +117,24 @@ fn request_in(alloc: Global, task: Task, given: &ArgMatches<'_>) -> Result<Reque
     })
 }
 
-/// Whether both are so.
-fn are_both(one: bool, other: bool) -> bool
-    ensures { result ≡ (one && other) }
+/// What a command is given of options that exclude each other, by its flags, and whether it has `--priorities` and `--task`.
+fn excluded(task: Task, flags: Flags, ranked: bool, apart: bool) -> Option<Exclusion>
+    ensures { MatchOption result
+        ((exclusion : exclusion_value) → excludes task (has flags) ranked apart exclusion ≡ false)
+        (λ exclusion. excludes task (has flags) ranked apart exclusion ≡ true) }
 {
-    one && other
+    let by_address = flags.has(Flag::Disambiguate);
+    if flags.has(Flag::Csv) && flags.has(Flag::Json) {
+        Some(Exclusion::CsvAndJson)
+    } else if ranked && apart {
+        Some(Exclusion::PrioritiesAndTask)
+    } else if flags.has(Flag::Lawful) && by_address {
+        Some(Exclusion::LawfulAndDisambiguate)
+    } else if task == Task::Explain && apart && by_address {
+        Some(Exclusion::TaskAndDisambiguate)
+    } else {
+        None
+    }
 }
 
 /// How many workers share the blocks.
@@ -222,29 +239,6 @@ fn priorities_in(
     } else {
         Ok(None)
     }
-}
-
-/// The files that `--priorities` and `--task` name, which exclude each other.
-#[tactic(auto, using(crate::proofs::Files::both_named))]
-fn files_in(
-    alloc: Global,
-    task: Task,
-    given: &ArgMatches<'_>,
-) -> Result<(Option<String>, Option<String>), LineFault>
-    ensures numbers { IfOk result (λ files.
-        option_map string_bytes files.0 ≡ priorities_in task (rows_of (found_of given.now))) }
-    ensures blocks { IfOk result (λ files.
-        option_map string_bytes files.1 ≡ first_of (codes "task") (rows_of (found_of given.now))) }
-    ensures ranks { IfOk result (λ files. ForSome files.0 (λ _. ranks_by_own task ≡ true)) }
-    ensures one { IfOk result (λ files. is_some files.0 && is_some files.1 ≡ false) }
-    ensures err { IfErr result (NamesTwo (asked_as task (rows_of (found_of given.now)))) }
-{
-    let priorities = priorities_in(alloc, task, given)?;
-    let blocks = file_in(alloc, given, "task")?;
-    if are_both(priorities.is_some(), blocks.is_some()) {
-        return Err(LineFault::TwoFiles);
-    }
-    Ok((priorities, blocks))
 }
 
 /// The name of the file that an option names, if it is given.

@@ -1,11 +1,12 @@
 //! What a command line asks the program to do.
-ghost use Rattle.std.specs.Prelude.{◌≡◌, ◌+◌, ◌*◌, ◌%◌, ◌≤◌, ◌&&◌, true, false, is_some, length};
+ghost use Rattle.std.specs.Prelude.{◌≡◌, ◌+◌, ◌*◌, ◌%◌, ◌≤◌, true, false, is_some, length};
 ghost use Rattle.std.specs.Option.{ForSome};
 ghost use Rattle.iloc_meaning.specs.Address.{LAST_ADDRESS};
 ghost use Rattle.iloc_meaning.specs.Memory.{WORDS};
+ghost use Rattle.iloc_args.specs.Exclusions.{excludes};
 ghost use Rattle.iloc_args.specs.Flags.{has};
 ghost use Rattle.iloc_args.specs.Ranking.{ranks_by_own};
-ghost use Rattle.iloc_args.specs.declared.flag.Flag.TheVariants.{Csv, Json};
+ghost use Rattle.iloc_args.specs.declared.fault.Exclusion.{Exclusion as exclusion_value};
 
 use crate::flag::{Flag, Flags};
 use iloc_rules::{Heuristic, MemoryRule};
@@ -66,9 +67,9 @@ pub struct Request {
     ghost few_workers: { workers ≤ 8 },
     ghost aligned: { at % 4 ≡ 0 },
     ghost in_memory: { at ≤ LAST_ADDRESS },
-    ghost one_form: { has flags Csv && has flags Json ≡ false },
     ghost ranks: { ForSome priorities_file (λ _. ranks_by_own task ≡ true) },
-    ghost one_file: { is_some priorities_file && is_some task_file ≡ false },
+    ghost none_excluded: { (exclusion : exclusion_value)
+        → excludes task (has flags) (is_some priorities_file) (is_some task_file) exclusion ≡ false },
     ghost fits: { at + 4 * length words.items ≤ 4 * WORDS },
 }
 

@@ -13,7 +13,7 @@ use Rattle.iloc_args.specs.Asked.{Asked, asked_in}
 use Rattle.iloc_args.specs.Due.{Asks, IsDue}
 use Rattle.iloc_args.specs.Fault.{line_text, status_of as line_status_of}
 use Rattle.iloc_args.specs.declared.fault.LineFault.{LineFault}
-use Rattle.iloc_args.specs.declared.fault.LineFault.TheVariants.{Help, Refused, BadStart, TooManyWords, NoSuchPriority, TwoForms, TwoFiles, NoMemory}
+use Rattle.iloc_args.specs.declared.fault.LineFault.TheVariants.{Help, Refused, BadStart, TooManyWords, NoSuchPriority, Excluded, NoMemory}
 use Rattle.iloc_args.specs.declared.request.Request.{Request}
 use Rattle.iloc_args.specs.declared.request.Task.{Task}
 use Rattle.iloc_driver.specs.Command.{Command}
@@ -56,8 +56,7 @@ IsWordless error (Refused text) = (error_kind error ≢ OutOfMemory) × (string_
 IsWordless error (BadStart at) = ⊥
 IsWordless error TooManyWords = ⊥
 IsWordless error NoSuchPriority = ⊥
-IsWordless error TwoForms = ⊥
-IsWordless error TwoFiles = ⊥
+IsWordless error (Excluded exclusion) = ⊥
 IsWordless error NoMemory = Unit {0}
 
 -- the words make no request, by this fault, where help counts as one
