@@ -1,15 +1,8 @@
 -- The parser of an option's number, within its bounds.
-use Rattle.std.proofs.Common.{◌≡◌, ◌∙◌, ℕ, Option, Some, pos, refl, subst, ℤ, arith}
+use Rattle.iloc_args.proofs.Common.{◌≡◌, ℕ, ℤ, pos, Some, Option, refl, ◌∙◌, subst, arith, usize_max, NarrowsTo, signed_between, Rule, Text, ValueParser, Signed, number_rule, words_rule, HasRule, default_rule}
 use Rattle.std.specs.Int.{int_max, int_min}
-use Rattle.clap.specs.Lexer.{usize_max}
 use Rattle.clap.specs.declared.builder.range.ValueRange.{ValueRange}
-use Rattle.clap.specs.Values.{NarrowsTo, signed_between}
-use Rattle.clap.specs.Words.{Rule, Text}
 use Rattle.clap.specs.declared.builder.arg.Arg.{Arg}
-use Rattle.clap.specs.declared.builder.value_parser.ValueParser.{ValueParser}
-use Rattle.clap.specs.declared.builder.value_parser.ValueParser.TheVariants.{Signed}
-use Rattle.iloc_args.specs.Command.{number_rule, words_rule}
-use Rattle.iloc_args.specs.Steps.Building.{HasRule, default_rule}
 
 -- the parser of numbers within these bounds
 pub narrowed : (low high : ℕ) (all p : ValueParser) (start end : ℤ) → all ≡ Signed (pos 0) (pos 4294967295) → start ≡ pos low

@@ -1,22 +1,15 @@
 -- An argument or a command with one setting, argument or subcommand more.
-use Rattle.std.proofs.Common.{◌≡◌, ◌∙◌, ◌||◌, ◌+◌, ◌<◌, ℕ, Bool, List, Option, ap, arith, [], ◌∷◌, false, get_or, length, map, refl, subst, sym, suc, take}
-use Rattle.std.specs.Prelude.{find, option_map}
-use Rattle.std.specs.Str.{bytes_eq}
+use Rattle.iloc_args.proofs.Common.{◌≡◌, ℕ, suc, ◌+◌, ◌<◌, Bool, false, ◌||◌, List, [], ◌∷◌, map, length, get_or, take, Option, option_map, find, bytes_eq, sym, refl, ap, ◌∙◌, subst, arith, Shape, app_of_fields, new_shape, on_top, Rule, Text, AddsArg, AddsSubcommand, App, app_of, rule_of, with_rule, with_subcommand, task_among, top_shape, HasApp, HasRule, alone, app_for, app_with, rule_for, subcommand_for, with_arguments}
 use Rattle.std.proofs.Math.Seq.{take-suc}
 use Rattle.std.proofs.lemmas.List.{map_more}
 use Rattle.std.proofs.lemmas.List.Sums.{fold-append}
-use Rattle.clap.specs.Simple.{Shape, app_of_fields, on_top, new_shape}
-use Rattle.clap.specs.Words.{AddsArg, AddsSubcommand, App, Rule, app_of, rule_of, with_rule, with_subcommand, Text}
 use Rattle.clap.specs.declared.builder.arg.Arg.{Arg}
 use Rattle.clap.specs.declared.builder.command.Command.{Command}
 use Rattle.clap.specs.declared.builder.command.Command.TheOpen.{Command-F}
 use Rattle.clap.specs.declared.builder.command.Command.TheViews.{out-Command}
-use Rattle.iloc_args.specs.Asked.{task_among}
 use Rattle.iloc_args.specs.declared.request.Task.{Task}
-use Rattle.iloc_args.specs.Command.{top_shape}
 use Rattle.iloc_args.specs.declared.command.Argument.{Argument}
 use Rattle.iloc_args.specs.declared.command.Entry.{Entry}
-use Rattle.iloc_args.specs.Steps.Building.{HasApp, HasRule, alone, app_for, app_with, subcommand_for, rule_for, with_arguments}
 
 -- a setting of an argument
 pub set_rule : (change : Rule → Rule) (r : Rule) (old new set : Arg) → HasRule r old → new ≡ set

@@ -1,16 +1,7 @@
 -- What the arguments of a command have to be, and a test of it that computes.
-use Rattle.std.proofs.Common.{◌≡◌, ◌∙◌, ◌==◌, ◌&&◌, ◌++◌, ℕ, Bool, true, false, cond, not, pos, List, [], ◌∷◌, Some, Option, refl, sym, ap, subst, codes, append_assoc, arith}
-use Rattle.std.specs.Prelude.{IfSome}
-use Rattle.std.specs.List.{AllByRecursion, list_all}
-use Rattle.std.specs.Option.{option_map_or}
-use Rattle.std.specs.Str.{bytes_eq}
-use Rattle.std.proofs.lemmas.Bool.{and_parts, eqb-true, not-true}
-use Rattle.std.proofs.lemmas.Slice.Eq.{bytes_eq-Decides}
-use Rattle.clap.specs.Walk.{Rule, Text, action_of, arg_by_id}
-use Rattle.clap.specs.declared.builder.value_parser.ValueParser.{ValueParser}
+use Rattle.iloc_args.proofs.Common.{◌≡◌, ℕ, Bool, true, false, cond, not, ◌&&◌, List, [], ◌∷◌, ◌++◌, pos, IfSome, ◌==◌, Some, codes, Option, bytes_eq, sym, refl, ap, ◌∙◌, subst, append_assoc, arith, eqb-true, bytes_eq-Decides, AllByRecursion, list_all, option_map_or, LAST_ADDRESS, LONGEST_LATENCY, Rule, Text, action_of, arg_by_id, ValueParser}
+use Rattle.std.proofs.lemmas.Bool.{and_parts, not-true}
 use Rattle.clap.specs.declared.builder.value_parser.ValueParser.TheVariants as vp
-use Rattle.iloc_meaning.specs.Address.{LAST_ADDRESS}
-use Rattle.iloc_timed.specs.Limits.{LONGEST_LATENCY}
 use Rattle.iloc_args.proofs.Uses.{AllOurs, IsOurs, is_our_action}
 
 -- an argument of this id takes numbers within these bounds

@@ -1,14 +1,8 @@
 -- What the typed getters of the matches give, where the matches hold numbers.
-use Rattle.std.proofs.Common.{◌≡◌, ◌∙◌, ◌<◌, ◌≤◌, ◌^◌, ℕ, List, [], ◌∷◌, Some, None, Option, Ok, Err, Result, map, refl, sym, ap, subst, arith, lit<, append_assoc, ◌++◌}
-use Rattle.std.specs.Prelude.{IfSome, option_map, unwrap_or}
+use Rattle.iloc_args.proofs.Common.{◌≡◌, ℕ, ◌^◌, ◌<◌, ◌≤◌, List, [], ◌∷◌, ◌++◌, map, IfSome, Some, None, Ok, Err, Option, Result, option_map, unwrap_or, sym, refl, ap, ◌∙◌, subst, append_assoc, arith, lit<, one_text-rows, typed_values-rows, ReadsOne, StepsValues, matched_of, one_text, typed_values, Row, Text, many_of, one_of, rows_of, number_if, number_of, number_or, numbers_in, AreNumbersIn, HoldsIn, IsNumberIn}
 use Rattle.std.specs.Str.Parse.{ParsesUnsigned, ExplainsUnsignedError, HasUnsignedDigitsIfOk}
 use Rattle.std.specs.declared.num.ParseIntError.{ParseIntError}
-use Rattle.clap.proofs.WalkLemmas.{one_text-rows, typed_values-rows}
-use Rattle.clap.specs.Matches.{ReadsOne, StepsValues, matched_of, one_text, typed_values}
-use Rattle.clap.specs.Walk.{Row, Text, many_of, one_of, rows_of}
 use Rattle.clap.specs.declared.parser.matches.Found.{Found}
-use Rattle.iloc_args.specs.Asked.{number_if, number_of, number_or, numbers_in}
-use Rattle.iloc_args.specs.Steps.Taken.{AreNumbersIn, HoldsIn, IsNumberIn}
 
 -- what `u32` reads from a text
 abbrev pub ReadsWord : Text → Result ℕ ParseIntError → Type 0

@@ -1,16 +1,9 @@
 -- What the rows of a command hold, where the parser finds no fault in its words.
-use Rattle.std.proofs.Common.{◌≡◌, false, List, [], ◌∷◌, Option, arith}
-use Rattle.std.specs.Prelude.{IfSome, find}
-use Rattle.std.specs.Str.{bytes_eq}
-use Rattle.std.proofs.lemmas.Slice.Eq.{bytes_eq-Decides}
-use Rattle.clap.specs.Faults.{defaults_fault, level_fault, default_fault}
-use Rattle.clap.specs.Simple.{Shape}
-use Rattle.clap.specs.Walk.{Row, Rule, Text, nothing_held, rows_after, with_default}
+use Rattle.iloc_args.proofs.Common.{◌≡◌, false, List, [], ◌∷◌, IfSome, fold, Option, find, bytes_eq, arith, ne_eqb, bytes_eq-Decides, AllByRecursion, default_fault, level_fault, Shape, Row, Rule, Text, nothing_held, rows_after, with_default}
+use Rattle.clap.specs.Faults.{defaults_fault}
 use Rattle.iloc_args.proofs.Rows.{AllKept, IsKept, both_empty, with_values_kept}
 use Rattle.iloc_args.proofs.Uses.{AllOurs, settled_kept, IsOurs}
 use Rattle.iloc_args.proofs.Walks.{walk_kept}
-use Rattle.std.proofs.lemmas.Bool.{ne_eqb}
-use Rattle.std.specs.List.{AllByRecursion, fold}
 
 -- The defaults at the end of a walk: the rows stay kept.
 default_kept : (rules : List Rule) (a : Rule) (rows : List Row) → IsOurs rules a → default_fault rows a ≡ []

@@ -1,28 +1,11 @@
 -- The matches of a command hold numbers in their ranges, where the parser finds no fault in the words.
-use Rattle.std.proofs.Common.{◌≡◌, ◌∙◌, ◌||◌, ◌++◌, ℕ, Bool, true, false, cond, pos, List, [], ◌∷◌, Some, None, Option, map, refl, sym, ap, subst, codes, arith}
-use Rattle.std.specs.Prelude.{Box, IfSome, find, option_and_then, option_map, slice_get, unwrap_or}
-use Rattle.std.specs.Box.{box_value}
-use Rattle.std.specs.List.{AllByRecursion, list_all}
-use Rattle.std.specs.Option.{option_map_or}
-use Rattle.std.specs.Str.{bytes_eq}
+use Rattle.iloc_args.proofs.Common.{◌≡◌, ℕ, Bool, true, false, cond, ◌||◌, List, [], ◌∷◌, ◌++◌, map, pos, IfSome, slice_get, Some, None, box_value, codes, Option, Box, option_map, find, option_and_then, bytes_eq, unwrap_or, sym, refl, ap, ◌∙◌, subst, arith, bytes_eq-Decides, AllByRecursion, list_all, option_map_or, LAST_ADDRESS, LONGEST_LATENCY, entered_fault, level_fault, walk_fault, values_kinds, Shape, built, built_leaf, entered, help_shape, inherited, label_of, names_of, rows_at, subcommand_of, subcommand_rows, read_as, Row, Rule, Text, answers_to, nothing_held, row_text, rows_after, stop_after, walk_from, Signed, asked, asked_as, asked_by, task_named, Subcommand, entries, farm_app, shape, AreNumbersIn, HoldValues, HoldsIn, IsNumberIn}
 use Rattle.std.proofs.lemmas.Bool.{and_parts}
-use Rattle.std.proofs.lemmas.Slice.Eq.{bytes_eq-Decides}
-use Rattle.clap.specs.Faults.{entered_fault, level_fault, walk_fault}
-use Rattle.clap.specs.Kinds.{values_kinds}
-use Rattle.clap.specs.Simple.{Shape, built, built_leaf, entered, help_shape, inherited, label_of, names_of, rows_at, subcommand_of, subcommand_rows}
-use Rattle.clap.specs.Values.{read_as}
-use Rattle.clap.specs.Walk.{Row, Rule, Text, answers_to, nothing_held, row_text, rows_after, stop_after, walk_from}
 use Rattle.clap.specs.declared.builder.value_parser.Reading.{Reading}
 use Rattle.clap.specs.declared.builder.value_parser.Reading.TheVariants.{WithoutMinus}
-use Rattle.clap.specs.declared.builder.value_parser.ValueParser.TheVariants.{Signed}
 use Rattle.clap.specs.declared.parser.matches.ArgMatches.TheViews.{out-SubCommand}
 use Rattle.clap.specs.declared.parser.matches.SubCommand.{SubCommand}
-use Rattle.iloc_meaning.specs.Address.{LAST_ADDRESS}
-use Rattle.iloc_timed.specs.Limits.{LONGEST_LATENCY}
-use Rattle.iloc_args.specs.Asked.{asked, asked_as, asked_by, task_named}
-use Rattle.iloc_args.specs.Command.{Subcommand, entries, farm_app, shape}
 use Rattle.iloc_args.specs.Due.{faults_in}
-use Rattle.iloc_args.specs.Steps.Taken.{AreNumbersIn, HoldValues, HoldsIn, IsNumberIn}
 use Rattle.iloc_args.specs.declared.request.Task.{Task}
 use Rattle.iloc_args.proofs.Fits.{IsFit, TakesIn, fits, is_fit}
 use Rattle.iloc_args.proofs.Leaves.{found_kept, leaf_kept, row_in}

@@ -1,21 +1,13 @@
 -- A whole number that the parser takes is one that the typed getters read.
-use Rattle.std.proofs.Common.{◌≡◌, ℕ, Bool, true, false, cond, pos, List, [], ◌∷◌, map, refl, subst, sym, arith, drop}
-use Rattle.std.proofs.lemmas.Bool.{ne_eqb}
+use Rattle.iloc_args.proofs.Common.{◌≡◌, ℕ, Bool, true, false, cond, List, [], ◌∷◌, map, drop, pos, sym, refl, subst, arith, ne_eqb, value_kinds, values_kinds, without_minus, IsSignedIn, read_as, Text, Signed, ValueValidation, AreNumbersIn, IsNumberIn}
 use Rattle.std.proofs.lemmas.Int.{ints}
 use Rattle.std.specs.Str.Parse.{IsNumeral, without_leading_plus, starts_with_minus}
 use Rattle.std.proofs.lemmas.Str.Parse.{digit_from_value}
-use Rattle.clap.specs.Lexer.{without_minus}
-use Rattle.clap.specs.Values.{IsSignedIn, read_as}
 use Rattle.clap.specs.declared.builder.value_parser.Reading.TheVariants.{WithoutMinus}
-use Rattle.clap.specs.Walk.{Text}
-use Rattle.iloc_args.specs.Steps.Taken.{IsNumberIn, AreNumbersIn}
 use Rattle.iloc_args.proofs.Rows.{both_empty}
 use Rattle.clap.proofs.ValueTestLemmas.{accepts-Accepts}
-use Rattle.clap.specs.Kinds.{value_kinds, values_kinds}
 use Rattle.clap.specs.ValueTests.{accepts}
 use Rattle.clap.specs.declared.error.kind.ErrorKind.{ErrorKind}
-use Rattle.clap.specs.declared.error.kind.ErrorKind.TheVariants.{ValueValidation}
-use Rattle.clap.specs.declared.builder.value_parser.ValueParser.TheVariants.{Signed}
 
 without_minus-cond : (t : Text) → without_minus t ≡ cond (starts_with_minus t) (drop 1 t) t
 without_minus-cond t = grind arith

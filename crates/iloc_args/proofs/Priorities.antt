@@ -1,10 +1,6 @@
 -- The names of heuristics: `priority_in`.
-use Rattle.std.proofs.Common.{◌≡◌, ◌∙◌, Bool, List, [], ◌∷◌, None, Option, Some, cond, false, refl, subst, sym, true}
-use Rattle.std.specs.Prelude.{IfSome, MatchOption, find}
-use Rattle.std.specs.Str.{bytes_eq}
+use Rattle.iloc_args.proofs.Common.{◌≡◌, Bool, true, false, cond, List, [], ◌∷◌, IfSome, Some, None, Option, MatchOption, find, bytes_eq, sym, refl, ◌∙◌, subst, bytes_eq-Decides, Text}
 use Rattle.std.proofs.lemmas.Option.{none-some}
-use Rattle.std.proofs.lemmas.Slice.Eq.{bytes_eq-Decides}
-use Rattle.clap.specs.Words.{Text}
 use Rattle.iloc_rules.specs.declared.heuristic.Heuristic.{Heuristic}
 use Rattle.iloc_rules.specs.declared.heuristic.Heuristic.TheVariants.{Chain}
 use Rattle.iloc_rules.specs.Heuristics.Listed.{heuristics}

@@ -1,10 +1,5 @@
 -- Rows whose values the parser takes, and how they come about.
-use Rattle.std.proofs.Common.{◌≡◌, ◌∙◌, ◌++◌, Bool, List, [], ◌∷◌, Some, refl, ap, arith}
-use Rattle.std.proofs.lemmas.Slice.Eq.{bytes_eq-Decides}
-use Rattle.clap.specs.Faults.{values_fault}
-use Rattle.clap.specs.Kinds.{Kinds, or_else, value_kinds, values_kinds}
-use Rattle.clap.specs.Walk.{Row, Rule, Text, arg_by_id, at_row, reading_by, with_values, without}
-use Rattle.clap.specs.declared.builder.value_parser.ValueParser.{ValueParser}
+use Rattle.iloc_args.proofs.Common.{◌≡◌, Bool, List, [], ◌∷◌, ◌++◌, Some, refl, ap, ◌∙◌, arith, bytes_eq-Decides, values_fault, Kinds, or_else, value_kinds, values_kinds, Row, Rule, Text, arg_by_id, at_row, reading_by, with_values, without, ValueParser}
 use Rattle.clap.specs.declared.parser.matches.ValueSource.{ValueSource}
 
 pub both_empty : (a b : Kinds) → or_else a b ≡ [] → (a ≡ []) × (b ≡ [])

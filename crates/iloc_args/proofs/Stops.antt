@@ -1,12 +1,5 @@
 -- Where a walk may stop: the parser's own command `help` is a fault, so a walk without one stops elsewhere.
-use Rattle.std.proofs.Common.{◌≡◌, ◌&&◌, ℕ, false, cond, not, List, [], ◌∷◌, None, Option, codes, arith}
-use Rattle.std.specs.Prelude.{IfSome}
-use Rattle.std.specs.List.{fold}
-use Rattle.std.specs.Str.{bytes_eq}
-use Rattle.clap.specs.Faults.{turn_fault, walk_fault}
-use Rattle.clap.specs.Simple.{Shape}
-use Rattle.clap.specs.Walk.{Held, Names, Outcome, Rule, Step, Text, Waiting, Walk, after_flag, after_step, long_or_other, plain_word, short_or_plain, subcommand_or_other, walked, idle, subcommand}
-use Rattle.clap.specs.declared.error.kind.ErrorKind.TheVariants.{DisplayHelp, InvalidSubcommand}
+use Rattle.iloc_args.proofs.Common.{◌≡◌, ℕ, false, cond, not, ◌&&◌, List, [], ◌∷◌, IfSome, None, codes, fold, Option, bytes_eq, arith, turn_fault, walk_fault, Shape, Held, Names, Outcome, Rule, Step, Text, Waiting, Walk, after_flag, after_step, idle, long_or_other, plain_word, short_or_plain, subcommand, subcommand_or_other, walked, DisplayHelp, InvalidSubcommand}
 use Rattle.iloc_args.proofs.Rows.{both_empty}
 
 -- the walk has not stopped, or at a command of another name

@@ -1,10 +1,5 @@
 -- One use of an argument: where the parser finds no fault in it, the rows are kept.
-use Rattle.std.proofs.Common.{◌≡◌, Bool, true, false, List, [], ◌∷◌, Some, None, Option, refl, arith}
-use Rattle.std.specs.Prelude.{find}
-use Rattle.std.specs.List.{AllByRecursion}
-use Rattle.std.specs.Option.{option_map_or}
-use Rattle.clap.specs.Faults.{settle_fault, use_fault}
-use Rattle.clap.specs.Walk.{Held, Row, Rule, Text, action_of, arg_by_id, settled, settled_rows, used, used_by_id}
+use Rattle.iloc_args.proofs.Common.{◌≡◌, Bool, true, false, List, [], ◌∷◌, Some, None, Option, find, refl, arith, AllByRecursion, option_map_or, settle_fault, use_fault, Held, Row, Rule, Text, action_of, arg_by_id, settled, settled_rows, used, used_by_id}
 use Rattle.clap.specs.declared.builder.action.ArgAction.{ArgAction}
 use Rattle.clap.specs.declared.builder.action.ArgAction.TheVariants.{Set, Append, SetTrue, Help}
 use Rattle.iloc_args.proofs.Rows.{AllKept, both_empty, with_values_kept, without_kept}

@@ -1,15 +1,5 @@
 -- The walk over the words of a command: where the parser finds no fault, the rows that it makes are kept.
-use Rattle.std.proofs.Common.{◌≡◌, ℕ, zero, suc, Bool, true, false, cond, List, [], ◌∷◌, Some, None, Option, refl, is_some, length, arith}
-use Rattle.std.specs.Prelude.{drop, encode_utf8, slice_get}
-use Rattle.std.specs.List.{fold}
-use Rattle.std.specs.Option.{option_map_or}
-use Rattle.std.specs.Str.{chars}
-use Rattle.clap.specs.Kinds.{Kinds, or_else}
-use Rattle.clap.specs.Lexer.{short_of}
-use Rattle.clap.specs.Faults.{bundle_fault, bundle_step_fault, flag_word_fault, flags_fault, long_fault, option_fault, other_fault, positional_fault, react_fault, short_fault, step_fault, stray_fault, turn_fault, walk_fault, word_fault}
-use Rattle.clap.specs.Simple.{Shape}
-use Rattle.clap.specs.declared.error.kind.ErrorKind.TheVariants.{TooManyValues}
-use Rattle.clap.specs.Walk.{Held, Outcome, Rule, Step, Text, Waiting, Walk, after_flag, after_step, arg_by_index, arg_by_long, arg_by_short, attached_value, bundle_met, bundle_step, flag_met, long_met, long_or_other, option_met, plain_word, reacted, short_met, short_or_plain, subcommand_or_other, takes_values, to_positional, walked, word_met, done, idle, option, positional, value}
+use Rattle.iloc_args.proofs.Common.{◌≡◌, ℕ, zero, suc, Bool, true, false, cond, List, [], ◌∷◌, length, drop, is_some, slice_get, Some, None, fold, Option, chars, encode_utf8, refl, arith, option_map_or, bundle_fault, bundle_step_fault, flag_word_fault, flags_fault, long_fault, option_fault, other_fault, positional_fault, react_fault, short_fault, step_fault, stray_fault, turn_fault, walk_fault, word_fault, Kinds, or_else, short_of, Shape, Held, Outcome, Rule, Step, Text, Waiting, Walk, after_flag, after_step, arg_by_index, arg_by_long, arg_by_short, attached_value, bundle_met, bundle_step, done, flag_met, idle, long_met, long_or_other, option, option_met, plain_word, positional, reacted, short_met, short_or_plain, subcommand_or_other, takes_values, to_positional, value, walked, word_met, TooManyValues}
 use Rattle.iloc_args.proofs.Rows.{AllKept, both_empty}
 use Rattle.iloc_args.proofs.Uses.{AllOurs, IsOurs, found_ours, settled_kept, use_kept}
 

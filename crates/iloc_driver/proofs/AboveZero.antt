@@ -1,5 +1,5 @@
 -- No fault has status 0.
-use Rattle.std.proofs.Common.{◌≡◌, ℕ, List, Option, Result, arith}
+use Rattle.iloc_driver.proofs.Common.{◌≡◌, ℕ, List, Option, Result, arith, Command, file_status, numbers_status, priorities_status, rows_status, task_status, text_status, Args, IsStopped, status_of, Held, NumbersFault, Priorities, Rows, Text}
 use Rattle.std.specs.declared.io.Error.{Error}
 use Rattle.iloc_text.specs.declared.fault.ReadFault.{ReadFault}
 use Rattle.iloc_text.specs.declared.fault.ReadFault.TheVariants as text
@@ -7,14 +7,9 @@ use Rattle.iloc_rows.specs.declared.fault.RowsFault.{RowsFault}
 use Rattle.iloc_rows.specs.declared.fault.RowsFault.TheVariants as rows
 use Rattle.iloc_args.specs.declared.fault.LineFault.TheVariants as line
 use Rattle.iloc_args.specs.declared.request.Task.{Task}
-use Rattle.iloc_driver.specs.Command.{Command}
-use Rattle.iloc_driver.specs.Fault.{file_status, numbers_status, priorities_status, rows_status, task_status, text_status}
-use Rattle.iloc_driver.specs.Program.{Args, IsStopped, status_of}
-use Rattle.iloc_driver.specs.Run.Apart.{Held}
-use Rattle.iloc_driver.specs.declared.fault.RunFault.TheVariants.{Text, Rows, Task as of_task, Priorities}
+use Rattle.iloc_driver.specs.declared.fault.RunFault.TheVariants.{Task as of_task}
 use Rattle.iloc_driver.specs.declared.fault.FileFault.{FileFault}
 use Rattle.iloc_driver.specs.declared.fault.FileFault.TheVariants as file_fault
-use Rattle.iloc_driver.specs.declared.fault.NumbersFault.{NumbersFault}
 use Rattle.iloc_driver.specs.declared.fault.NumbersFault.TheVariants as numbers_fault
 use Rattle.iloc_driver.specs.declared.fault.PrioritiesFault.{PrioritiesFault}
 use Rattle.iloc_driver.specs.declared.fault.PrioritiesFault.TheVariants as priorities_fault

@@ -1,12 +1,7 @@
 -- The entries of a file's blocks, one after another or made by several workers.
-use Rattle.std.proofs.Common.{◌≡◌, ℕ, suc, ◌+◌, List, [], ◌∷◌, ◌++◌, length, map, Option, Some, Result, Ok, Err, OnOk, IfOk, refl, sym, ap, ◌∙◌, subst, arith, append_assoc, append-nil}
-use Rattle.std.specs.Prelude.{slice_get, MatchOption}
-use Rattle.std.specs.List.{flat_map}
+use Rattle.iloc_driver.proofs.Common.{◌≡◌, ℕ, suc, ◌+◌, List, [], ◌∷◌, ◌++◌, map, length, IfOk, OnOk, slice_get, Some, Ok, Err, Option, Result, MatchOption, flat_map, sym, refl, ap, ◌∙◌, subst, append_assoc, append-nil, arith, Block, AreEntries, AreListed, IsListingAfter, IsListingOf, Grows}
 use Rattle.std.proofs.lemmas.List.Concat.{flat_map-cons}
-use Rattle.iloc_ops.specs.declared.file.Block.{Block}
-use Rattle.iloc_driver.specs.Entries.{AreEntries, AreListed, IsListingAfter, IsListingOf}
 use Rattle.iloc_listing.specs.Listing.{entries}
-use Rattle.iloc_driver.specs.Steps.Listed.{Grows}
 
 pub parts_joined : (text head line entry : List ℕ) → ((text ++ head) ++ line) ++ entry ≡ text ++ ((head ++ line) ++ entry)
 parts_joined text head line entry = simp append_assoc

@@ -1,13 +1,9 @@
 -- Where all passes came back done, nothing is missing.
-use Rattle.std.proofs.Common.{◌≡◌, ℕ, ◌<◌, true, false, List, [], ◌∷◌, length, map, refl, ap, sym, ◌∙◌, subst, arith}
-use Rattle.std.specs.List.{All, Contains, list_any, range_with_len}
-use Rattle.std.proofs.lemmas.List.{length-map}
-use Rattle.std.proofs.lemmas.List.Elements.{All-head, All-map, All-same, All-weaker}
+use Rattle.iloc_driver.proofs.Common.{◌≡◌, ℕ, ◌<◌, true, false, List, [], ◌∷◌, map, length, All, Contains, sym, refl, ap, ◌∙◌, subst, arith, length-map, All-head, All-map, All-same, All-weaker, list_any, range_with_len, IsDone}
 use Rattle.std.proofs.lemmas.List.FromFn.{get_or-range_with_len, length-range_with_len}
 use Rattle.std.proofs.lemmas.Simd.{map-map}
 use Rattle.iloc_board.specs.Core.{is_holding}
 use Rattle.iloc_board.specs.Journal.{JournalView, state_of, saw_none}
-use Rattle.iloc_board.specs.Working.{IsDone}
 use Rattle.iloc_board.specs.Collecting.{workers_of, IsWhole}
 
 in_range : (n w : ℕ) → w < n → Contains (range_with_len 0 n) w

@@ -1,16 +1,8 @@
 -- Numbers of somebody's own that are read from a text.
-use Rattle.std.proofs.Common.{◌≡◌, ◌≢◌, ℕ, zero, suc, ◌+◌, ◌-◌, ◌*◌, ◌^◌, ◌<◌, ◌≤◌, List, [], ◌∷◌, ◌++◌, drop, length, Option, Some, None, Result, Ok, Err, refl, sym, ap, ap₂, ◌∙◌, subst, arith, append_assoc, append-nil, length-append, length-drop, take}
-use Rattle.std.specs.Prelude.{slice_get, IfSome}
-use Rattle.std.proofs.lemmas.List.{drop_all, take_all}
-use Rattle.std.specs.List.{position, position_or_len}
-use Rattle.std.specs.List.{after_first, before_first}
-use Rattle.iloc_ops.specs.declared.file.Block.{Block}
+use Rattle.iloc_driver.proofs.Common.{◌≡◌, ℕ, zero, suc, ◌+◌, ◌-◌, ◌*◌, ◌^◌, ◌<◌, ◌≤◌, ◌≢◌, List, [], ◌∷◌, ◌++◌, length, take, drop, IfSome, slice_get, Some, None, Ok, Err, Option, Result, position, sym, refl, ap, ◌∙◌, subst, ap₂, append_assoc, append-nil, arith, length-append, length-drop, take_all, drop_all, after_first, before_first, position_or_len, Block, AreFor, after_word, first_and, is_space, none_of, number_after, number_of, numbers_from, own_of, priorities_from, without, before_and, NumbersFault}
 use Rattle.iloc_text.specs.Grammar.{is_blank}
 use Rattle.iloc_text.specs.Lines.{is_line_end}
 use Rattle.iloc_rules.specs.Renaming.{without_nops}
-use Rattle.iloc_driver.specs.Priorities.{AreFor, after_word, first_and, is_space, none_of, number_after, number_of, numbers_from, own_of, priorities_from, without}
-use Rattle.iloc_driver.specs.Steps.Ranked.{before_and}
-use Rattle.iloc_driver.specs.declared.fault.NumbersFault.{NumbersFault}
 use Rattle.iloc_driver.specs.declared.fault.NumbersFault.TheVariants.{NoOperation}
 
 -- a line, as it is cut off

@@ -1,9 +1,6 @@
 -- What workers list of blocks.
-use Rattle.std.proofs.Common.{ℕ, List, length}
-use Rattle.iloc_ops.specs.declared.file.Block.{Block}
+use Rattle.iloc_driver.proofs.Common.{ℕ, List, length, Block, AreListed, OfBlock, AreFarmed}
 use Rattle.iloc_board.specs.Finished.{ReceiptView}
-use Rattle.iloc_driver.specs.Entries.{AreListed, OfBlock}
-use Rattle.iloc_driver.specs.Work.{AreFarmed}
 
 -- what was handed back for each block is listed of it
 pub are_listed : {A : Type 0} (lists : ℕ → Block → A → Type 0) (cycles_in : A → ℕ) (workers : ℕ) (blocks : List Block)

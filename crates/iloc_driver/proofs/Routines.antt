@@ -1,9 +1,5 @@
 -- Lists of routines, of what they gave, and of journals.
-use Rattle.std.proofs.Common.{◌≡◌, ℕ, zero, suc, ◌+◌, ◌<◌, List, [], ◌∷◌, ◌++◌, map, length, refl, ap, sym, ◌∙◌, subst, arith}
-use Rattle.std.specs.Prelude.{slice_index_or}
-use Rattle.std.proofs.lemmas.List.{append_assoc, map-append}
-use Rattle.std.specs.List.{All, AllZip, range_with_len}
-use Rattle.std.proofs.lemmas.List.Elements.{All-nil, All-cons, All-head, All-tail, All-same, All-push}
+use Rattle.iloc_driver.proofs.Common.{◌≡◌, ℕ, zero, suc, ◌+◌, ◌<◌, List, [], ◌∷◌, ◌++◌, map, length, slice_index_or, All, sym, refl, ap, ◌∙◌, subst, append_assoc, arith, map-append, All-cons, All-head, All-nil, All-push, All-same, All-tail, AllZip, range_with_len}
 
 range-snoc : (a n : ℕ) → range_with_len a (suc n) ≡ range_with_len a n ++ (a + n) ∷ []
 range-snoc a zero = let same : a ≡ a + 0 = omega arith in ap (λ k. k ∷ []) same

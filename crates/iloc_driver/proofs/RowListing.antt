@@ -1,14 +1,7 @@
 -- What is proposed for blocks, listed block by block.
-use Rattle.std.proofs.Common.{◌≡◌, ℕ, ◌+◌, Bool, List, [], ◌∷◌, ◌++◌, length, refl, sym, ap, ◌∙◌, subst, arith, append_assoc, append-nil}
-use Rattle.std.specs.List.{All, list_all, zip}
-use Rattle.std.proofs.lemmas.List.Elements.{All-push}
-use Rattle.std.proofs.lemmas.List.{length-append}
-use Rattle.iloc_ops.specs.declared.file.Block.{Block}
+use Rattle.iloc_driver.proofs.Common.{◌≡◌, ℕ, ◌+◌, Bool, List, [], ◌∷◌, ◌++◌, length, All, zip, sym, refl, ap, ◌∙◌, subst, append_assoc, append-nil, arith, length-append, All-push, list_all, Block, Adds, finding_of, AreListedTo}
 use Rattle.iloc_rows.specs.declared.proposal.Proposed.{Proposed}
-use Rattle.iloc_driver.specs.Fault.{finding_of}
 use Rattle.iloc_driver.specs.Rows.{ListsRows}
-use Rattle.iloc_driver.specs.Entries.{Adds}
-use Rattle.iloc_driver.specs.Steps.Listed.{AreListedTo}
 use Rattle.iloc_driver.specs.declared.commands.Finding.{Finding}
 use Rattle.iloc_driver.proofs.Entries.{entries_long, one_more}
 

@@ -1,23 +1,16 @@
 -- What was read from a stream as it came.
-use Rattle.std.proofs.Common.{◌≡◌, ◌≢◌, ℕ, List, Option, Some, None, Err, arith}
-use Rattle.std.specs.String.{string_bytes}
+use Rattle.iloc_driver.proofs.Common.{◌≡◌, ℕ, ◌≢◌, List, Some, None, Err, string_bytes, Option, arith, Block, fault_of_numbers, fault_of_stream, priorities_in, Held, Holds, HasNoneFor, IsCaused, ReadsFile, Refuses, of_file, of_ranked_file, of_shared_file, NumbersFault, Farm, Priorities, ReadFailed, Rows, Text}
 use Rattle.std.specs.declared.alloc.Global.{Global}
 use Rattle.std.specs.declared.string.String.{String}
-use Rattle.iloc_ops.specs.declared.file.Block.{Block}
 use Rattle.iloc_text.specs.Files.{Denotes}
 use Rattle.iloc_text.specs.declared.fault.ReadFault.{ReadFault}
 use Rattle.iloc_text.specs.declared.fault.StreamFault.{StreamFault}
 use Rattle.iloc_text.specs.Files.{IsRefused}
 use Rattle.iloc_text.specs.Streams.{ReadsText, EndsStream}
-use Rattle.iloc_driver.specs.Fault.{fault_of_numbers, fault_of_stream}
-use Rattle.iloc_driver.specs.Priorities.{priorities_in}
-use Rattle.iloc_driver.specs.Run.Apart.{Held, Holds}
-use Rattle.iloc_driver.specs.Run.Causes.{HasNoneFor, IsCaused, ReadsFile, Refuses, of_file, of_ranked_file, of_shared_file}
 use Rattle.iloc_driver.specs.declared.fault.FarmFault.TheVariants as farm
-use Rattle.iloc_driver.specs.declared.fault.NumbersFault.{NumbersFault}
 use Rattle.iloc_driver.specs.declared.fault.NumbersFault.TheVariants as numbers
 use Rattle.iloc_driver.specs.declared.fault.RunFault.{RunFault}
-use Rattle.iloc_driver.specs.declared.fault.RunFault.TheVariants.{ReadFailed, Text, Rows, Task, Priorities, Farm, WriteFailed}
+use Rattle.iloc_driver.specs.declared.fault.RunFault.TheVariants.{Task, WriteFailed}
 
 refuses : (old new : Option (List ℕ)) (fault : ReadFault)
     → (text : List ℕ) × ReadsText old new text × IsRefused text fault → Refuses IsRefused old new fault

@@ -1,10 +1,8 @@
 -- A task that is read from a text of its own.
-use Rattle.std.proofs.Common.{◌≡◌, ℕ, List, Option, subst}
-use Rattle.iloc_ops.specs.declared.file.Block.{Block}
+use Rattle.iloc_driver.proofs.Common.{◌≡◌, ℕ, List, Option, subst, Block, ReadsApart, ReadsTask}
 use Rattle.iloc_rows.specs.Laws.{AreWithinLimits, SubmissionsApartAreWithinLimits}
 use Rattle.iloc_rows.specs.Submissions.{DenoteApart, ProposeApart}
 use Rattle.iloc_rows.specs.declared.proposal.Proposed.{Proposed}
-use Rattle.iloc_driver.specs.Run.Apart.{ReadsApart, ReadsTask}
 use Rattle.iloc_text.specs.Streams.{ReadsText}
 
 -- rows that propose for the blocks of a task were read apart from it

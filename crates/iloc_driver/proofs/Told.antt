@@ -1,9 +1,8 @@
 -- What a write of a line did.
-use Rattle.std.proofs.Common.{◌≡◌, ℕ, List, Err, Ok, OnErr, OnOk, Option, Result, subst}
+use Rattle.iloc_driver.proofs.Common.{◌≡◌, ℕ, List, OnOk, OnErr, Ok, Err, Option, Result, subst, Says}
 use Rattle.std.specs.Io.KnownBytes.{Appends}
 use Rattle.iloc_listing.specs.Device.{WritesFront}
 use Rattle.iloc_listing.specs.declared.writing.WriteFailed.{WriteFailed}
-use Rattle.iloc_driver.specs.Program.{Says}
 
 -- what a write did to the text is what it did to another name of it
 pub says_text : {T : Type 0} (old new : Option (List ℕ)) (result : Result T WriteFailed) (given text : List ℕ)

@@ -1,8 +1,6 @@
 -- What the words ask for, by what is made of those behind the program's name.
-use Rattle.std.proofs.Common.{◌≡◌, ◌∙◌, Err, List, Ok, Option, Result, ap, drop, inr, map, subst, sym, ℕ, arith}
+use Rattle.iloc_driver.proofs.Common.{◌≡◌, ℕ, List, map, drop, IsErrAnd, IfOk, IfErr, Ok, Err, string_bytes, Option, Result, sym, ap, ◌∙◌, subst, inr, arith, Command, Args, AskFor, IsHelp, IsStopped, MakeNone, Held, Farm, Priorities, ReadFailed, Rows, Text}
 use Rattle.std.proofs.KnownBytes.{Keeps-refl}
-use Rattle.std.specs.Result.{IfErr, IfOk, IsErrAnd}
-use Rattle.std.specs.String.{string_bytes}
 use Rattle.std.specs.Vec.Iter.{into_iter_items}
 use Rattle.std.specs.declared.alloc.Global.{Global}
 use Rattle.std.specs.declared.io.Error.{Error}
@@ -13,12 +11,9 @@ use Rattle.iloc_args.specs.declared.fault.LineFault.{LineFault}
 use Rattle.iloc_args.specs.declared.fault.LineFault.TheVariants.{Help}
 use Rattle.iloc_args.specs.declared.request.Request.{Request}
 use Rattle.iloc_args.specs.declared.request.Task.{Task}
-use Rattle.iloc_driver.specs.Command.{Command}
-use Rattle.iloc_driver.specs.Run.Apart.{Held}
-use Rattle.iloc_driver.specs.Program.{Args, AskFor, IsHelp, IsStopped, MakeNone}
 use Rattle.iloc_driver.specs.Run.{EndsRun}
 use Rattle.iloc_driver.specs.declared.fault.RunFault.{RunFault}
-use Rattle.iloc_driver.specs.declared.fault.RunFault.TheVariants.{ReadFailed, Text, Rows, Task as of_task, Priorities, Farm, WriteFailed}
+use Rattle.iloc_driver.specs.declared.fault.RunFault.TheVariants.{Task as of_task, WriteFailed}
 use Rattle.iloc_driver.specs.declared.program.Fault.TheVariants.{Run}
 
 -- what the words behind the name ask for is what the words do

@@ -1,5 +1,4 @@
-use Rattle.std.proofs.Common.{refl}
-use Rattle.iloc_meaning.specs.Address.{LAST_ADDRESS}
+use Rattle.iloc_args.proofs.Common.{refl, LAST_ADDRESS}
 use Rattle.iloc_args.proofs.Arguments.{within}
 use Rattle.iloc_args.proofs.command.at_arg.Goals as goal
 

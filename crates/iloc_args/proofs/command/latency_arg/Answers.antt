@@ -1,5 +1,4 @@
-use Rattle.std.proofs.Common.{refl}
-use Rattle.iloc_timed.specs.Limits.{LONGEST_LATENCY}
+use Rattle.iloc_args.proofs.Common.{refl, LONGEST_LATENCY}
 use Rattle.iloc_args.proofs.Arguments.{within}
 use Rattle.iloc_args.proofs.command.latency_arg.Goals as goal
 

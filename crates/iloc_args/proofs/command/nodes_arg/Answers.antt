@@ -1,5 +1,4 @@
-use Rattle.std.proofs.Common.{codes}
-use Rattle.iloc_args.specs.Steps.Building.{default_rule}
+use Rattle.iloc_args.proofs.Common.{codes, default_rule}
 use Rattle.iloc_args.proofs.Arguments.{read_by}
 use Rattle.iloc_args.proofs.command.nodes_arg.Goals as goal
 

@@ -1,5 +1,4 @@
-use Rattle.std.proofs.Common.{codes}
-use Rattle.iloc_args.specs.Steps.Building.{option_rule}
+use Rattle.iloc_args.proofs.Common.{codes, option_rule}
 use Rattle.iloc_args.proofs.Arguments.{read_by}
 use Rattle.iloc_args.proofs.command.search_arg.Goals as goal
 

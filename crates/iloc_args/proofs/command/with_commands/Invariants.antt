@@ -1,5 +1,4 @@
-use Rattle.std.proofs.Common.{take}
-use Rattle.iloc_args.specs.Steps.Building.{HasApp, app_with}
+use Rattle.iloc_args.proofs.Common.{take, HasApp, app_with}
 use Rattle.iloc_args.proofs.command.with_commands.Given as goal
 
 abbrev pub invariant-loop-entry : goal.invariant-loop-entry

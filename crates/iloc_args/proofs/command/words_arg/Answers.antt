@@ -1,9 +1,5 @@
-use Rattle.std.proofs.Common.{◌≡◌, Some, codes, pos, refl, rules}
-use Rattle.clap.specs.Lexer.{usize_max}
+use Rattle.iloc_args.proofs.Common.{◌≡◌, pos, Some, codes, refl, rules, usize_max, new_rule, Signed, HasRule}
 use Rattle.clap.specs.declared.builder.action.ArgAction.TheVariants.{Append}
-use Rattle.clap.specs.declared.builder.value_parser.ValueParser.TheVariants.{Signed}
-use Rattle.clap.specs.Words.{new_rule}
-use Rattle.iloc_args.specs.Steps.Building.{HasRule}
 use Rattle.iloc_args.proofs.Arguments.{words}
 use Rattle.iloc_args.proofs.Commands.{set_rule}
 use Rattle.iloc_args.proofs.command.words_arg.Goals as goal

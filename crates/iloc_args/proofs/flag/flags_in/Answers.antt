@@ -1,6 +1,4 @@
-use Rattle.std.proofs.Common.{◌≡◌, rules}
-use Rattle.clap.specs.Words.{found_of, rows_of}
-use Rattle.iloc_args.specs.Asked.{flag_in}
+use Rattle.iloc_args.proofs.Common.{◌≡◌, rules, found_of, rows_of, flag_in}
 use Rattle.iloc_args.specs.Flags.{has}
 use Rattle.iloc_args.specs.declared.flag.Flag.{Flag}
 use Rattle.iloc_args.proofs.flag.flags_in.Goals as goal

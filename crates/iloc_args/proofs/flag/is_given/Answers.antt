@@ -1,5 +1,4 @@
-use Rattle.std.proofs.Common.{arith}
-use Rattle.clap.proofs.WalkLemmas.{first_value-rows}
+use Rattle.iloc_args.proofs.Common.{arith, first_value-rows}
 use Rattle.iloc_args.proofs.flag.is_given.Goals as goal
 
 pub returns : goal.returns

@@ -1,6 +1,4 @@
-use Rattle.std.proofs.Common.{◌∙◌, lit<}
-use Rattle.clap.specs.Words.{found_of}
-use Rattle.iloc_timed.specs.Limits.{LONGEST_LATENCY}
+use Rattle.iloc_args.proofs.Common.{◌∙◌, lit<, LONGEST_LATENCY, found_of}
 use Rattle.iloc_args.proofs.Getters.{one_read}
 use Rattle.iloc_args.proofs.line.latency_in.Goals as goal
 

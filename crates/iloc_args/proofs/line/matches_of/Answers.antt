@@ -1,13 +1,8 @@
-use Rattle.std.proofs.Common.{◌≡◌, ◌∙◌, [], true, refl, sym, ap, subst, inl, inr}
+use Rattle.iloc_args.proofs.Common.{◌≡◌, true, List, [], sym, refl, ap, ◌∙◌, subst, inl, inr, HasKind, IsAmong, subcommand_of, Text, App, HasMatchesOf, fault_of, is_simple, is_simple_and_free, kind_of, subcommand_rows_of, OutOfMemory, farm_app}
 use Rattle.clap.proofs.OnLiterals.{clap_on_literals}
-use Rattle.clap.specs.Kinds.{HasKind, IsAmong}
-use Rattle.clap.specs.Words.{App, HasMatchesOf, Text, fault_of, is_simple, is_simple_and_free, kind_of, subcommand_of, subcommand_rows_of}
 use Rattle.clap.specs.declared.error.Error.{Error}
 use Rattle.clap.specs.declared.error.kind.ErrorKind.{ErrorKind}
-use Rattle.clap.specs.declared.error.kind.ErrorKind.TheVariants.{OutOfMemory}
 use Rattle.clap.specs.declared.parser.matches.ArgMatches.{ArgMatches}
-use Rattle.std.specs.Prelude.{List}
-use Rattle.iloc_args.specs.Command.{farm_app}
 use Rattle.iloc_args.specs.Due.{IsAskedFor, IsDue, faults_in}
 use Rattle.iloc_args.specs.Steps.Refusing.{IsFaultBy}
 use Rattle.iloc_args.specs.declared.fault.LineFault.{LineFault}

@@ -1,5 +1,4 @@
-use Rattle.std.proofs.Common.{codes, lit<}
-use Rattle.clap.specs.Words.{found_of}
+use Rattle.iloc_args.proofs.Common.{codes, lit<, found_of}
 use Rattle.iloc_args.proofs.Getters.{one_if_read}
 use Rattle.iloc_args.proofs.line.nodes_in.Goals as goal
 

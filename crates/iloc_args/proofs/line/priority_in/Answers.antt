@@ -1,13 +1,6 @@
-use Rattle.std.proofs.Common.{codes, ◌≡◌, Option, arith}
-use Rattle.clap.specs.Words.{found_of}
+use Rattle.iloc_args.proofs.Common.{◌≡◌, codes, Option, option_map, unwrap_or, arith, Bor, first_value-rows, first_value, Text, found_of, rows_of, text_or}
 use Rattle.iloc_args.proofs.Priorities.{named}
-use Rattle.std.specs.Prelude.{option_map, unwrap_or}
-use Rattle.std.specs.Borrow.{Bor}
-use Rattle.clap.proofs.WalkLemmas.{first_value-rows}
-use Rattle.clap.specs.Matches.{first_value}
-use Rattle.clap.specs.Walk.{Text, rows_of}
 use Rattle.clap.specs.declared.parser.matches.Found.{Found}
-use Rattle.iloc_args.specs.Asked.{text_or}
 use Rattle.iloc_args.proofs.line.priority_in.Goals as goal
 
 -- What `get_str` gives, by the rows.

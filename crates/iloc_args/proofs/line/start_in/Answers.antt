@@ -1,6 +1,4 @@
-use Rattle.std.proofs.Common.{◌∙◌, codes, lit<, lit≤}
-use Rattle.clap.specs.Words.{found_of}
-use Rattle.iloc_meaning.specs.Address.{LAST_ADDRESS}
+use Rattle.iloc_args.proofs.Common.{codes, ◌∙◌, lit<, lit≤, LAST_ADDRESS, found_of}
 use Rattle.iloc_args.proofs.Getters.{one_read}
 use Rattle.iloc_args.proofs.line.start_in.Goals as goal
 

@@ -1,6 +1,4 @@
-use Rattle.std.proofs.Common.{◌≡◌, ◌∙◌, ◌++◌, Ok, append-nil, codes, refl, sym, ap, ℕ, Result}
-use Rattle.clap.specs.Matches.{values_left}
-use Rattle.clap.specs.Words.{found_of, rows_of}
+use Rattle.iloc_args.proofs.Common.{◌≡◌, ℕ, ◌++◌, Ok, codes, Result, sym, refl, ap, ◌∙◌, append-nil, values_left, found_of, rows_of}
 use Rattle.iloc_args.proofs.Getters.{many_in_range, many_none, many_numbers, many_some, no_value, one_more, value_read}
 use Rattle.iloc_args.proofs.line.words_in.Goals as goal
 use Rattle.iloc_args.proofs.line.words_in.Goals.{in-Some+in-None, in_default}

@@ -1,8 +1,4 @@
-use Rattle.std.proofs.Common.{◌≡◌, ◌++◌, codes, map}
-use Rattle.clap.specs.Words.{found_of, rows_of}
-use Rattle.clap.specs.Matches.{values_left}
-use Rattle.iloc_args.specs.Asked.{number_of, numbers_in}
-use Rattle.iloc_args.specs.Steps.Taken.{AreNumbersIn}
+use Rattle.iloc_args.proofs.Common.{◌≡◌, ◌++◌, map, codes, values_left, found_of, rows_of, number_of, numbers_in, AreNumbersIn}
 use Rattle.iloc_args.proofs.line.words_in.Given as goal
 
 abbrev pub invariant-loop-value : goal.invariant-loop-value

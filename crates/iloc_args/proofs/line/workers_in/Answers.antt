@@ -1,5 +1,4 @@
-use Rattle.std.proofs.Common.{◌∙◌, codes, lit<, lit≤}
-use Rattle.clap.specs.Words.{found_of}
+use Rattle.iloc_args.proofs.Common.{codes, ◌∙◌, lit<, lit≤, found_of}
 use Rattle.iloc_args.proofs.Getters.{one_read}
 use Rattle.iloc_args.proofs.line.workers_in.Goals as goal
 

@@ -1,7 +1,4 @@
-use Rattle.std.proofs.Common.{◌≡◌, refl, sym, subst}
-use Rattle.iloc_driver.specs.Entries.{ListsRead}
-use Rattle.iloc_driver.specs.Priorities.{AreIn}
-use Rattle.iloc_driver.specs.Work.{ListsFarmed}
+use Rattle.iloc_driver.proofs.Common.{◌≡◌, sym, refl, subst, ListsRead, AreIn, ListsFarmed}
 use Rattle.iloc_driver.specs.declared.commands.Finding.TheVariants.{Passed}
 use Rattle.iloc_driver.specs.declared.commands.Listed.{Listed}
 use Rattle.iloc_driver.proofs.commands.shared.Goals as goal

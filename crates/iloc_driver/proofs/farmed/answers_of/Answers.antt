@@ -1,7 +1,4 @@
-use Rattle.std.proofs.Common.{ℕ, length, subst}
-use Rattle.iloc_driver.specs.Entries.{OfBlock}
-use Rattle.iloc_driver.specs.Steps.Listed.{ToList}
-use Rattle.iloc_driver.specs.Work.{AreFarmed, by_own}
+use Rattle.iloc_driver.proofs.Common.{ℕ, length, subst, OfBlock, ToList, AreFarmed, by_own}
 use Rattle.iloc_driver.proofs.farmed.answers_of.Goals as goal
 
 pub returns : goal.returns

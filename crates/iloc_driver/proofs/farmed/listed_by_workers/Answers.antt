@@ -1,7 +1,4 @@
-use Rattle.std.proofs.Common.{List, length, subst}
-use Rattle.iloc_ops.specs.declared.file.Block.{Block}
-use Rattle.iloc_driver.specs.Entries.{AreListed, OfBlock}
-use Rattle.iloc_driver.specs.Work.{AreFarmed, by_own}
+use Rattle.iloc_driver.proofs.Common.{List, length, subst, Block, AreListed, OfBlock, AreFarmed, by_own}
 use Rattle.iloc_driver.proofs.Receipts.{are_listed}
 use Rattle.iloc_driver.proofs.farmed.listed_by_workers.Goals as goal
 

@@ -1,7 +1,4 @@
-use Rattle.std.proofs.Common.{◌≡◌, ◌≤◌, ◌++◌, arith, ap, ◌∙◌, length, Err, None, IfErr, refl, sym, subst}
-use Rattle.std.proofs.lemmas.Result.{err_from_is_err_and}
-use Rattle.iloc_ops.specs.Limits.{MAX_BLOCKS}
-use Rattle.iloc_driver.specs.Run.Causes.{IsCaused, of_file}
+use Rattle.iloc_driver.proofs.Common.{◌≡◌, ◌≤◌, ◌++◌, length, IfErr, None, Err, sym, refl, ap, ◌∙◌, subst, arith, err_from_is_err_and, MAX_BLOCKS, IsCaused, of_file}
 use Rattle.iloc_driver.proofs.Entries.{entries_long, whole_listing}
 use Rattle.iloc_driver.proofs.Streamed.{ends_file}
 use Rattle.iloc_driver.proofs.lister.listed_as_read.Goals as goal

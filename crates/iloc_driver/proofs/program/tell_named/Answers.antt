@@ -1,11 +1,9 @@
-use Rattle.std.proofs.Common.{◌∙◌, ◌≡◌, ◌++◌, [], List, None, ℕ, OnErr, OnOk, Option, Result, Some, ap, codes}
+use Rattle.iloc_driver.proofs.Common.{◌≡◌, ℕ, List, [], ◌++◌, IfSome, OnOk, OnErr, Some, None, codes, Option, Result, ap, ◌∙◌, Says, named_line}
 use Rattle.std.proofs.lemmas.Fmt.{contents_after_writes}
 use Rattle.std.specs.Fmt.{WritesText, ◌++?◌}
 use Rattle.std.specs.Io.KnownBytes.{Appends}
-use Rattle.std.specs.Option.{IfSome}
 use Rattle.arrayvec.specs.declared.array_string.ArrayString.{ArrayString}
 use Rattle.iloc_listing.specs.Device.{WritesFront}
-use Rattle.iloc_driver.specs.Program.{Says, named_line}
 use Rattle.iloc_listing.specs.declared.writing.WriteFailed.{WriteFailed}
 use Rattle.iloc_driver.proofs.Told.{says_text}
 use Rattle.iloc_driver.proofs.program.tell_named.Goals as goal

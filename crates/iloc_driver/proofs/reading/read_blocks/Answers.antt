@@ -1,6 +1,4 @@
-use Rattle.std.proofs.Common.{◌∙◌, Err, IfErr, ap, sym, subst}
-use Rattle.std.proofs.lemmas.Result.{err_from_is_err_and}
-use Rattle.iloc_driver.specs.Run.Causes.{IsCaused, of_file}
+use Rattle.iloc_driver.proofs.Common.{IfErr, Err, sym, ap, ◌∙◌, subst, err_from_is_err_and, IsCaused, of_file}
 use Rattle.iloc_driver.proofs.Streamed.{ends_file}
 use Rattle.iloc_driver.proofs.reading.read_blocks.Goals as goal
 

@@ -1,9 +1,4 @@
-use Rattle.std.proofs.Common.{◌∙◌, ℕ, List, Err, IfErr, Some, ap, ap₂, sym, subst}
-use Rattle.std.proofs.lemmas.Result.{err_from_is_err_and}
-use Rattle.iloc_driver.specs.Fault.{fault_of_numbers}
-use Rattle.iloc_driver.specs.Priorities.{priorities_in}
-use Rattle.iloc_driver.specs.Run.Apart.{Holds}
-use Rattle.iloc_driver.specs.Run.Causes.{IsCaused, of_ranked_file}
+use Rattle.iloc_driver.proofs.Common.{ℕ, List, IfErr, Some, Err, sym, ap, ◌∙◌, subst, ap₂, err_from_is_err_and, fault_of_numbers, priorities_in, Holds, IsCaused, of_ranked_file}
 use Rattle.iloc_driver.proofs.Streamed.{none_caused}
 use Rattle.iloc_driver.proofs.reading.read_ranked.Goals as goal
 

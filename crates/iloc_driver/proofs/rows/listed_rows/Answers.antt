@@ -1,11 +1,8 @@
-use Rattle.std.proofs.Common.{◌≡◌, ◌≤◌, ◌∙◌, ◌++◌, ap, sym, length, arith, inl, inr}
-use Rattle.std.specs.List.{list_all, zip}
+use Rattle.iloc_driver.proofs.Common.{◌≡◌, ◌≤◌, ◌++◌, length, zip, sym, ap, ◌∙◌, inl, inr, arith, list_all, MAX_BLOCKS, finding_of}
 use Rattle.std.proofs.lemmas.Slice.Zip.{length-zip}
-use Rattle.iloc_ops.specs.Limits.{MAX_BLOCKS}
 use Rattle.iloc_rows.specs.EitherSlot.{placed}
 use Rattle.iloc_args.specs.Flags.{has}
 use Rattle.iloc_args.specs.declared.flag.Flag.TheVariants.{EitherSlot}
-use Rattle.iloc_driver.specs.Fault.{finding_of}
 use Rattle.iloc_driver.proofs.RowListing.{all_listed, both_next, found_few, none_listed, one_listed}
 use Rattle.iloc_driver.proofs.rows.listed_rows.Goals as goal
 

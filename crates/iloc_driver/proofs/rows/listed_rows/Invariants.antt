@@ -1,11 +1,7 @@
-use Rattle.std.proofs.Common.{◌≡◌, ◌≤◌, length}
-use Rattle.std.specs.List.{AllByRecursion, zip}
-use Rattle.iloc_ops.specs.Limits.{MAX_OPS}
+use Rattle.iloc_driver.proofs.Common.{◌≡◌, ◌≤◌, length, zip, AllByRecursion, MAX_OPS, initial_memory, AreListedTo}
 use Rattle.iloc_rows.specs.EitherSlot.{placed}
 use Rattle.iloc_args.specs.Flags.{has}
 use Rattle.iloc_args.specs.declared.flag.Flag.TheVariants.{EitherSlot}
-use Rattle.iloc_driver.specs.Command.{initial_memory}
-use Rattle.iloc_driver.specs.Steps.Listed.{AreListedTo}
 use Rattle.iloc_driver.proofs.rows.listed_rows.Given as goal
 
 abbrev pub invariant-loop-block : goal.invariant-loop-block

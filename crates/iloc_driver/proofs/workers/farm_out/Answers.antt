@@ -1,8 +1,6 @@
-use Rattle.std.proofs.Common.{◌≡◌, ◌∙◌, ap, length, rules, subst}
-use Rattle.std.proofs.lemmas.List.Elements.{All-same}
+use Rattle.iloc_driver.proofs.Common.{◌≡◌, length, ap, ◌∙◌, subst, rules, All-same, IsDone}
 use Rattle.iloc_board.specs.Finished.{IsDoneBy, ReceiptView}
 use Rattle.iloc_board.specs.Collecting.{workers_of}
-use Rattle.iloc_board.specs.Working.{IsDone}
 use Rattle.iloc_driver.proofs.workers.farm_out.Goals as goal
 
 pub returns-clause-headline : goal.returns-clause-headline

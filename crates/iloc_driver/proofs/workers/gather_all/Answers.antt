@@ -1,7 +1,4 @@
-use Rattle.std.proofs.Common.{◌≡◌, ap, ◌∙◌, sym, refl, OnOk, ◌++◌, map, length}
-use Rattle.std.proofs.lemmas.List.Elements.{All-rest, All-same}
-use Rattle.std.proofs.lemmas.Result.{on_ok_weaker}
-use Rattle.iloc_board.specs.Working.{IsDone}
+use Rattle.iloc_driver.proofs.Common.{◌≡◌, ◌++◌, map, length, OnOk, sym, refl, ap, ◌∙◌, All-rest, All-same, on_ok_weaker, IsDone}
 use Rattle.iloc_driver.specs.declared.workers.Worked.{Worked}
 use Rattle.iloc_driver.proofs.Routines as routines
 use Rattle.iloc_driver.proofs.workers.gather_all.Goals as goal

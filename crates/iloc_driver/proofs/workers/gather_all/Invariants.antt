@@ -1,6 +1,4 @@
-use Rattle.std.proofs.Common.{◌≡◌, ◌++◌, map, OnOk}
-use Rattle.std.specs.List.{All}
-use Rattle.iloc_board.specs.Working.{IsDone}
+use Rattle.iloc_driver.proofs.Common.{◌≡◌, ◌++◌, map, OnOk, All, IsDone}
 use Rattle.iloc_driver.proofs.workers.gather_all.Given as goal
 
 -- where memory sufficed so far, what was gathered and what is left make up the whole

@@ -1,6 +1,5 @@
-use Rattle.std.proofs.Common.{◌≡◌, suc, ap, ◌∙◌, refl, arith, length}
+use Rattle.iloc_driver.proofs.Common.{◌≡◌, suc, length, refl, ap, ◌∙◌, arith, state}
 use Rattle.iloc_board.specs.declared.board.state.State.TheVariants as about
-use Rattle.iloc_board.specs.Views.{state}
 use Rattle.iloc_driver.specs.declared.workers.Shift.{Shift}
 use Rattle.iloc_driver.proofs.Routines as routines
 use Rattle.iloc_driver.proofs.workers.shifts.Goals as goal

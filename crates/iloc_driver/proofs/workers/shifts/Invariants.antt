@@ -1,7 +1,5 @@
-use Rattle.std.proofs.Common.{◌≡◌, ◌+◌, [], length, map}
-use Rattle.std.specs.List.{All, range_with_len}
+use Rattle.iloc_driver.proofs.Common.{◌≡◌, ◌+◌, [], map, length, All, range_with_len, state}
 use Rattle.iloc_board.specs.declared.board.state.State.TheVariants as about
-use Rattle.iloc_board.specs.Views.{state}
 use Rattle.iloc_driver.proofs.workers.shifts.Given as goal
 
 abbrev pub invariant-loop-desk : goal.invariant-loop-desk

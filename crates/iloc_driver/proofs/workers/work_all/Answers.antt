@@ -1,8 +1,5 @@
-use Rattle.std.proofs.Common.{◌≡◌, ap, ◌∙◌, sym, OnOk, arith, ◌++◌, ◌<◌, map}
-use Rattle.std.specs.List.{range_with_len}
+use Rattle.iloc_driver.proofs.Common.{◌≡◌, ◌<◌, ◌++◌, map, OnOk, sym, ap, ◌∙◌, arith, range_with_len, state, IsDone}
 use Rattle.iloc_board.specs.declared.board.state.State.TheVariants as about
-use Rattle.iloc_board.specs.Views.{state}
-use Rattle.iloc_board.specs.Working.{IsDone}
 use Rattle.iloc_driver.specs.declared.workers.Shift.{Shift}
 use Rattle.iloc_driver.specs.declared.workers.Worked.{Worked}
 use Rattle.iloc_driver.proofs.Routines as routines

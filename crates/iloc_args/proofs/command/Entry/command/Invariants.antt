@@ -1,5 +1,4 @@
-use Rattle.std.proofs.Common.{take}
-use Rattle.iloc_args.specs.Steps.Building.{HasApp, with_arguments}
+use Rattle.iloc_args.proofs.Common.{take, HasApp, with_arguments}
 use Rattle.iloc_args.proofs.command.Entry.command.Given as goal
 
 abbrev pub invariant-loop-argument : goal.invariant-loop-argument

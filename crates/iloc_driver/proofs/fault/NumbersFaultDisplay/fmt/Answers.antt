@@ -1,6 +1,5 @@
-use Rattle.std.proofs.Common.{subst, sym}
+use Rattle.iloc_driver.proofs.Common.{sym, subst, numbers_text}
 use Rattle.std.specs.Fmt.{HasWritten}
-use Rattle.iloc_driver.specs.Fault.{numbers_text}
 use Rattle.iloc_driver.proofs.fault.NumbersFaultDisplay.fmt.Goals as goal
 
 pub returns-in-NoNumber-clause-writes : goal.returns-in-NoNumber-clause-writes

@@ -1,5 +1,4 @@
-use Rattle.std.proofs.Common.{◌≡◌, length}
-use Rattle.iloc_driver.specs.Priorities.{after_word}
+use Rattle.iloc_driver.proofs.Common.{◌≡◌, length, after_word}
 use Rattle.iloc_driver.proofs.reading.priorities.after_word.Given as goal
 
 abbrev pub invariant-loop-rest : goal.invariant-loop-rest

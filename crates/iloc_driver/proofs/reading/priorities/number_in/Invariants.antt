@@ -1,5 +1,4 @@
-use Rattle.std.proofs.Common.{◌≡◌, ◌*◌, ◌≤◌, ◌^◌, length}
-use Rattle.iloc_driver.specs.Priorities.{number_after}
+use Rattle.iloc_driver.proofs.Common.{◌≡◌, ◌*◌, ◌^◌, ◌≤◌, length, number_after}
 use Rattle.iloc_driver.proofs.reading.priorities.number_in.Given as goal
 
 abbrev pub invariant-loop-rest : goal.invariant-loop-rest

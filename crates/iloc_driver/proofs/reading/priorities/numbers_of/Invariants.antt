@@ -1,6 +1,4 @@
-use Rattle.std.proofs.Common.{◌≡◌, ◌+◌, ◌-◌, ◌≤◌, length}
-use Rattle.iloc_driver.specs.Priorities.{numbers_from}
-use Rattle.iloc_driver.specs.Steps.Ranked.{before_and}
+use Rattle.iloc_driver.proofs.Common.{◌≡◌, ◌+◌, ◌-◌, ◌≤◌, length, numbers_from, before_and}
 use Rattle.iloc_driver.proofs.reading.priorities.numbers_of.Given as goal
 
 abbrev pub invariant-loop-word : goal.invariant-loop-word

@@ -1,6 +1,4 @@
-use Rattle.std.proofs.Common.{◌≡◌, ◌+◌, ◌-◌, ◌≤◌, drop, length, map}
-use Rattle.iloc_driver.specs.Priorities.{priorities_from}
-use Rattle.iloc_driver.specs.Steps.Ranked.{before_and}
+use Rattle.iloc_driver.proofs.Common.{◌≡◌, ◌+◌, ◌-◌, ◌≤◌, map, length, drop, priorities_from, before_and}
 use Rattle.iloc_driver.proofs.reading.priorities.numbers_of_all.Given as goal
 
 abbrev pub invariant-loop-alloc : goal.invariant-loop-alloc

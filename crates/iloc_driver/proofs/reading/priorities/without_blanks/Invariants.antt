@@ -1,6 +1,5 @@
-use Rattle.std.proofs.Common.{◌≡◌, length}
+use Rattle.iloc_driver.proofs.Common.{◌≡◌, length, without}
 use Rattle.iloc_text.specs.Grammar.{is_blank}
-use Rattle.iloc_driver.specs.Priorities.{without}
 use Rattle.iloc_driver.proofs.reading.priorities.without_blanks.Given as goal
 
 abbrev pub invariant-loop-rest : goal.invariant-loop-rest

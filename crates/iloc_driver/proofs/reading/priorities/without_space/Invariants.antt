@@ -1,5 +1,4 @@
-use Rattle.std.proofs.Common.{◌≡◌, length}
-use Rattle.iloc_driver.specs.Priorities.{is_space, without}
+use Rattle.iloc_driver.proofs.Common.{◌≡◌, length, is_space, without}
 use Rattle.iloc_driver.proofs.reading.priorities.without_space.Given as goal
 
 abbrev pub invariant-loop-rest : goal.invariant-loop-rest

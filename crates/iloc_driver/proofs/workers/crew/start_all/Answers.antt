@@ -1,5 +1,4 @@
-use Rattle.std.proofs.Common.{ap, ◌∙◌}
-use Rattle.std.proofs.lemmas.List.Elements.{All-rest}
+use Rattle.iloc_driver.proofs.Common.{ap, ◌∙◌, All-rest}
 use Rattle.iloc_driver.proofs.Routines as routines
 use Rattle.iloc_driver.proofs.workers.crew.start_all.Goals as goal
 

@@ -1,5 +1,4 @@
-use Rattle.std.proofs.Common.{◌≡◌, map, ◌++◌}
-use Rattle.std.specs.List.{All}
+use Rattle.iloc_driver.proofs.Common.{◌≡◌, ◌++◌, map, All}
 use Rattle.iloc_driver.proofs.workers.crew.start_all.Given as goal
 
 abbrev pub invariant-loop-routine : goal.invariant-loop-routine

@@ -1,5 +1,4 @@
-use Rattle.std.proofs.Common.{◌≡◌, ℕ, ◌<◌, ◌∙◌, sym, subst, List, length}
-use Rattle.std.specs.List.{AllZip}
+use Rattle.iloc_driver.proofs.Common.{◌≡◌, ℕ, ◌<◌, List, length, sym, ◌∙◌, subst, AllZip}
 use Rattle.iloc_driver.proofs.Routines as routines
 use Rattle.iloc_driver.proofs.workers.crew.fn.crew.scope.Goals as goal
 
