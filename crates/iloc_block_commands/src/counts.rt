@@ -8,7 +8,7 @@ use iloc_args::{Flag, Request};
 use iloc_driver::FarmedLister;
 use iloc_listing::{Listing, count_of, push_count, push_opening, push_total_of};
 use iloc_ops::{Block, Blocks, NoMemory};
-use iloc_sched::{RuledGraph, Scheduler};
+use iloc_sched::{Graph, Scheduler};
 use std::alloc::Global;
 
 /// What a table begins with.
@@ -28,7 +28,7 @@ fn push_ending(text: &mut Vec<u8>, csv: bool, cycles: &[u32]) -> Result<(), NoMe
 /// Schedules each block, and answers how many cycles its schedule takes.
 #[derive(Drop)]
 pub struct CountLister {
-    graph: RuledGraph,
+    graph: Graph,
     scheduler: Scheduler,
 }
 
@@ -56,7 +56,7 @@ impl FarmedLister for CountLister {
 
     fn new(alloc: Global) -> CountLister {
         CountLister {
-            graph: RuledGraph::new(alloc),
+            graph: Graph::new(alloc),
             scheduler: Scheduler::new(alloc),
         }
     }

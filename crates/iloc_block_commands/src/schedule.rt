@@ -4,7 +4,7 @@ ghost use Rattle.iloc_ops.specs.Limits.{MAX_BLOCKS};
 ghost use Rattle.iloc_ops.specs.declared.op.Op.{Op};
 ghost use Rattle.iloc_timed.specs.declared.latencies.Latencies.{Latencies as latencies_value};
 ghost use Rattle.iloc_rules.specs.declared.memory_rule.MemoryRule.{MemoryRule as rule_value};
-ghost use Rattle.iloc_sched.specs.Graph.GraphOf.{of_block_by};
+ghost use Rattle.iloc_sched.specs.Graph.GraphOf.{of_block};
 ghost use Rattle.iloc_sched.specs.Scheduled.{IsTheScheduleBy};
 ghost use Rattle.iloc_listing.specs.Schedules.{ranks_under};
 
@@ -13,7 +13,7 @@ use iloc_driver::FarmedLister;
 use iloc_listing::{EntryMaker, Listing, ScheduleEntry, with_total};
 use iloc_ops::{Block, Blocks, NoMemory};
 use iloc_rules::Heuristic;
-use iloc_sched::{RuledGraph, Scheduler};
+use iloc_sched::{Graph, Scheduler};
 use iloc_timed::Schedule;
 use std::alloc::Global;
 
@@ -21,25 +21,25 @@ use std::alloc::Global;
 /// by this heuristic.
 pub(crate) fn lend(
     scheduler: &mut Scheduler,
-    graph: &RuledGraph,
+    graph: &Graph,
     own: Option<&[u32]>,
     heuristic: Heuristic,
 ) -> Result<Schedule, NoMemory>
     requires { IfSome (option_copied own) (λ numbers. length numbers ≡ length graph.now.ops) }
     ensures { IfOk result (λ s. (rule : rule_value) (lat : latencies_value) (block : List Op)
-        → graph.now ≡ of_block_by rule lat block
+        → graph.now ≡ of_block rule lat block
         → IsTheScheduleBy rule (ranks_under rule heuristic lat (option_copied own.entry)) lat block s) }
 {
     match own {
-        Some(numbers) => scheduler.lend_ruled(graph, numbers),
-        None => scheduler.lend_ruled_as(graph, heuristic),
+        Some(numbers) => scheduler.lend(graph, numbers),
+        None => scheduler.lend_as(graph, heuristic),
     }
 }
 
 /// Schedules each block, and lists its schedule.
 #[derive(Drop)]
 pub struct ScheduleLister {
-    graph: RuledGraph,
+    graph: Graph,
     scheduler: Scheduler,
     entries: EntryMaker,
 }
@@ -63,7 +63,7 @@ impl FarmedLister for ScheduleLister {
 
     fn new(alloc: Global) -> ScheduleLister {
         ScheduleLister {
-            graph: RuledGraph::new(alloc),
+            graph: Graph::new(alloc),
             scheduler: Scheduler::new(alloc),
             entries: EntryMaker::new(alloc),
         }

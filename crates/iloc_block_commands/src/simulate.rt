@@ -3,14 +3,14 @@ use iloc_args::Request;
 use iloc_driver::{Lister, initial_memory};
 use iloc_listing::push_outcome;
 use iloc_ops::{Block, NoMemory};
-use iloc_sched::{RuledGraph, Scheduler};
+use iloc_sched::{Graph, Scheduler};
 use iloc_timed::Simulator;
 use std::alloc::Global;
 
 /// Runs each block's schedule, and lists what comes of it.
 #[derive(Drop)]
 pub struct SimulateLister {
-    graph: RuledGraph,
+    graph: Graph,
     scheduler: Scheduler,
     simulator: Simulator,
 }
@@ -30,7 +30,7 @@ impl Lister for SimulateLister {
     fn new(alloc: Global, request: &Request) -> Result<SimulateLister, NoMemory> {
         let memory = initial_memory(alloc, request)?;
         Ok(SimulateLister {
-            graph: RuledGraph::new(alloc),
+            graph: Graph::new(alloc),
             scheduler: Scheduler::new(alloc),
             simulator: Simulator::new(alloc, memory)?,
         })
@@ -46,7 +46,7 @@ impl Lister for SimulateLister {
     ) -> Result<(), NoMemory> {
         self.graph
             .refill(request.memory_rule(), block, &request.latencies)?;
-        let schedule = self.scheduler.lend_ruled_as(&self.graph, request.priority)?;
+        let schedule = self.scheduler.lend_as(&self.graph, request.priority)?;
         self.simulator.run(&schedule, &request.latencies)?;
         self.scheduler.take_back(schedule);
         push_outcome(text, number, block.name.as_ref(), self.simulator.outputs())

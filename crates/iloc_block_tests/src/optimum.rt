@@ -1,7 +1,7 @@
 //! The best schedule of a block, and the bound that a search proves.
 use crate::written::{USUAL, block_of, latencies};
 use iloc_optimum::Optimizer;
-use iloc_rules::Sought;
+use iloc_rules::{MemoryRule, Sought};
 use iloc_sched::Graph;
 use iloc_timed::cycles;
 use std::test::Fail;
@@ -29,12 +29,12 @@ fn proves_what_is_best(rt: HostRuntime) -> Result<(), Fail> {
     let times = latencies(USUAL)?;
     let block = block_of(rt.alloc(), FOUND)?;
     let mut graph = Graph::new(rt.alloc());
-    graph.refill(&block, &times)?;
+    graph.refill(MemoryRule::Book, &block, &times)?;
     let mut optimizer = Optimizer::new(rt.alloc());
     let first = optimizer.optimize(&block, &graph, 1000);
     for (text, nodes, wanted) in OPTIMA {
         let block = block_of(rt.alloc(), text)?;
-        graph.refill(&block, &times)?;
+        graph.refill(MemoryRule::Book, &block, &times)?;
         let optimum = optimizer.optimize(&block, &graph, *nodes)?;
         assert!(rt; optimum.bound == u64::from(wanted.bound), "{nodes}");
         assert!(rt;

@@ -16,8 +16,11 @@ pub use Rattle.iloc_timed.specs.declared.latencies.Latencies.{Latencies}
 pub use Rattle.iloc_timed.specs.declared.row.Row.{Row}
 pub use Rattle.iloc_rules.proofs.Basics.Members.{contains_from, from_any, from_filter, from_map, from_range, in_filter, in_from, in_left, in_map, in_right}
 pub use Rattle.iloc_rules.proofs.Basics.Slots.{count_by-cons, count_some, early_issued, issued_early, numbers_before}
-pub use Rattle.iloc_rules.specs.Least.{behind, count_from, cycles_from, first_start, least_of, load_tails, lowest, needed, needed_after, needed_by, of_kind, tail, tails}
+pub use Rattle.iloc_rules.specs.Least.{behind, count_from, cycles_from, load_tails, lowest, needed, of_kind, tail, tails}
 pub use Rattle.iloc_rules.specs.Steps.Members.{In}
+pub use Rattle.iloc_rules.specs.declared.memory_rule.MemoryRule.{MemoryRule}
+pub use Rattle.iloc_rules.specs.declared.memory_rule.MemoryRule.TheVariants.{Address, Book}
 pub use Rattle.iloc_sched.specs.declared.edges.Edge.{Edge}
+pub use Rattle.iloc_bound.specs.Bound.{first_start, least_of_under, needed_after, needed_by, tails_under}
 pub use Rattle.iloc_bound.specs.Shares.{Crowd, between, shares, width}
 pub use Rattle.iloc_bound.specs.Steps.Tails.{IsTailed, chain_tail, loads_by, loads_from, tail_by}

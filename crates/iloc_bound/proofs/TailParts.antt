@@ -1,13 +1,19 @@
 -- A tail is the greatest of latency, d + tail(j) over the delay pairs, and what the loads up to the next store need; for `least`.
-use Rattle.iloc_bound.proofs.Common.{◌≡◌, ℕ, zero, suc, ◌+◌, ◌<◌, max, true, false, List, [], ◌∷◌, length, drop, refl, ap, add-one, arith, drop_more, Op, op_at, is_load, is_store, kind, latency, Kind, Latencies, behind, needed, tail, tails, chain_tail, loads_by, loads_from, tail_by}
+use Rattle.iloc_bound.proofs.Common.{◌≡◌, ℕ, zero, suc, ◌+◌, ◌<◌, max, true, false, List, [], ◌∷◌, length, drop, refl, ap, add-one, arith, drop_more, Op, op_at, is_load, is_store, kind, latency, Kind, Latencies, behind, needed, tail, tails, tails_under, chain_tail, loads_by, loads_from, tail_by, MemoryRule, Address, Book}
 use Rattle.iloc_meaning.proofs.Cases.{by_bool}
 use Rattle.iloc_rules.specs.Steps.Chains.{IsChainOut}
 use Rattle.iloc_rules.proofs.Outcome.UsedEffects.{store_kind_latency}
+use Rattle.iloc_rules.specs.Apart.{by_address}
 use Rattle.iloc_rules.proofs.PriorityValues.Longest.{chain_own, chain_pairs, chain_reached}
+use Rattle.iloc_rules.proofs.PriorityValues.LongestWhere.{length_where}
 
 pub length-tails : (lat : Latencies) (ops : List Op) → length (tails lat ops) ≡ length ops
 length-tails lat [] = refl
 length-tails lat (op ∷ later) = ap suc (length-tails lat later)
+
+pub length-tails_under : (rule : MemoryRule) (lat : Latencies) (ops : List Op) → length (tails_under rule lat ops) ≡ length ops
+length-tails_under Book lat ops = length-tails lat ops
+length-tails_under Address lat ops = length_where (by_address ops) lat ops
 
 -- the part of a tail that the rule of stores leaves
 abbrev store_tail : Latencies → List Op → ℕ → ℕ

@@ -1,3 +1,4 @@
 pub mod Shares
+pub mod Bound
 pub mod Laws
 pub mod Steps

@@ -1,17 +1,20 @@
 //! How many cycles are left at least from the issue of each operation.
 ghost use Rattle.std.specs.Prelude.{◌≡◌, ◌+◌, ◌<◌, ◌≤◌, ◌^◌, length, IfOk, OnOk};
 ghost use Rattle.iloc_rules.specs.Least.{tails};
+ghost use Rattle.iloc_bound.specs.Bound.{tails_under};
+ghost use Rattle.iloc_rules.specs.declared.memory_rule.MemoryRule.TheVariants.{Book};
 ghost use Rattle.iloc_bound.specs.Steps.Tails.{tail_by, loads_by, IsTailed};
 
 use crate::needed::needed;
 use iloc_ops::{MAX_OPS, NoMemory};
-use iloc_rules::Heuristic;
+use iloc_rules::{Heuristic, MemoryRule};
 use iloc_sched::Graph;
 use iloc_timed::Kind;
 use std::alloc::Global;
 
 /// Raises by the tail of operation j the numbers of those that it waits for.
 fn raise_sources(found: &mut Vec<u32>, graph: &Graph, j: usize)
+    requires book { graph.now.rule ≡ Book }
     requires few { length graph.now.ops ≤ MAX_OPS }
     requires there { j < length graph.now.ops }
     requires tailed { IsTailed graph.now.latencies graph.now.ops found.old.items j (j + 1) }
@@ -46,9 +49,10 @@ fn tail_of(kind: Kind, chain: u32, store: u32, loads: &mut Vec<u32>) -> Result<u
     }
 }
 
-/// Fills a list with the tails of a graph's operations: how many cycles are left at least from the issue of each. A tail is
-/// there once the pairs out of its operation are gone through, which all lead to later ones.
-pub fn fill_tails(alloc: Global, found: &mut Vec<u32>, graph: &Graph) -> Result<(), NoMemory>
+/// Fills a list with the tails by the book. A tail is there once the pairs out of its operation are gone through, which all
+/// lead to later ones.
+fn fill_by_the_book(alloc: Global, found: &mut Vec<u32>, graph: &Graph) -> Result<(), NoMemory>
+    requires { graph.now.rule ≡ Book }
     ensures { OnOk result (found.new.items ≡ tails graph.now.latencies graph.now.ops) }
 {
     graph.rank(Heuristic::Latency, found)?;
@@ -62,4 +66,14 @@ pub fn fill_tails(alloc: Global, found: &mut Vec<u32>, graph: &Graph) -> Result<
         raise_sources(found, graph, j);
     }
     Ok(())
+}
+
+/// Fills a list with the tails of a graph's operations by its rule: how many cycles are left at least from the issue of each.
+pub fn fill_tails(alloc: Global, found: &mut Vec<u32>, graph: &Graph) -> Result<(), NoMemory>
+    ensures { OnOk result (found.new.items ≡ tails_under graph.now.rule graph.now.latencies graph.now.ops) }
+{
+    match graph.rule() {
+        MemoryRule::Book => fill_by_the_book(alloc, found, graph),
+        MemoryRule::Address => graph.chains(found),
+    }
 }

@@ -4,6 +4,7 @@ ghost use Rattle.std.specs.Fmt.{decimal};
 ghost use Rattle.std.specs.List.{flat_map};
 ghost use Rattle.std.specs.Option.{option_copied};
 ghost use Rattle.iloc_rules.specs.Renaming.{renamed, without_nops};
+ghost use Rattle.iloc_rules.specs.declared.memory_rule.MemoryRule.TheVariants.{Book};
 ghost use Rattle.iloc_graph.specs.Listing as listed;
 ghost use Rattle.iloc_graph.specs.Listing.{IsCluster};
 
@@ -239,7 +240,8 @@ pub fn push_cluster(
     block: &Block,
     graph: &Graph,
 ) -> Result<(), NoMemory>
-    requires { graph.now.ops ≡ renamed block.now.ops }
+    requires graph { graph.now.ops ≡ renamed block.now.ops }
+    requires book { graph.now.rule ≡ Book }
     ensures { OnOk result ((cluster : List ℕ)
         × IsCluster graph.now.latencies number block.now.name block.now.ops cluster
         × (text.new.items ≡ text.old.items ++ cluster)) }

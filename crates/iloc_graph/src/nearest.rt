@@ -1,5 +1,6 @@
 //! The delay pairs that no others imply.
 ghost use Rattle.std.specs.Prelude.{ℕ, ◌≡◌, ◌++◌, ◌<◌, length, map, slice_index, IfOk, OnOk};
+ghost use Rattle.iloc_rules.specs.declared.memory_rule.MemoryRule.TheVariants.{Book};
 ghost use Rattle.iloc_graph.specs.Nearest as near;
 ghost use Rattle.iloc_graph.specs.Nearest.{pair_of};
 
@@ -11,7 +12,8 @@ use std::alloc::Global;
 
 /// The operations from which nearest pairs lead to operation j, by rising number.
 fn sources(alloc: Global, graph: &Graph, j: usize) -> Result<Vec<usize>, NoMemory>
-    requires { j < length graph.now.ops }
+    requires book { graph.now.rule ≡ Book }
+    requires there { j < length graph.now.ops }
     ensures { IfOk result (λ found. found.items ≡ near.sources graph.now.ops j) }
 {
     let mut found = Vec::new(alloc);
@@ -64,6 +66,7 @@ fn push_pairs(
 ///
 /// Promise: The pairs are just the nearest ones, each once, in that order.
 pub(crate) fn nearest_pairs(alloc: Global, graph: &Graph) -> Result<Vec<Pair>, NoMemory>
+    requires { graph.now.rule ≡ Book }
     ensures { IfOk result (λ pairs. pairs.items ≡ near.nearest_pairs graph.now.latencies graph.now.ops) }
 {
     let ops = graph.ops();

@@ -1,6 +1,6 @@
 //! The best schedule of a block.
 ghost use Rattle.std.specs.Prelude.{◌≡◌, ◌≤◌, ◌<◌, ◌+◌, ◌-◌, ◌^◌, ◌⊎◌, length, map, replicate, IfOk, OnOk};
-ghost use Rattle.iloc_rules.specs.Least.{tails};
+ghost use Rattle.iloc_bound.specs.Bound.{tails_under};
 ghost use Rattle.iloc_rules.specs.Renaming.{renamed};
 ghost use Rattle.iloc_optimum.specs.Optimum.{IsOptimumOf, IsSought, IsSoughtIf, cycles_of};
 ghost use Rattle.iloc_optimum.specs.Steps.Improving.{IsShortened};
@@ -22,7 +22,7 @@ pub const MOST_SEARCHED: usize = 300;
 #[derive(Debug, Drop)]
 pub struct Optimum {
     pub schedule: Schedule,
-    /// No lawful schedule of the block takes fewer cycles.
+    /// No schedule of the block that is lawful by the same rule takes fewer cycles.
     pub bound: u64,
 }
 
@@ -62,14 +62,14 @@ fn try_order(
     heuristic: Heuristic,
 ) -> Result<(), NoMemory>
     requires { graph.now.ops ≡ renamed block.now.ops }
-    ensures { OnOk result (IsShortened graph.now.latencies block.now.ops heuristic best.old best.new) }
+    ensures { OnOk result (IsShortened graph.now.rule graph.now.latencies block.now.ops heuristic best.old best.new) }
 {
     let other = scheduler.lend_as(graph, heuristic)?;
     keep_shorter(scheduler, graph.latencies(), best, other);
     Ok(())
 }
 
-/// The shortest of the schedules that are greedy by a heuristic, with `least` for the bound.
+/// The shortest of the schedules that are greedy by a heuristic, with the least for the bound.
 fn best_of_orders(
     alloc: Global,
     scheduler: &mut Scheduler,
@@ -77,7 +77,7 @@ fn best_of_orders(
     graph: &Graph,
 ) -> Result<Optimum, NoMemory>
     requires { graph.now.ops ≡ renamed block.now.ops }
-    ensures { IfOk result (IsOptimumOf graph.now.latencies block.now.ops) }
+    ensures { IfOk result (IsOptimumOf graph.now.rule graph.now.latencies block.now.ops) }
 {
     let least = least_of(alloc, graph)?;
     let mut best = scheduler.lend_as(graph, Heuristic::Chain)?;
@@ -105,7 +105,7 @@ fn rests_of(alloc: Global, numbers: &[u32], limit: u32) -> Result<Vec<u32>, NoMe
 fn windows_within(alloc: Global, graph: &Graph, limit: u32) -> Result<Windows, NoMemory>
     ensures firsts { IfOk result (λ w. w.firsts.items ≡ replicate (length graph.now.ops) 0) }
     ensures lasts { IfOk result (λ w.
-        w.lasts.items ≡ map (λ tail. limit - tail) (tails graph.now.latencies graph.now.ops)) }
+        w.lasts.items ≡ map (λ tail. limit - tail) (tails_under graph.now.rule graph.now.latencies graph.now.ops)) }
 {
     let mut firsts = Vec::new(alloc);
     firsts.resize(graph.ops().len(), 0)?;
@@ -127,9 +127,9 @@ fn improve(
     nodes: u32,
 ) -> Result<bool, NoMemory>
     requires graph { graph.now.ops ≡ renamed block.now.ops }
-    requires known { IsOptimumOf graph.now.latencies block.now.ops optimum.old }
+    requires known { IsOptimumOf graph.now.rule graph.now.latencies block.now.ops optimum.old }
     requires above { optimum.old.bound ≤ limit }
-    ensures known { OnOk result (IsOptimumOf graph.now.latencies block.now.ops optimum.new) }
+    ensures known { OnOk result (IsOptimumOf graph.now.rule graph.now.latencies block.now.ops optimum.new) }
     ensures above { OnOk result (optimum.new.bound ≤ limit + 1) }
 {
     let windows = windows_within(alloc, graph, limit)?;
@@ -164,8 +164,8 @@ fn search_upwards(
     nodes: u32,
 ) -> Result<(), NoMemory>
     requires graph { graph.now.ops ≡ renamed block.now.ops }
-    requires known { IsOptimumOf graph.now.latencies block.now.ops optimum.old }
-    ensures { OnOk result (IsOptimumOf graph.now.latencies block.now.ops optimum.new) }
+    requires known { IsOptimumOf graph.now.rule graph.now.latencies block.now.ops optimum.old }
+    ensures { OnOk result (IsOptimumOf graph.now.rule graph.now.latencies block.now.ops optimum.new) }
 {
     if block.ops.len() > MOST_SEARCHED {
         return Ok(());
@@ -195,13 +195,14 @@ impl Optimizer {
         }
     }
 
-    /// The best schedule that is found for a block, by its dependence graph, and a bound on the cycles of its lawful schedules:
-    /// the shortest of the greedy schedules by each heuristic, or one that a search finds with so many nodes, at most
-    /// `MOST_NODES`, for each number of cycles that is tried. A block of more than `MOST_SEARCHED` operations isn't searched.
-    /// After a refusal the next block is scheduled as after any other.
+    /// The best schedule that is found for a block, by its dependence graph and the graph's rule of memory, and a bound on the
+    /// cycles of the schedules that are lawful by the rule: the shortest of the greedy schedules by each heuristic, or one that a
+    /// search finds with so many nodes, at most `MOST_NODES`, for each number of cycles that is tried. A block of more than
+    /// `MOST_SEARCHED` operations isn't searched. After a refusal the next block is scheduled as after any other.
     ///
-    /// Promise: The schedule is lawful, with the block's outcome on every memory, and takes at most as many cycles as each
-    /// greedy one. No lawful schedule takes fewer cycles than the bound, which is at least that of `iloc_bound::least`.
+    /// Promise: The schedule is lawful by the rule, with the block's outcome on every memory, and takes at most as many cycles as
+    /// each greedy one. No schedule that is lawful by it takes fewer cycles than the bound, which is at least that of
+    /// `iloc_bound::least_of`.
     pub fn optimize(
         &mut self,
         block: &Block,
@@ -209,7 +210,7 @@ impl Optimizer {
         nodes: u32,
     ) -> Result<Optimum, NoMemory>
         requires { graph.now.ops ≡ renamed block.now.ops }
-        ensures { IfOk result (IsOptimumOf graph.now.latencies block.now.ops) }
+        ensures { IfOk result (IsOptimumOf graph.now.rule graph.now.latencies block.now.ops) }
     {
         let mut optimum = best_of_orders(self.alloc, &mut self.scheduler, block, graph)?;
         search_upwards(
@@ -228,7 +229,7 @@ impl Optimizer {
     /// Promise: They are the numbers of a schedule and a bound of which `optimize` promises as much.
     pub fn seek(&mut self, block: &Block, graph: &Graph, nodes: u32) -> Result<Sought, NoMemory>
         requires { graph.now.ops ≡ renamed block.now.ops }
-        ensures { IfOk result (IsSought graph.now.latencies block.now.ops) }
+        ensures { IfOk result (IsSought graph.now.rule graph.now.latencies block.now.ops) }
     {
         let optimum = self.optimize(block, graph, nodes)?;
         let sought = Sought {
@@ -247,7 +248,7 @@ impl Optimizer {
         nodes: Option<u32>,
     ) -> Result<Option<Sought>, NoMemory>
         requires { graph.now.ops ≡ renamed block.now.ops }
-        ensures { IfOk result (IsSoughtIf nodes graph.now.latencies block.now.ops) }
+        ensures { IfOk result (IsSoughtIf nodes graph.now.rule graph.now.latencies block.now.ops) }
     {
         match nodes {
             Some(nodes) => Ok(Some(self.seek(block, graph, nodes)?)),

@@ -11,6 +11,7 @@ use Rattle.iloc_timed.specs.Cycles.{cycles}
 use Rattle.iloc_rows.specs.declared.proposal.Proposed.{Proposed}
 use Rattle.iloc_rows.specs.declared.proposal.unread.Unread.{Unread}
 use Rattle.iloc_rules.specs.declared.heuristic.Heuristic.TheVariants.{Chain}
+use Rattle.iloc_rules.specs.declared.memory_rule.MemoryRule.TheVariants.{Book}
 use Rattle.iloc_rules.specs.Greedy.{IsGreedy}
 use Rattle.iloc_rules.specs.Least.{least}
 use Rattle.iloc_bound.proofs.LeastBound.{least_bound}
@@ -40,7 +41,7 @@ small_check (Some unread) options lat memory block s p c entry check greedy shor
 -- what was appended is the entry
 pub check_listed : (options : CheckOptions) (nodes : Option ℕ) (lat : Latencies) (memory start : List ℤ) (k : ℕ) (b : Block)
     (s : Table) (p : Proposed) (c : Checked) (text headed more said : List ℕ) (name : Option (List ℕ))
-    → IsGreedy lat b.ops s.ops s.rows → IsSoughtIf nodes lat b.ops c.sought
+    → IsGreedy lat b.ops s.ops s.rows → IsSoughtIf nodes Book lat b.ops c.sought
     → memory ≡ start → name ≡ b.name → headed ≡ text ++ check_head options.form k name
     → IsSaid p.unread options lat memory b.ops s p c said → more ≡ headed ++ said
     → Adds (IsCheckEntry options nodes lat start k (b, p)) text more c

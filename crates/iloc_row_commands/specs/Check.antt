@@ -9,6 +9,7 @@ use Rattle.iloc_timed.specs.Schedule.{Table}
 use Rattle.iloc_rows.specs.declared.proposal.Proposed.{Proposed}
 use Rattle.iloc_rows.specs.declared.proposal.unread.Unread.{Unread}
 use Rattle.iloc_rules.specs.declared.heuristic.Heuristic.TheVariants.{Chain}
+use Rattle.iloc_rules.specs.declared.memory_rule.MemoryRule.TheVariants.{Book}
 use Rattle.iloc_verdict.specs.declared.checked.Checked.{Checked}
 use Rattle.iloc_comparison.specs.declared.task.CheckOptions.{CheckOptions}
 use Rattle.iloc_comparison.specs.declared.task.Form.{Form}
@@ -82,7 +83,7 @@ pub record IsCheckEntry (options : CheckOptions) (nodes : Option ℕ) (lat : Lat
     (of : Block × Proposed) (entry : List ℕ) (checked : Checked) : Type 0 where
   pub ours : Table
   pub greedy : IsTheGreedy Chain lat of.0 ours
-  pub sought : IsSoughtIf nodes lat of.0.ops checked.sought
+  pub sought : IsSoughtIf nodes Book lat of.0.ops checked.sought
   pub text : List ℕ
   pub right : IsSaid of.1.unread options lat memory of.0.ops ours of.1 checked text
   pub listed : entry ≡ check_head options.form k of.0.name ++ text

@@ -18,7 +18,7 @@ use iloc_meaning::Memory;
 use iloc_ops::{Block, Name, NoMemory};
 use iloc_optimum::Optimizer;
 use iloc_rows::Proposal;
-use iloc_rules::Heuristic;
+use iloc_rules::{Heuristic, MemoryRule};
 use iloc_sched::{Graph, Scheduler};
 use iloc_timed::MAX_ROWS;
 use iloc_verdict::{Checked, push_unread};
@@ -187,7 +187,7 @@ impl RowLister for CheckLister {
     ) -> Result<Checked, NoMemory> {
         let latencies = &request.latencies;
         prove!(proposal.rows().len() <= MAX_ROWS);
-        self.graph.refill(block, latencies)?;
+        self.graph.refill(MemoryRule::Book, block, latencies)?;
         let least = least_of(alloc, &self.graph)?;
         let sought = self.optimizer.seek_if(block, &self.graph, request.nodes)?;
         let ours = self.scheduler.lend_as(&self.graph, Heuristic::Chain)?;

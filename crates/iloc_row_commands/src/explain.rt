@@ -14,6 +14,7 @@ use iloc_driver::{Finding, RowLister};
 use iloc_listing::{push_block_head, push_total};
 use iloc_ops::{Block, NoMemory};
 use iloc_rows::Proposal;
+use iloc_rules::MemoryRule;
 use iloc_sched::{Graph, Scheduler};
 use iloc_timed::MAX_ROWS;
 use std::alloc::Global;
@@ -83,7 +84,7 @@ impl RowLister for RowsExplainer {
     ) -> Result<ExplainedRows, NoMemory> {
         let (latencies, priority) = (&request.latencies, request.priority);
         prove!(proposal.rows().len() <= MAX_ROWS);
-        self.graph.refill(block, latencies)?;
+        self.graph.refill(MemoryRule::Book, block, latencies)?;
         let ours = self.scheduler.lend_as(&self.graph, priority)?;
         push_block_head(text, number, block.name.as_ref())?;
         text.push(b'\n')?;

@@ -45,7 +45,7 @@ pub use Rattle.iloc_rules.specs.Steps.Stands.{Stands}
 pub use Rattle.iloc_rules.specs.declared.memory_rule.MemoryRule.{MemoryRule}
 pub use Rattle.iloc_rules.specs.declared.memory_rule.MemoryRule.TheVariants.{Address, Book}
 pub use Rattle.iloc_addresses.specs.Dependences.{AreSources}
-pub use Rattle.iloc_sched.specs.Graph.GraphOf.{GraphOf, RuledGraphOf}
+pub use Rattle.iloc_sched.specs.Graph.GraphOf.{GraphOf}
 pub use Rattle.iloc_sched.specs.Graph.Near.{IsNear, IsNearPair, NoneBetween, takes_over}
 pub use Rattle.iloc_sched.specs.Steps.Chains.{ArePrioritiesFrom, AreRaised, AreStartsBefore, IsBefore, IsFrom, IsRaised}
 pub use Rattle.iloc_sched.specs.Steps.Cycle.Calendar.{HasRoom, HasSameSets, IsFirst, IsWithin, KeepsRoom, Puts, Releases, has, offers}

@@ -1,16 +1,16 @@
 //! The dependence graph of a block.
-ghost use Rattle.std.specs.Prelude.{ℕ, ◌≡◌, ◌≤◌, ◌<◌, ◌+◌, List, [], length, map, All, Any, IfErr, IfOk, OnOk};
+ghost use Rattle.std.specs.Prelude.{ℕ, ◌≡◌, ◌≤◌, ◌<◌, ◌+◌, List, [], length, map, All, Any, IfErr, OnOk};
 ghost use Rattle.iloc_ops.specs.declared.op.Op.{Op};
 ghost use Rattle.iloc_timed.specs.Kinds.{kind};
-ghost use Rattle.iloc_rules.specs.Delays.{IsDelayPair};
-ghost use Rattle.iloc_sched.specs.Graph.GraphOf.{GraphOf, RuledGraphOf, of_block, of_block_by};
-ghost use Rattle.iloc_rules.specs.declared.memory_rule.MemoryRule.TheVariants.{Book};
-ghost use Rattle.iloc_rules.specs.Heuristics.{priorities_by, priorities_by_where};
-ghost use Rattle.iloc_sched.specs.Graph.Near.{IsNearPair};
-ghost use Rattle.iloc_rules.specs.Priority.{priorities, priorities_where};
+ghost use Rattle.iloc_rules.specs.Delays.{IsDelayPairWhere};
+ghost use Rattle.iloc_rules.specs.Heuristics.{priorities_by_where};
+ghost use Rattle.iloc_rules.specs.Priority.{priorities_where};
 ghost use Rattle.iloc_rules.specs.Renaming.{renamed};
 ghost use Rattle.iloc_rules.specs.Rule.{counts_by};
-ghost use Rattle.iloc_rules.specs.Starts.{starts, starts_where};
+ghost use Rattle.iloc_rules.specs.Starts.{starts_where};
+ghost use Rattle.iloc_rules.specs.declared.memory_rule.MemoryRule.TheVariants.{Book};
+ghost use Rattle.iloc_sched.specs.Graph.GraphOf.{GraphOf, of_block};
+ghost use Rattle.iloc_sched.specs.Graph.Near.{IsNearPair};
 ghost use Rattle.iloc_sched.specs.declared.edges.Edge.{Edge as edge_value};
 ghost use Rattle.iloc_sched.specs.Steps.Edges.SoundGraph.{IsSound};
 
@@ -30,17 +30,17 @@ use std::marker::Model;
 /// The dependence graph of a block by a rule of memory: its renamed operations, their latencies, and delay pairs that are
 /// kept as edges, from which every other follows. Its buffers are kept from block to block.
 #[derive(Drop)]
-pub struct RuledGraph {
+pub struct Graph {
     alloc: Global,
     names: Names,
     lasts: Lasts,
     tables: Tables,
 }
 
-impl Model for RuledGraph {
-    ghost use Rattle.iloc_sched.specs.Graph.GraphOf.{RuledGraphOf};
+impl Model for Graph {
+    ghost use Rattle.iloc_sched.specs.Graph.GraphOf.{GraphOf};
 
-    ghost Value = { RuledGraphOf };
+    ghost Value = { GraphOf };
 
     ghost use Rattle.iloc_sched.specs.Steps.Edges.SoundGraph.{IsOfBlock};
 
@@ -49,13 +49,13 @@ impl Model for RuledGraph {
     ghost invariant = { λ g. IsOfBlock g.tables };
 }
 
-impl RuledGraph {
+impl Graph {
     /// The graph of a block without operations.
-    pub fn new(alloc: Global) -> RuledGraph
+    pub fn new(alloc: Global) -> Graph
         ensures ops { result.ops ≡ [] }
         ensures rule { result.rule ≡ Book }
     {
-        RuledGraph {
+        Graph {
             alloc,
             names: Names::new(alloc),
             lasts: Lasts::new(alloc),
@@ -72,7 +72,7 @@ impl RuledGraph {
         latencies: &Latencies,
     ) -> Result<(), NoMemory>
         requires { length block.now.ops ≤ MAX_OPS }
-        ensures graph { OnOk result (self.new ≡ of_block_by rule latencies.now block.now.ops) }
+        ensures graph { OnOk result (self.new ≡ of_block rule latencies.now block.now.ops) }
         ensures empty { IfErr result (λ _. self.new.ops ≡ []) }
         ensures rule { IfErr result (λ _. self.new.rule ≡ Book) }
     {
@@ -98,12 +98,64 @@ impl RuledGraph {
         }
     }
 
+    /// By what the operations wait for each other by memory.
+    pub fn rule(&self) -> MemoryRule
+        ensures { result ≡ self.now.rule }
+    {
+        self.tables.rule
+    }
+
     /// The renamed operations, at most `MAX_OPS`.
     pub fn ops(&self) -> &[Op]
         ensures ops { result.now ≡ self.now.ops }
         ensures few { length self.now.ops ≤ MAX_OPS }
     {
         self.tables.ops.as_slice()
+    }
+
+    /// The latencies.
+    pub fn latencies(&self) -> &Latencies
+        ensures { result.now ≡ self.now.latencies }
+    {
+        &self.tables.latencies
+    }
+
+    /// By operation its kind.
+    pub fn kinds(&self) -> &[Kind]
+        ensures kinds { result.now ≡ map kind self.now.ops }
+        ensures few { length self.now.ops ≤ MAX_OPS }
+    {
+        self.tables.kinds.as_slice()
+    }
+
+    /// The kept edges, those into an operation side by side and before those into later ones.
+    ///
+    /// Promise: Each is a delay pair of the operations by the graph's rule. By the book each near pair has an edge that is at
+    /// least as long.
+    pub fn edges(&self) -> &[Edge]
+        ensures each { All (λ (e : edge_value). IsDelayPairWhere (counts_by self.now.rule self.now.ops)
+            self.now.latencies self.now.ops e.from e.to e.delay) result.now }
+        ensures all { self.now.rule ≡ Book → (i j d : ℕ) → IsNearPair self.now.latencies self.now.ops i j d
+            → Any (λ (e : edge_value). (e.from ≡ i) × (e.to ≡ j) × (d ≤ e.delay)) result.now }
+    {
+        self.tables.edges.as_slice()
+    }
+
+    /// The kept edges into operation j.
+    ///
+    /// Promise: Each is a delay pair by the graph's rule. By the book each is a near pair, and each near pair has an edge that is
+    /// at least as long.
+    pub fn edges_into(&self, j: usize) -> &[Edge]
+        requires { j < length self.now.ops }
+        ensures each { All (λ (e : edge_value). (e.to ≡ j) × IsDelayPairWhere (counts_by self.now.rule self.now.ops)
+            self.now.latencies self.now.ops e.from j e.delay) result.now }
+        ensures near { self.now.rule ≡ Book → All (λ (e : edge_value). (e.to ≡ j)
+            × IsNearPair self.now.latencies self.now.ops e.from j e.delay) result.now }
+        ensures all { self.now.rule ≡ Book → (i d : ℕ) → IsNearPair self.now.latencies self.now.ops i j d
+            → Any (λ (e : edge_value). (e.from ≡ i) × (d ≤ e.delay)) result.now }
+    {
+        let edges = &self.tables.edges;
+        &edges.as_slice()[edges.start(j) as usize..edges.start(j + 1) as usize]
     }
 
     /// Fills a list with the longest chain of delays from each operation, up to the end of the block, by its rule.
@@ -122,8 +174,7 @@ impl RuledGraph {
         fill_starts(found, &self.tables)
     }
 
-    /// Fills a list with the priorities of the operations by a heuristic and by its rule; who waits directly
-    /// (`Heuristic::Successors`) is counted by the book alone.
+    /// Fills a list with the priorities of the operations by a heuristic and by its rule.
     #[inline(always)]
     pub fn rank(&self, heuristic: Heuristic, found: &mut Vec<u32>) -> Result<(), NoMemory>
         ensures { OnOk result (found.new.items
@@ -140,122 +191,5 @@ impl RuledGraph {
             ≡ record { rule = result.now.rule; ops = result.now.ops.items; latencies = result.now.latencies } }
     {
         &self.tables
-    }
-}
-
-/// The dependence graph of a block: its renamed operations, their latencies, and the delay pairs that are kept as edges,
-/// from which every other follows. Its buffers are kept from block to block.
-#[derive(Drop)]
-pub struct Graph {
-    ruled: RuledGraph,
-}
-
-impl Model for Graph {
-    ghost use Rattle.iloc_sched.specs.Graph.GraphOf.{GraphOf};
-
-    ghost Value = { GraphOf };
-
-    ghost use Rattle.std.specs.Prelude.{◌≡◌};
-    ghost use Rattle.iloc_rules.specs.declared.memory_rule.MemoryRule.TheVariants.{Book};
-
-    ghost view = { λ g. record { ops = g.ruled.ops; latencies = g.ruled.latencies } };
-
-    ghost invariant = { λ g. g.ruled.rule ≡ Book };
-}
-
-impl Graph {
-    /// The graph of a block without operations.
-    pub fn new(alloc: Global) -> Graph
-        ensures { result.ops ≡ [] }
-    {
-        Graph {
-            ruled: RuledGraph::new(alloc),
-        }
-    }
-
-    /// Becomes the graph of a block, of at most `MAX_OPS` operations. After a refusal it is that of a block without any.
-    pub fn refill(&mut self, block: &Block, latencies: &Latencies) -> Result<(), NoMemory>
-        requires { length block.now.ops ≤ MAX_OPS }
-        ensures graph { OnOk result (self.new ≡ of_block latencies.now block.now.ops) }
-        ensures empty { IfErr result (λ _. self.new.ops ≡ []) }
-    {
-        self.ruled.refill(MemoryRule::Book, block, latencies)
-    }
-
-    /// The renamed operations, at most `MAX_OPS`.
-    pub fn ops(&self) -> &[Op]
-        ensures ops { result.now ≡ self.now.ops }
-        ensures few { length self.now.ops ≤ MAX_OPS }
-    {
-        self.ruled.ops()
-    }
-
-    /// The latencies.
-    pub fn latencies(&self) -> &Latencies
-        ensures { result.now ≡ self.now.latencies }
-    {
-        &self.ruled.tables().latencies
-    }
-
-    /// By operation its kind.
-    pub fn kinds(&self) -> &[Kind]
-        ensures kinds { result.now ≡ map kind self.now.ops }
-        ensures few { length self.now.ops ≤ MAX_OPS }
-    {
-        self.ruled.tables().kinds.as_slice()
-    }
-
-    /// The kept edges, those into an operation side by side and before those into later ones.
-    ///
-    /// Promise: Each is a delay pair of the operations, and each near pair has an edge that is at least as long.
-    pub fn edges(&self) -> &[Edge]
-        ensures each { All (λ (e : edge_value). IsDelayPair self.now.latencies self.now.ops e.from e.to e.delay) result.now }
-        ensures all { (i j d : ℕ) → IsNearPair self.now.latencies self.now.ops i j d
-            → Any (λ (e : edge_value). (e.from ≡ i) × (e.to ≡ j) × (d ≤ e.delay)) result.now }
-    {
-        self.ruled.tables().edges.as_slice()
-    }
-
-    /// The kept edges into operation j.
-    ///
-    /// Promise: Each is a near pair, and each near pair has an edge that is at least as long.
-    pub fn edges_into(&self, j: usize) -> &[Edge]
-        requires { j < length self.now.ops }
-        ensures each { All (λ (e : edge_value). (e.to ≡ j)
-            × IsNearPair self.now.latencies self.now.ops e.from j e.delay) result.now }
-        ensures all { (i d : ℕ) → IsNearPair self.now.latencies self.now.ops i j d
-            → Any (λ (e : edge_value). (e.from ≡ i) × (d ≤ e.delay)) result.now }
-    {
-        let edges = &self.ruled.tables().edges;
-        &edges.as_slice()[edges.start(j) as usize..edges.start(j + 1) as usize]
-    }
-
-    /// Fills a list with the longest chain of delays from each operation, up to the end of the block.
-    pub fn chains(&self, found: &mut Vec<u32>) -> Result<(), NoMemory>
-        ensures { OnOk result (found.new.items ≡ priorities self.now.latencies self.now.ops) }
-    {
-        self.ruled.chains(found)
-    }
-
-    /// Fills a list with the longest chain of delays to each operation: the first cycle at which it can be issued.
-    pub fn starts(&self, found: &mut Vec<u32>) -> Result<(), NoMemory>
-        ensures { OnOk result (found.new.items ≡ starts self.now.latencies self.now.ops) }
-    {
-        self.ruled.starts(found)
-    }
-
-    /// Fills a list with the priorities of the operations by a heuristic.
-    #[inline(always)]
-    pub fn rank(&self, heuristic: Heuristic, found: &mut Vec<u32>) -> Result<(), NoMemory>
-        ensures { OnOk result (found.new.items ≡ priorities_by heuristic self.now.latencies self.now.ops) }
-    {
-        self.ruled.rank(heuristic, found)
-    }
-
-    /// The same, with its rule.
-    pub(crate) fn ruled(&self) -> &RuledGraph
-        ensures { result.now ≡ record { rule = Book; ops = self.now.ops; latencies = self.now.latencies } }
-    {
-        &self.ruled
     }
 }

@@ -14,7 +14,7 @@ mod scheduler;
 mod tables;
 
 pub use edges::Edge;
-pub use graph::{Graph, RuledGraph};
+pub use graph::Graph;
 pub use iloc_rules::{Pair, pairs};
 pub use ranking::{priorities, priorities_by};
 pub use renaming::rename;

@@ -3,7 +3,7 @@ ghost use Rattle.std.specs.Prelude.{◌≡◌, ◌≤◌, ◌+◌, ◌*◌, List
 ghost use Rattle.iloc_ops.specs.declared.op.Op.{Op};
 ghost use Rattle.iloc_timed.specs.declared.latencies.Latencies.{Latencies as latencies_value};
 ghost use Rattle.iloc_rules.specs.declared.memory_rule.MemoryRule.{MemoryRule as rule_value};
-ghost use Rattle.iloc_sched.specs.Graph.GraphOf.{of_block, of_block_by};
+ghost use Rattle.iloc_sched.specs.Graph.GraphOf.{of_block};
 ghost use Rattle.iloc_rules.specs.Greedy.{IsGreedyWhere};
 ghost use Rattle.iloc_rules.specs.Heuristics.{priorities_by};
 ghost use Rattle.iloc_rules.specs.Priority.{priorities, priorities_where};
@@ -16,7 +16,7 @@ use crate::cycle::calendar::SHORT;
 use crate::cycle::order::Order;
 use crate::cycle::plan::Plan;
 use crate::cycle::waiting::Waiting;
-use crate::graph::{Graph, RuledGraph};
+use crate::graph::Graph;
 use iloc_ops::{Block, MAX_OPS, NoMemory, Op};
 use iloc_rules::{Heuristic, LONGEST_DELAY, MemoryRule};
 use iloc_timed::{Latencies, Row, Schedule};
@@ -48,28 +48,16 @@ impl Scheduler {
         }
     }
 
-    /// The schedule of a graph's block that is greedy by these priorities, one for each operation: in each cycle the first of
-    /// the ready operations is issued, with the first of the others that can go beside it, in order of falling priority, then of
-    /// number. It is in own buffers, which `take_back` takes back, and the graph stays as it is.
-    ///
-    /// Promise: It is the only schedule of the block that is greedy by these priorities, with the block's outcome, and its
-    /// cycles lie between the bounds of `schedule`, whatever graphs came before.
-    pub fn lend(&mut self, graph: &Graph, ranks: &[u32]) -> Result<Schedule, NoMemory>
-        requires { length ranks.now ≡ length graph.now.ops }
-        ensures { IfOk result (λ s. (lat : latencies_value) (block : List Op) → graph.now ≡ of_block lat block
-            → IsTheSchedule (λ _. ranks.now) lat block s) }
-    {
-        self.lend_ruled(graph.ruled(), ranks)
-    }
-
-    /// The same by a graph's rule of memory.
+    /// The schedule of a graph's block that is greedy by these priorities, one for each operation, and by the graph's rule of
+    /// memory: in each cycle the first of the ready operations is issued, with the first of the others that can go beside it, in
+    /// order of falling priority, then of number. It is in own buffers, which `take_back` takes back, and the graph stays as it is.
     ///
     /// Promise: It is the only schedule of the block that is greedy by these priorities and by the graph's rule, with the block's
-    /// outcome, whatever graphs came before.
-    pub fn lend_ruled(&mut self, graph: &RuledGraph, ranks: &[u32]) -> Result<Schedule, NoMemory>
+    /// outcome, and its cycles lie between the bounds of `schedule`, whatever graphs came before.
+    pub fn lend(&mut self, graph: &Graph, ranks: &[u32]) -> Result<Schedule, NoMemory>
         requires { length ranks.now ≡ length graph.now.ops }
         ensures { IfOk result (λ s. (rule : rule_value) (lat : latencies_value) (block : List Op) →
-            graph.now ≡ of_block_by rule lat block → IsTheScheduleBy rule (λ _. ranks.now) lat block s) }
+            graph.now ≡ of_block rule lat block → IsTheScheduleBy rule (λ _. ranks.now) lat block s) }
     {
         let tables = graph.tables();
         self.order.fill(ranks)?;
@@ -88,32 +76,17 @@ impl Scheduler {
         Ok(Schedule::of_table(ops, rows))
     }
 
-    /// The schedule of a graph's block that is greedy by a heuristic, lent as `lend` does.
-    ///
-    /// Promise: It is the only greedy schedule of the block by the heuristic's priorities, with the block's outcome, and its
-    /// cycles lie between the bounds of `schedule`.
-    pub fn lend_as(&mut self, graph: &Graph, heuristic: Heuristic) -> Result<Schedule, NoMemory>
-        ensures { IfOk result (λ s. (lat : latencies_value) (block : List Op) → graph.now ≡ of_block lat block
-            → IsTheSchedule (priorities_by heuristic lat) lat block s) }
-    {
-        self.lend_ruled_as(graph.ruled(), heuristic)
-    }
-
-    /// The same by a graph's rule of memory.
+    /// The schedule of a graph's block that is greedy by a heuristic and by the graph's rule, lent as `lend` does.
     ///
     /// Promise: It is the only schedule of the block that is greedy by the heuristic's priorities and by the graph's rule, with
-    /// the block's outcome, whatever graphs came before.
-    pub fn lend_ruled_as(
-        &mut self,
-        graph: &RuledGraph,
-        heuristic: Heuristic,
-    ) -> Result<Schedule, NoMemory>
+    /// the block's outcome, and its cycles lie between the bounds of `schedule`.
+    pub fn lend_as(&mut self, graph: &Graph, heuristic: Heuristic) -> Result<Schedule, NoMemory>
         ensures { IfOk result (λ s. (rule : rule_value) (lat : latencies_value) (block : List Op) →
-            graph.now ≡ of_block_by rule lat block → IsTheScheduleBy rule (priorities_under rule heuristic lat) lat block s) }
+            graph.now ≡ of_block rule lat block → IsTheScheduleBy rule (priorities_under rule heuristic lat) lat block s) }
     {
         let mut ranks = mem::replace(&mut self.ranks, Vec::new(self.alloc));
         graph.rank(heuristic, &mut ranks)?;
-        let lent = self.lend_ruled(graph, &ranks);
+        let lent = self.lend(graph, &ranks);
         self.ranks = ranks;
         lent
     }
@@ -163,7 +136,7 @@ pub fn schedule_as(
     ensures { IfOk result (IsTheSchedule (priorities_by heuristic latencies.now) latencies.now block.now.ops) }
 {
     let mut graph = Graph::new(alloc);
-    graph.refill(block, latencies)?;
+    graph.refill(MemoryRule::Book, block, latencies)?;
     Scheduler::new(alloc).lend_as(&graph, heuristic)
 }
 
@@ -181,7 +154,7 @@ pub fn schedule(alloc: Global, block: &Block, latencies: &Latencies) -> Result<S
 
 /// The greedy schedule of a block, of at most `MAX_OPS` operations, by a rule of memory.
 ///
-/// For many blocks make one `RuledGraph` and one `Scheduler`.
+/// For many blocks make one `Graph` and one `Scheduler`.
 ///
 /// Promise: It is the only greedy schedule of the block by the rule, and on every memory it has the block's outcome; its cycles
 /// lie between the bounds of `schedule`.
@@ -195,9 +168,9 @@ pub fn schedule_by(
     ensures { IfOk result (IsTheScheduleBy rule (λ ops. priorities_where (counts_by rule ops) latencies.now ops)
         latencies.now block.now.ops) }
 {
-    let mut graph = RuledGraph::new(alloc);
+    let mut graph = Graph::new(alloc);
     graph.refill(rule, block, latencies)?;
     let mut ranks = Vec::new(alloc);
     graph.chains(&mut ranks)?;
-    Scheduler::new(alloc).lend_ruled(&graph, &ranks)
+    Scheduler::new(alloc).lend(&graph, &ranks)
 }

@@ -3,9 +3,14 @@ use Rattle.std.proofs.Common.{◌≡◌, ℕ, ℤ, List, [], ◌++◌, Option, S
 use Rattle.std.proofs.Math.Path.{transport}
 use Rattle.std.specs.Prelude.{codes, IfSome}
 use Rattle.iloc_ops.specs.declared.file.Block.{Block}
+use Rattle.iloc_ops.specs.declared.op.Op.{Op}
 use Rattle.iloc_timed.specs.Schedule.{Table}
 use Rattle.iloc_timed.specs.declared.latencies.Latencies.{Latencies}
 use Rattle.iloc_rules.specs.declared.heuristic.Heuristic.{Heuristic}
+use Rattle.iloc_rules.specs.declared.memory_rule.MemoryRule.{MemoryRule}
+use Rattle.iloc_rules.specs.declared.memory_rule.MemoryRule.TheVariants.{Book}
+use Rattle.iloc_rules.specs.Least.{least_of}
+use Rattle.iloc_bound.specs.Bound.{least_of_under}
 use Rattle.iloc_rules.specs.Greedy.{IsGreedyBy}
 use Rattle.iloc_rules.specs.Renaming.{numbering, renamed, without_nops}
 use Rattle.iloc_rules.proofs.PriorityValues.Named.{length-priorities_by}
@@ -57,9 +62,14 @@ module _ (request : Request) (k : ℕ) (b : Block) (text more : List ℕ) (name 
               ∙ parts_joined text (block_head k b.name) (codes "\n") lines)));
         }
 
+-- the bound of a graph by the book
+pub least_by_the_book : (rule : MemoryRule) (lat : Latencies) (ops : List Op) → rule ≡ Book
+    → least_of_under rule lat ops ≡ least_of lat ops
+least_by_the_book rule lat ops book = ap (λ r. least_of_under r lat ops) book
+
 -- each operation of the graph has a number
 pub each_ranked : (heuristic : Heuristic) (own : Option (List ℕ)) (lat : Latencies) (b : Block) (g : GraphOf) (found : List ℕ)
-    → g ≡ of_block lat b.ops → IfSome own (λ numbers. length numbers ≡ length (without_nops b.ops))
+    → g ≡ of_block Book lat b.ops → IfSome own (λ numbers. length numbers ≡ length (without_nops b.ops))
     → found ≡ ranks heuristic g.latencies own g.ops → length found ≡ length g.ops
 each_ranked heuristic None lat b g found is each ranked =
     ap length ranked ∙ length-priorities_by heuristic g.latencies g.ops
@@ -69,7 +79,7 @@ each_ranked heuristic (Some numbers) lat b g found is each ranked =
     ∙ ap (λ (x : GraphOf). length x.ops) (sym is)))
 
 -- what was measured of the graph is so of the schedule
-pub measured_too : (lat : Latencies) (b : Block) (s : Table) (g : GraphOf) (m : Measures) → g ≡ of_block lat b.ops
+pub measured_too : (lat : Latencies) (b : Block) (s : Table) (g : GraphOf) (m : Measures) → g ≡ of_block Book lat b.ops
     → s.ops ≡ renamed b.ops → AreMeasures g.latencies g.ops m → AreMeasures lat s.ops m
 measured_too lat b s g m is names are =
     let ops : g.ops ≡ s.ops = ap (λ (x : GraphOf). x.ops) is ∙ sym names in
@@ -86,7 +96,7 @@ entry_grown start head line whole said k b name empty opened named ended grown =
 
 -- what was said of the schedule that is greedy by the numbers found is the entry
 pub explain_is : (request : Request) (own : Option (List ℕ)) (k : ℕ) (b : Block) (s : Table) (g : GraphOf) (found said : List ℕ)
-    → g ≡ of_block request.latencies b.ops → found ≡ ranks request.priority g.latencies own g.ops
+    → g ≡ of_block Book request.latencies b.ops → found ≡ ranks request.priority g.latencies own g.ops
     → IsGreedyBy found request.latencies b.ops s.ops s.rows → IsSaid (has request.flags Cycles) found request.latencies b.ops s said
     → (entry : List ℕ) (cycles : ℕ) → entry ≡ block_head k b.name ++ codes "\n" ++ said
     → cycles ≡ cycles_of request.latencies s → IsExplainEntry request own k b entry cycles

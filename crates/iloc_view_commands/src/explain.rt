@@ -2,6 +2,7 @@
 ghost use Rattle.std.specs.Prelude.{ℕ, ◌≡◌, ◌≤◌, ◌++◌, List, length, option_copied, IfOk, OnOk};
 ghost use Rattle.iloc_ops.specs.Limits.{MAX_BLOCKS};
 ghost use Rattle.iloc_rules.specs.Heuristics.{priorities_by};
+ghost use Rattle.iloc_rules.specs.declared.memory_rule.MemoryRule.TheVariants.{Book};
 ghost use Rattle.iloc_rules.specs.Renaming.{renamed};
 ghost use Rattle.iloc_explain.specs.Listing.{IsExplanation};
 ghost use Rattle.iloc_explain.specs.Measures.{AreMeasures};
@@ -14,7 +15,7 @@ use iloc_driver::FarmedLister;
 use iloc_explain::{Measures, push_explanation, push_ready_list};
 use iloc_listing::{EntryMaker, Listing, ScheduleEntry, count_of, push_block_head, with_total};
 use iloc_ops::{Block, Blocks, NoMemory, Op};
-use iloc_rules::Heuristic;
+use iloc_rules::{Heuristic, MemoryRule};
 use iloc_sched::{Graph, Scheduler};
 use iloc_timed::{Latencies, Schedule};
 use std::alloc::Global;
@@ -26,6 +27,7 @@ fn ranks_of(
     own: Option<&[u32]>,
     heuristic: Heuristic,
 ) -> Result<Vec<u32>, NoMemory>
+    requires { graph.now.rule ≡ Book }
     ensures { IfOk result (λ ranks.
         ranks.items ≡ all_ranks heuristic graph.now.latencies (option_copied own.entry) graph.now.ops) }
 {
@@ -39,7 +41,8 @@ fn ranks_of(
 
 /// What an explanation needs to know of the operations of a graph, which are ranked by these numbers.
 fn measure(alloc: Global, graph: &Graph, ranks: Vec<u32>) -> Result<Measures, NoMemory>
-    requires { length ranks.items ≡ length graph.now.ops }
+    requires book { graph.now.rule ≡ Book }
+    requires ranked { length ranks.items ≡ length graph.now.ops }
     ensures ranks { IfOk result (λ measures. measures.ranks.items ≡ ranks.items) }
     ensures measures { IfOk result (AreMeasures graph.now.latencies graph.now.ops) }
 {
@@ -70,6 +73,7 @@ pub fn explain_by_graph(
     heuristic: Heuristic,
 ) -> Result<(), NoMemory>
     requires graph { graph.now.ops ≡ renamed block.now.ops }
+    requires book { graph.now.rule ≡ Book }
     requires names { schedule.now.ops ≡ renamed block.now.ops }
     requires issued { length issued.now ≡ length schedule.now.ops }
     ensures { OnOk result ((entry : List ℕ)
@@ -151,7 +155,7 @@ impl FarmedLister for ExplainLister {
         block: &Block,
     ) -> Result<ScheduleEntry, NoMemory> {
         let latencies = &request.latencies;
-        self.graph.refill(block, latencies)?;
+        self.graph.refill(MemoryRule::Book, block, latencies)?;
         let ranks = ranks_of(alloc, &self.graph, own, request.priority)?;
         let measures = measure(alloc, &self.graph, ranks)?;
         let schedule = self.scheduler.lend(&self.graph, &measures.ranks)?;

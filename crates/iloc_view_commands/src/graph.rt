@@ -6,6 +6,7 @@ use iloc_args::Request;
 use iloc_driver::Lister;
 use iloc_graph::{push_closing, push_cluster, push_opening};
 use iloc_ops::{Block, NoMemory};
+use iloc_rules::MemoryRule;
 use iloc_sched::Graph;
 use std::alloc::Global;
 
@@ -52,7 +53,8 @@ impl Lister for GraphLister {
         block: &Block,
         text: &mut Vec<u8>,
     ) -> Result<(), NoMemory> {
-        self.graph.refill(block, &request.latencies)?;
+        self.graph
+            .refill(MemoryRule::Book, block, &request.latencies)?;
         push_opening_at(text, number)?;
         push_cluster(alloc, text, number, block, &self.graph)
     }

@@ -3,6 +3,7 @@ use iloc_args::Request;
 use iloc_driver::{Lister, initial_memory};
 use iloc_listing::push_block_head;
 use iloc_ops::{Block, NoMemory};
+use iloc_rules::MemoryRule;
 use iloc_sched::{Graph, Scheduler};
 use iloc_trace::Tracer;
 use std::alloc::Global;
@@ -44,7 +45,8 @@ impl Lister for TraceLister {
         block: &Block,
         text: &mut Vec<u8>,
     ) -> Result<(), NoMemory> {
-        self.graph.refill(block, &request.latencies)?;
+        self.graph
+            .refill(MemoryRule::Book, block, &request.latencies)?;
         let schedule = self.scheduler.lend_as(&self.graph, request.priority)?;
         push_block_head(text, number, block.name.as_ref())?;
         text.push(b'\n')?;

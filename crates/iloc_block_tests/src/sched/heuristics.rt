@@ -1,7 +1,7 @@
 //! Schedules by other priorities than the longest chains.
 use crate::written::{USUAL, block_of, latencies};
 use iloc_bound::{least, least_of};
-use iloc_rules::Heuristic;
+use iloc_rules::{Heuristic, MemoryRule};
 use iloc_sched::{Graph, Scheduler, priorities_by, rename, schedule_as};
 use iloc_timed::cycles;
 use std::test::Fail;
@@ -52,7 +52,7 @@ fn counts_who_waits_once(rt: HostRuntime) -> Result<(), Fail> {
 fn lends_by_one_graph(rt: HostRuntime) -> Result<(), Fail> {
     let times = latencies(USUAL)?;
     let mut graph = Graph::new(rt.alloc());
-    graph.refill(&block_of(rt.alloc(), DOT)?, &times)?;
+    graph.refill(MemoryRule::Book, &block_of(rt.alloc(), DOT)?, &times)?;
     let mut scheduler = Scheduler::new(rt.alloc());
     for (heuristic, wanted) in CYCLES {
         let schedule = scheduler.lend_as(&graph, *heuristic)?;
@@ -68,7 +68,7 @@ fn ranks_by_priorities_that_are_brought(rt: HostRuntime) -> Result<(), Fail> {
     let block = block_of(rt.alloc(), DOT)?;
     let times = latencies(USUAL)?;
     let mut graph = Graph::new(rt.alloc());
-    graph.refill(&block, &times)?;
+    graph.refill(MemoryRule::Book, &block, &times)?;
     let equal = vec![in rt.alloc(); 1; graph.ops().len()]?;
     let schedule = Scheduler::new(rt.alloc()).lend(&graph, &equal)?;
     assert!(rt; cycles(&schedule, &times) == 21);

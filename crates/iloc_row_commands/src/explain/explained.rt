@@ -4,6 +4,7 @@ ghost use Rattle.iloc_timed.specs.Rows.{IsTable};
 ghost use Rattle.iloc_rules.specs.Greedy.{IsGreedyBy};
 ghost use Rattle.iloc_rules.specs.Heuristics.{priorities_by};
 ghost use Rattle.iloc_rules.specs.Renaming.{renamed};
+ghost use Rattle.iloc_rules.specs.declared.memory_rule.MemoryRule.TheVariants.{Book};
 ghost use Rattle.iloc_explain.specs.Listing.{IsExplanation};
 ghost use Rattle.iloc_sched.specs.Graph.GraphOf.{of_block};
 ghost use Rattle.iloc_validation.specs.ByTheBook.{IssueTheSame};
@@ -41,7 +42,7 @@ pub(crate) struct KnownBlock<'a> {
     pub(crate) blocks: usize,
     pub(crate) ghost greedy: { IsGreedyBy (priorities_by heuristic latencies.now ours.now.ops) latencies.now block.now.ops
         ours.now.ops ours.now.rows },
-    pub(crate) ghost drawn: { graph.now ≡ of_block latencies.now block.now.ops },
+    pub(crate) ghost drawn: { graph.now ≡ of_block Book latencies.now block.now.ops },
 }
 
 /// What is found of the rows that are proposed for a block.

@@ -1,15 +1,11 @@
 -- The finished schedule: `Scheduler::lend`.
-use Rattle.iloc_sched.proofs.Common.{◌≡◌, ℕ, List, sym, ◌∙◌, subst, Op, Latencies, Row, IsGreedyWhere, counts_by, MemoryRule, Book, GraphOf, RuledGraphOf}
+use Rattle.iloc_sched.proofs.Common.{◌≡◌, ℕ, List, sym, ◌∙◌, subst, Op, Latencies, Row, IsGreedyWhere, counts_by, MemoryRule}
 use Rattle.iloc_timed.specs.Schedule.{Table}
 use Rattle.iloc_sched.specs.Scheduled.{IsTheScheduleBy}
 use Rattle.iloc_rules.proofs.Bounds.PriorityBound.{ruled_priority_bound}
 use Rattle.iloc_rules.proofs.Bounds.BusyCycles.{busy_bound_where}
 use Rattle.iloc_rules.proofs.Outcome.LawfulOutcomes.{ruled_same_outcome}
 use Rattle.iloc_rules.proofs.Choice.OneGreedy.{greedy_same_where}
-
--- a graph by the book, with its rule
-unfoldable pub by_the_book : GraphOf → RuledGraphOf
-by_the_book g = record { rule = Book; ops = g.ops; latencies = g.latencies }
 
 -- the same operations and rows in other places
 pub handed_out : (rule : MemoryRule) (prios : List ℕ) (lat : Latencies) (block ops ops' : List Op) (rows rows' : List Row)

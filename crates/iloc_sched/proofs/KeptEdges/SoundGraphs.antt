@@ -1,5 +1,5 @@
 -- The tables of a graph are sound, by the book and by address; for `Tables::open`, `open_by_address` and the calls of `Graph`.
-use Rattle.iloc_sched.proofs.Common.{◌≡◌, ℕ, ◌<◌, List, [], map, length, sym, ap, ◌∙◌, subst, inl, inr, arith, get_or_past, Op, kind, latency, Latencies, by_address, all_count, counts_by, MemoryRule, Address, Book, GraphOf, RuledGraphOf, IsByTheBook, IsOfBlock, IsSound, Graph, IsGraphOf, IsGraphWhere, IsEmptied, graph_of, Tables}
+use Rattle.iloc_sched.proofs.Common.{◌≡◌, ℕ, ◌<◌, List, [], map, length, sym, ap, ◌∙◌, subst, inl, inr, arith, get_or_past, Op, kind, latency, Latencies, by_address, all_count, counts_by, MemoryRule, Address, Book, GraphOf, IsByTheBook, IsOfBlock, IsSound, Graph, IsGraphOf, IsGraphWhere, IsEmptied, graph_of, Tables}
 use Rattle.iloc_sched.proofs.KeptEdges.FarPairs.{near_or_by_way}
 
 -- what isn't near goes by way of an operation between
@@ -78,10 +78,16 @@ none_is_of_block t ops kinds own edges book = record {
 }
 
 -- a graph by the book has the edges of its near pairs
-pub book_graph : (t : Tables) (g : RuledGraphOf) (v : GraphOf) → IsSound t
-    → g ≡ record { rule = t.rule; ops = t.ops.items; latencies = t.latencies } → g.rule ≡ Book
-    → record { ops = g.ops; latencies = g.latencies } ≡ v → IsGraphOf v.latencies v.ops (graph_of t.edges)
-book_graph t g v sound is book v_is =
-    let without : RuledGraphOf → GraphOf = λ x. record { ops = x.ops; latencies = x.latencies } in
-    subst (λ (x : GraphOf). IsGraphOf x.latencies x.ops (graph_of t.edges)) (sym (ap without is) ∙ v_is)
-    (sound.book (sym (ap (λ (x : RuledGraphOf). x.rule) is) ∙ book))
+pub book_graph : (t : Tables) (v : GraphOf) → IsSound t
+    → record { rule = t.rule; ops = t.ops.items; latencies = t.latencies } ≡ v → v.rule ≡ Book
+    → IsGraphOf v.latencies v.ops (graph_of t.edges)
+book_graph t v sound is book =
+    subst (λ (x : GraphOf). IsGraphOf x.latencies x.ops (graph_of t.edges)) is
+    (sound.book (ap (λ (x : GraphOf). x.rule) is ∙ book))
+
+-- by any rule its edges are delay pairs
+pub ruled_graph : (t : Tables) (v : GraphOf) → IsSound t
+    → record { rule = t.rule; ops = t.ops.items; latencies = t.latencies } ≡ v
+    → IsGraphWhere (counts_by v.rule v.ops) v.latencies v.ops (graph_of t.edges)
+ruled_graph t v sound is =
+    subst (λ (x : GraphOf). IsGraphWhere (counts_by x.rule x.ops) x.latencies x.ops (graph_of t.edges)) is sound.graph

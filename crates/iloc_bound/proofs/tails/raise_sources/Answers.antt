@@ -10,7 +10,7 @@ overflow_add-through c =
     let g = c.args.graph.now in
     let edges : List Edge = c.edges_into-edges.result.now in
     let k = c.loop-edge.edge-index in
-    let near = (c.edges_into-edges.ensures.each k none (omega arith)).1 in
+    let near = (c.edges_into-edges.ensures.near c.requires.book k none (omega arith)).1 in
     let tailed = c.loop-edge.invariant.tailed in
     let read = get_or_read c.loop-edge.found.items c.args.j c.index.result.now (omega (arith, tailed.size, c.requires.there))
     c.index.ensures 0 in
@@ -22,7 +22,7 @@ loop-edge-preserved c =
     let g = c.args.graph.now in
     let edges : List Edge = c.edges_into-edges.result.now in
     let k = c.loop-edge.edge-index in
-    let near = (c.edges_into-edges.ensures.each k none (omega arith)).1 in
+    let near = (c.edges_into-edges.ensures.near c.requires.book k none (omega arith)).1 in
     let before = c.loop-edge.invariant in
     record {
       tailed = raised g.latencies g.ops c.loop-edge.found.items c.args.j before.tailed (get_or edges k none) near
@@ -38,4 +38,4 @@ returns c =
     let g = c.args.graph.now in
     let edges : List Edge = c.edges_into-edges.result.now in
     all_raised g.latencies g.ops c.loop-edge.found.items c.args.j edges c.loop-edge.invariant.tailed
-    c.edges_into-edges.ensures.all (λ k other within. c.loop-edge.invariant.kept k other (omega arith))
+    (c.edges_into-edges.ensures.all c.requires.book) (λ k other within. c.loop-edge.invariant.kept k other (omega arith))

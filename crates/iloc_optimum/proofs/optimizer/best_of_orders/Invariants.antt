@@ -5,4 +5,4 @@ use Rattle.iloc_optimum.proofs.optimizer.best_of_orders.Given as goal
 
 abbrev pub invariant-loop-heuristic : goal.invariant-loop-heuristic
 invariant-loop-heuristic l =
-    IsBestOf l.graph.latencies l.block.ops heuristics (l.heuristic-index + 1) l.best
+    IsBestOf l.graph.rule l.graph.latencies l.block.ops heuristics (l.heuristic-index + 1) l.best

@@ -4,6 +4,6 @@ use Rattle.iloc_optimum.proofs.optimizer.search_upwards.Given as goal
 
 abbrev pub invariant-loop-limit : goal.invariant-loop-limit
 invariant-loop-limit l = record {
-  known : IsOptimumOf l.graph.latencies l.block.ops l.optimum;
+  known : IsOptimumOf l.graph.rule l.graph.latencies l.block.ops l.optimum;
   above : l.optimum.bound ≤ l.limit;
 }

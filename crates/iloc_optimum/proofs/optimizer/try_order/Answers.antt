@@ -1,7 +1,18 @@
-use Rattle.std.proofs.lemmas.Grind.{common_steps}
-use Rattle.std.proofs.Common.{arith}
+use Rattle.std.proofs.Common.{◌≤◌, subst}
+use Rattle.iloc_optimum.specs.Optimum.{cycles_of}
 use Rattle.iloc_optimum.proofs.Improvements.{shortened}
 use Rattle.iloc_optimum.proofs.optimizer.try_order.Goals as goal
 
 pub returns : goal.returns
-returns c = grind (arith, shortened, common_steps)
+returns c =
+    let g = c.args.graph.now in
+    let block = c.args.block.now.ops in
+    let old = c.args.best.now in
+    let new = c.keep_shorter.new.best in
+    let other = c.in_ok-other.other in
+    let kept = c.keep_shorter.ensures in
+    shortened g.rule g.latencies block c.args.heuristic old new other
+    (c.in_ok-other.ensures g.rule g.latencies block
+    (λ i. record { rule = g.rule; ops = c.requires i; latencies = g.latencies })) kept.one
+    (subst (λ lat. cycles_of lat new ≤ cycles_of lat old) c.latencies.ensures kept.fewer)
+    (subst (λ lat. cycles_of lat new ≤ cycles_of lat other) c.latencies.ensures kept.few)

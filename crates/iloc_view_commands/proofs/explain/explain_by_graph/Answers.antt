@@ -4,8 +4,8 @@ use Rattle.iloc_rules.proofs.PriorityValues.Named.{length-priorities_by}
 use Rattle.iloc_explain.specs.Measures.{AreMeasures}
 use Rattle.iloc_view_commands.proofs.explain.explain_by_graph.Goals as goal
 
-pub measure-requires : goal.measure-requires
-measure-requires c =
+pub measure-requires-clause-ranked : goal.measure-requires-clause-ranked
+measure-requires-clause-ranked c =
     let graph = c.args.graph.now in
     ap length c.in_ok-ranks.ensures ∙ length-priorities_by c.args.heuristic graph.latencies graph.ops
 

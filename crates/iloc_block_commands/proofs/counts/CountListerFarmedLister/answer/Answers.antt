@@ -1,6 +1,6 @@
 use Rattle.std.proofs.Common.{ap, ◌∙◌}
 use Rattle.std.specs.Prelude.{option_copied}
-use Rattle.iloc_sched.specs.Graph.GraphOf.{RuledGraphOf, of_block_by}
+use Rattle.iloc_sched.specs.Graph.GraphOf.{GraphOf, of_block}
 use Rattle.iloc_args.specs.Rule.{memory_rule}
 use Rattle.iloc_listing.specs.Schedules.{ranks_under}
 use Rattle.iloc_block_commands.proofs.Listers.{each_ranked, is_count_under}
@@ -8,7 +8,7 @@ use Rattle.iloc_block_commands.proofs.counts.CountListerFarmedLister.answer.Goal
 
 pub lend-requires : goal.lend-requires
 lend-requires c =
-    each_ranked (option_copied c.args.own) c.args.block.now _ (ap (λ (g : RuledGraphOf). g.ops) c.in_ok-refill.ensures.graph) c.requires.each
+    each_ranked (option_copied c.args.own) c.args.block.now _ (ap (λ (g : GraphOf). g.ops) c.in_ok-refill.ensures.graph) c.requires.each
 
 pub returns : goal.returns
 returns c =
@@ -16,5 +16,5 @@ returns c =
     is_count_under (memory_rule request)
     (ranks_under (memory_rule request) request.priority request.latencies (option_copied c.args.own)) request.latencies c.args.block.now
     c.in_ok-schedule.schedule (c.in_ok-schedule.ensures _ _ _ (c.in_ok-refill.ensures.graph
-    ∙ ap (λ rule. of_block_by rule c.args.request.now.latencies c.args.block.now.ops) c.memory_rule.ensures)).greedy c.count_of-cycles.result
+    ∙ ap (λ rule. of_block rule c.args.request.now.latencies c.args.block.now.ops) c.memory_rule.ensures)).greedy c.count_of-cycles.result
     c.count_of-cycles.ensures

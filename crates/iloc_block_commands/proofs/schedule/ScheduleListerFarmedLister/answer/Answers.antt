@@ -1,16 +1,16 @@
 use Rattle.std.proofs.Common.{ap, ◌∙◌}
 use Rattle.std.specs.Prelude.{option_copied}
-use Rattle.iloc_sched.specs.Graph.GraphOf.{RuledGraphOf, of_block_by}
+use Rattle.iloc_sched.specs.Graph.GraphOf.{GraphOf, of_block}
 use Rattle.iloc_block_commands.proofs.Listers.{each_ranked, schedule_is}
 use Rattle.iloc_block_commands.proofs.schedule.ScheduleListerFarmedLister.answer.Goals as goal
 
 pub lend-requires : goal.lend-requires
 lend-requires c =
-    each_ranked (option_copied c.args.own) c.args.block.now _ (ap (λ (g : RuledGraphOf). g.ops) c.in_ok-refill.ensures.graph) c.requires.each
+    each_ranked (option_copied c.args.own) c.args.block.now _ (ap (λ (g : GraphOf). g.ops) c.in_ok-refill.ensures.graph) c.requires.each
 
 pub returns : goal.returns
 returns c =
     schedule_is c.args.request.now (option_copied c.args.own) c.args.number c.args.block.now c.in_ok-schedule.schedule
     (c.in_ok-schedule.ensures _ _ _ (c.in_ok-refill.ensures.graph
-    ∙ ap (λ rule. of_block_by rule c.args.request.now.latencies c.args.block.now.ops) c.memory_rule.ensures)).greedy
+    ∙ ap (λ rule. of_block rule c.args.request.now.latencies c.args.block.now.ops) c.memory_rule.ensures)).greedy
     c.in_ok-entry.entry.text c.in_ok-entry.entry.cycles c.in_ok-entry.ensures.text c.in_ok-entry.ensures.cycles

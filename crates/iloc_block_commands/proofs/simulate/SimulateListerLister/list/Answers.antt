@@ -1,7 +1,7 @@
 use Rattle.std.proofs.Common.{◌∙◌, ap}
 use Rattle.iloc_meaning.specs.Outcome.{shown}
 use Rattle.iloc_timed.specs.Timed.{timed_outcome}
-use Rattle.iloc_sched.specs.Graph.GraphOf.{of_block_by}
+use Rattle.iloc_sched.specs.Graph.GraphOf.{of_block}
 use Rattle.iloc_driver.proofs.Entries.{if_ok}
 use Rattle.iloc_block_commands.proofs.Listers.{simulate_listed}
 use Rattle.iloc_block_commands.proofs.simulate.SimulateListerLister.list.Goals as goal
@@ -15,5 +15,5 @@ returns-clause-listed c =
     if_ok _ c.push_outcome.result
     (λ _. simulate_listed request c.args.number c.args.block.now c.args.text.now.items _ _ c.as_ref.ensures.value s
     (c.in_ok-schedule.ensures _ _ _ (c.in_ok-refill.ensures.graph
-    ∙ ap (λ rule. of_block_by rule c.args.request.now.latencies c.args.block.now.ops) c.memory_rule.ensures)).greedy _ words)
+    ∙ ap (λ rule. of_block rule c.args.request.now.latencies c.args.block.now.ops) c.memory_rule.ensures)).greedy _ words)
     c.push_outcome.ensures

@@ -48,7 +48,7 @@ rows_listed heuristic lat k b s p one text headed lined more said name greedy na
 
 pub invariant_of-known : goal.invariant_of-known
 invariant_of-known c = record {
-  greedy = (c.in_ok-ours.ensures _ _ c.in_ok-refill.ensures.graph).greedy;
+  greedy = (c.in_ok-ours.ensures _ _ _ c.in_ok-refill.ensures.graph).greedy;
   drawn = c.in_ok-refill.ensures.graph;
 }
 
@@ -57,7 +57,7 @@ returns-clause-listed c =
     let request = c.args.request.now in
     let said = c.in_ok-found.ensures in
     rows_listed request.priority request.latencies c.args.number c.args.block.now c.in_ok-ours.ours c.args.proposal
-    c.in_ok-found.found c.args.text.now.items _ _ _ said.0 _ (c.in_ok-ours.ensures _ _ c.in_ok-refill.ensures.graph).greedy c.as_ref.ensures.value
+    c.in_ok-found.found c.args.text.now.items _ _ _ said.0 _ (c.in_ok-ours.ensures _ _ _ c.in_ok-refill.ensures.graph).greedy c.as_ref.ensures.value
     c.in_ok-push_block_head.ensures c.in_ok-push.ensures.items said.1 said.2
 
 pub returns-clause-small : goal.returns-clause-small

@@ -7,6 +7,9 @@ use Rattle.iloc_row_commands.proofs.explain.explained.push_own.Goals as goal
 pub explain_by_graph-requires-clause-graph : goal.explain_by_graph-requires-clause-graph
 explain_by_graph-requires-clause-graph c = ap (λ (g : GraphOf). g.ops) c.args.known.now.drawn
 
+pub explain_by_graph-requires-clause-book : goal.explain_by_graph-requires-clause-book
+explain_by_graph-requires-clause-book c = ap (λ (g : GraphOf). g.rule) c.args.known.now.drawn
+
 pub departure_of-requires : goal.departure_of-requires
 departure_of-requires c = c.requires.names ∙ sym c.args.known.now.greedy.lawful.names
 

@@ -1,10 +1,18 @@
 use Rattle.std.proofs.Common.{ap, length, ◌∙◌}
 use Rattle.std.specs.Prelude.{option_copied}
+use Rattle.iloc_rules.specs.declared.memory_rule.MemoryRule.TheVariants.{Book}
+use Rattle.iloc_sched.specs.Graph.GraphOf.{GraphOf}
 use Rattle.iloc_view_commands.proofs.Listers.{each_ranked, entry_grown, explain_is, measured_too}
 use Rattle.iloc_view_commands.proofs.explain.ExplainListerFarmedLister.answer.Goals as goal
 
-pub measure-requires : goal.measure-requires
-measure-requires c =
+pub ranks_of-requires : goal.ranks_of-requires
+ranks_of-requires c = ap (λ (g : GraphOf). g.rule) c.in_ok-refill.ensures.graph
+
+pub measure-requires-clause-book : goal.measure-requires-clause-book
+measure-requires-clause-book c = ap (λ (g : GraphOf). g.rule) c.in_ok-refill.ensures.graph
+
+pub measure-requires-clause-ranked : goal.measure-requires-clause-ranked
+measure-requires-clause-ranked c =
     let request = c.args.request.now in
     each_ranked request.priority (option_copied c.args.own) request.latencies c.args.block.now _ _ c.in_ok-refill.ensures.graph
     c.requires.each c.in_ok-ranks.ensures
@@ -14,13 +22,13 @@ lend-requires c = ap length c.deref.ensures.value ∙ c.in_ok-measures.ensures.m
 
 pub push_said-requires-clause-names : goal.push_said-requires-clause-names
 push_said-requires-clause-names c =
-    (c.in_ok-schedule.ensures c.args.request.now.latencies c.args.block.now.ops c.in_ok-refill.ensures.graph).greedy.lawful.names
+    (c.in_ok-schedule.ensures Book c.args.request.now.latencies c.args.block.now.ops c.in_ok-refill.ensures.graph).greedy.lawful.names
 
 pub push_said-requires-clause-measured : goal.push_said-requires-clause-measured
 push_said-requires-clause-measured c =
     let lat = c.args.request.now.latencies in
     measured_too lat c.args.block.now c.in_ok-schedule.schedule _ _ c.in_ok-refill.ensures.graph
-    (c.in_ok-schedule.ensures lat c.args.block.now.ops c.in_ok-refill.ensures.graph).greedy.lawful.names
+    (c.in_ok-schedule.ensures Book lat c.args.block.now.ops c.in_ok-refill.ensures.graph).greedy.lawful.names
     c.in_ok-measures.ensures.measures
 
 pub returns : goal.returns
@@ -32,7 +40,7 @@ returns c =
     explain_is request (option_copied c.args.own) c.args.number block c.in_ok-schedule.schedule _
     c.in_ok-measures.measures.ranks.items said.0 c.in_ok-refill.ensures.graph
     (c.in_ok-measures.ensures.ranks ∙ c.in_ok-ranks.ensures)
-    (rw c.deref.ensures.value at (c.in_ok-schedule.ensures request.latencies block.ops c.in_ok-refill.ensures.graph).greedy)
+    (rw c.deref.ensures.value at (c.in_ok-schedule.ensures Book request.latencies block.ops c.in_ok-refill.ensures.graph).greedy)
     (rw c.has-by_cycle.ensures at said.1) entry.text entry.cycles
     (c.in_ok-entry.ensures.text
     ∙ (c.deref-2.ensures.value

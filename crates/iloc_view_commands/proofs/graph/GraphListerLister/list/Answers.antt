@@ -5,8 +5,11 @@ use Rattle.iloc_view_commands.proofs.Listers.{graph_listed}
 use Rattle.iloc_driver.proofs.Entries.{if_ok}
 use Rattle.iloc_view_commands.proofs.graph.GraphListerLister.list.Goals as goal
 
-pub push_cluster-requires : goal.push_cluster-requires
-push_cluster-requires c = ap (λ (g : GraphOf). g.ops) c.in_ok-refill.ensures.graph
+pub push_cluster-requires-clause-graph : goal.push_cluster-requires-clause-graph
+push_cluster-requires-clause-graph c = ap (λ (g : GraphOf). g.ops) c.in_ok-refill.ensures.graph
+
+pub push_cluster-requires-clause-book : goal.push_cluster-requires-clause-book
+push_cluster-requires-clause-book c = ap (λ (g : GraphOf). g.rule) c.in_ok-refill.ensures.graph
 
 pub returns-clause-listed : goal.returns-clause-listed
 returns-clause-listed c =

@@ -1,5 +1,5 @@
 use Rattle.iloc_bound.proofs.Common.{◌≡◌, IsTailed, loads_from}
-use Rattle.iloc_bound.proofs.tails.fill_tails.Given as goal
+use Rattle.iloc_bound.proofs.tails.fill_by_the_book.Given as goal
 
 abbrev pub invariant-loop-j : goal.invariant-loop-j
 invariant-loop-j l = record {

@@ -3,7 +3,7 @@ use Rattle.iloc_sched.proofs.KeptEdges.ListedKinds.{kind_listed}
 use Rattle.iloc_bound.proofs.TailBound.{tail_most}
 use Rattle.iloc_bound.proofs.TailParts.{tail_by_store, load_kept}
 use Rattle.iloc_bound.proofs.TailsFound.{none_tailed, tails_found, chain_found, tail_found}
-use Rattle.iloc_bound.proofs.tails.fill_tails.Goals as goal
+use Rattle.iloc_bound.proofs.tails.fill_by_the_book.Goals as goal
 
 no_loads : (lat : Latencies) (ops : List Op) (n : ℕ) → length ops ≤ n → [] ≡ loads_from lat ops n
 no_loads lat ops n all = ap (λ os. load_tails os (drop n (tails lat ops))) (sym (drop_all n ops all))

@@ -1,5 +1,5 @@
 use Rattle.iloc_sched.proofs.KeptEdges.SoundGraphs.{none_is_of_block}
-use Rattle.iloc_sched.proofs.graph.RuledGraph.new.Goals as goal
+use Rattle.iloc_sched.proofs.graph.Graph.new.Goals as goal
 
 pub invariant_of-result : goal.invariant_of-result
 invariant_of-result c =
