@@ -1,5 +1,7 @@
 -- The operations that wait for a store, and those that are found for one; for `Accesses`.
-use Rattle.iloc_addresses.proofs.Common.{◌≡◌, ℕ, ◌+◌, ◌<◌, Bool, true, false, cond, List, [], ◌∷◌, ◌++◌, ℤ, if◌then◌else◌, ◌==◌, Some, count_by, Option, int_eq, sym, refl, ap, ◌∙◌, subst, inl, inr, append_assoc, arith, Decides-int_eq, sum_by-append, sum_by_push, by_bool, from_append, in_left, in_right, apart_if_both, are_apart, In, Word, Moves, count_in, ops_at, AreFar, ArePlaced, Finds, IsShort, at_constant, constant_of, have_one_base, waiting_by, Accesses}
+use Rattle.std.proofs.lemmas.List.Sorted.{Contains-permutation, IsPermutation-sym, sum_by-IsPermutation}
+use Rattle.std.proofs.Common.{IsPermutation}
+use Rattle.iloc_addresses.proofs.Common.{◌≡◌, ℕ, ◌+◌, ◌<◌, Bool, true, false, cond, List, [], ◌∷◌, ◌++◌, length, get_or, ℤ, if◌then◌else◌, ◌==◌, Some, count_by, Option, int_eq, sym, refl, ap, ◌∙◌, subst, inl, inr, append_assoc, arith, eqb-true, cases_lt, Decides-int_eq, sum_by-append, sum_by-cons, sum_by_push, by_bool, contains_from, in_from, from_append, apart_if_both, are_apart, In, Word, Moves, count_in, ops_at, AreFar, ArePlaced, Finds, IsShort, at_constant, constant_of, have_one_base, waiting_by, Accesses}
 use Rattle.iloc_addresses.specs.declared.dependences.accesses.Access.{Access}
 use Rattle.iloc_addresses.proofs.ByConstants.{at_some}
 use Rattle.iloc_addresses.proofs.Bases.{at_own, at_same, apart_one_base, apart_two_constants, near_other_base, near_itself, far_at}
@@ -7,11 +9,16 @@ use Rattle.iloc_addresses.proofs.Bases.{at_own, at_same, apart_one_base, apart_t
 same_constant : (c d : ℤ) → int_eq c d ≡ true → c ≡ d
 same_constant c d t = (Decides-int_eq c d).0 t
 
--- one operation more, the last
-pub count_more : (test : ℕ → Bool) (xs ys : List Access) (a : Access) → ys ≡ xs ++ a ∷ []
-    → count_by (λ access. test access.op) ys ≡ count_by (λ access. test access.op) xs + cond (test a.op) 1 0
-count_more test xs ys a more =
-    ap (count_by (λ access. test access.op)) more ∙ sum_by_push (λ access. cond (test access.op) 1 0) xs a
+-- an operation that is counted is one of the accesses
+some_access : (xs : List Access) (i : ℕ) → 0 < count_by (λ access. access.op == i) xs → (a : Access) × In xs a × (a.op ≡ i)
+some_access [] i some = absurd (omega arith)
+some_access (x ∷ xs) i some = by_bool (x.op == i) (λ t. (x, inl refl, eqb-true x.op i t))
+    (λ f.
+    let both : count_by (λ access. access.op == i) (x ∷ xs) ≡ 0 + count_by (λ access. access.op == i) xs =
+    sum_by-cons (λ access. cond (access.op == i) 1 0) x xs
+    ∙ ap (λ b. cond b 1 0 + count_by (λ (access : Access). access.op == i) xs) f in
+    let rest = some_access xs i (omega arith) in
+    (rest.0, inr rest.1, rest.2))
 
 pub placed_more : (of : ℕ → Option Word) (old new : Accesses) (a : Access) → new.base ≡ old.base → new.kept ≡ old.kept
     → new.recent.items ≡ old.recent.items ++ a ∷ [] → of a.op ≡ Some a.address → IsShort (constant_of a.address)
@@ -31,18 +38,26 @@ placed_more of old new a base kept more is short placed = record {
       (before.0 ∙ ap (λ b. Some (at_constant b c)) (sym base), before.1);
 }
 
--- the last of those since the last store is taken
+-- one of the recent ones is taken
 module _ (first old new : Accesses) (a : Access) (list list' list″ : List ℕ)
     (finds : Finds first.base first old list list') (base : old.base ≡ first.base) (same : new.base ≡ old.base)
-    (popped : old.recent.items ≡ new.recent.items ++ a ∷ []) where
+    (taken : IsPermutation old.recent.items (a ∷ new.recent.items)) where
+  was_recent : (b : Access) → In (a ∷ new.recent.items) b → In old.recent.items b
+  was_recent b there = in_from old.recent.items b
+      (Contains-permutation (a ∷ new.recent.items) old.recent.items b
+      (IsPermutation-sym old.recent.items (a ∷ new.recent.items) taken) (contains_from (a ∷ new.recent.items) b there))
+
+  count_left : (test : ℕ → Bool) → count_by (λ access. test access.op) old.recent.items
+      ≡ cond (test a.op) 1 0 + count_by (λ access. test access.op) new.recent.items
+  count_left test = sym (sum_by-IsPermutation (λ access. cond (test access.op) 1 0) old.recent.items (a ∷ new.recent.items) taken)
+      ∙ sum_by-cons (λ access. cond (test access.op) 1 0) a new.recent.items
+
   its_place : (of : ℕ → Option Word) → ArePlaced of first → (of a.op ≡ Some a.address) × IsShort (constant_of a.address)
-  its_place of placed = (finds.placed of placed).recent a
-      (subst (λ xs. In xs a) (sym popped) (in_right new.recent.items (a ∷ []) a (inl refl)))
+  its_place of placed = (finds.placed of placed).recent a (was_recent a (inl refl))
 
   rest_placed : (of : ℕ → Option Word) → ArePlaced of old → (b : Access) → In new.recent.items b
       → (of b.op ≡ Some b.address) × IsShort (constant_of b.address)
-  rest_placed of placed b there = placed.recent b
-      (subst (λ xs. In xs b) (sym popped) (in_left new.recent.items (a ∷ []) b there))
+  rest_placed of placed b there = placed.recent b (was_recent b (inr there))
 
   -- and is found
   pub finds_more : are_apart a.address old.base ≡ false → new.kept ≡ old.kept → list″ ≡ list' ++ a.op ∷ []
@@ -54,8 +69,7 @@ module _ (first old new : Accesses) (a : Access) (list list' list″ : List ℕ)
         let all : count_by test (finds.moved ++ a.op ∷ []) ≡ count_by test finds.moved + cond (test a.op) 1 0 =
         sum_by_push (λ k. cond (test k) 1 0) finds.moved a.op in
         let last : count_by (λ access. test access.op) old.recent.items
-        ≡ count_by (λ access. test access.op) new.recent.items + cond (test a.op) 1 0 =
-        count_more test new.recent.items old.recent.items a popped in
+        ≡ cond (test a.op) 1 0 + count_by (λ access. test access.op) new.recent.items = count_left test in
         let rest : count_in test new.kept ≡ count_in test old.kept = ap (count_in test) kept in
         let before : count_by test finds.moved + waiting_by test old ≡ waiting_by test first = finds.count test in
         omega arith;
@@ -117,8 +131,7 @@ module _ (first old new : Accesses) (a : Access) (list list' list″ : List ℕ)
       behind = finds.behind;
       count = λ test.
           let last : count_by (λ access. test access.op) old.recent.items
-          ≡ count_by (λ access. test access.op) new.recent.items + cond (test a.op) 1 0 =
-          count_more test new.recent.items old.recent.items a popped in
+          ≡ cond (test a.op) 1 0 + count_by (λ access. test access.op) new.recent.items = count_left test in
           let one : count_in test new.kept ≡ count_in test old.kept + cond (test a.op) 1 0 = more test in
           let before : count_by test finds.moved + waiting_by test old ≡ waiting_by test first = finds.count test in
           omega arith;
@@ -140,18 +153,28 @@ module _ (first old new : Accesses) (a : Access) (list list' list″ : List ℕ)
 pub own_taken : (c : ℤ) (xs ys : List ℕ) → xs ≡ (if int_eq c c then [] else ys) → xs ≡ []
 own_taken c xs ys left = let own : int_eq c c ≡ true = (Decides-int_eq c c).1 refl in left ∙ rw own refl
 
--- those that wait once all since the last store are gone through, and none is kept at the constant of its address
-pub are_far : (accesses : Accesses) → accesses.recent.items ≡ [] → ops_at accesses.kept (constant_of accesses.base) ≡ []
-    → AreFar accesses.base accesses
-are_far accesses empty none of placed short i some =
-    let zero : count_by (λ access. access.op == i) accesses.recent.items ≡ 0 =
-    ap (count_by (λ access. access.op == i)) empty in
-    let kept : 0 < count_in (λ k. k == i) accesses.kept = omega arith in
-    let found = at_some accesses.kept i kept in
-    let it = placed.kept found.0 i found.1 in
-    let differ : found.0 ≡ constant_of accesses.base → ⊥ =
-    λ same. subst (λ xs. In xs i) (ap (ops_at accesses.kept) same ∙ none) found.1 in
-    ap (λ o. apart_if_both o (Some accesses.base)) it.0 ∙ far_at accesses.base found.0 it.1 short differ
+-- those that wait once all recent ones are gone through, and none is kept at the constant of its address
+pub are_far : (accesses : Accesses)
+    → ((k : ℕ) (d : Access) → k < length accesses.recent.items
+    → are_apart (get_or accesses.recent.items k d).address accesses.base ≡ true)
+    → ops_at accesses.kept (constant_of accesses.base) ≡ [] → AreFar accesses.base accesses
+are_far accesses far none of placed short i some =
+    elim (cases_lt 0 (count_by (λ access. access.op == i) accesses.recent.items)) [
+      | inl recent ↦
+          let found = some_access accesses.recent.items i recent in
+          let place = contains_from accesses.recent.items found.0 found.1 in
+          let apart : are_apart (found.0).address accesses.base ≡ true =
+          ap (λ (a : Access). are_apart a.address accesses.base) (sym place.2) ∙ far place.0 found.0 place.1 in
+          let its : of i ≡ Some (found.0).address = ap of (sym found.2) ∙ (placed.recent found.0 found.1).0 in
+          ap (λ o. apart_if_both o (Some accesses.base)) its ∙ apart
+      | inr no_recent ↦
+          let kept : 0 < count_in (λ k. k == i) accesses.kept = omega arith in
+          let found = at_some accesses.kept i kept in
+          let it = placed.kept found.0 i found.1 in
+          let differ : found.0 ≡ constant_of accesses.base → ⊥ =
+          λ same. subst (λ xs. In xs i) (ap (ops_at accesses.kept) same ∙ none) found.1 in
+          ap (λ o. apart_if_both o (Some accesses.base)) it.0 ∙ far_at accesses.base found.0 it.1 short differ
+    ]
 
 -- first those that are kept are found, with the base of the last store, and then those since then
 module _ (old mid new : Accesses) (address : Word) (list list' list″ : List ℕ) (base : mid.base ≡ address)

@@ -15,6 +15,15 @@ at_same (Based a c) (Based b d) e one = ap (λ x. Based x e) (eqb-true a b one)
 at_same (Known c) (Based b d) e one = absurd (false≢true one)
 at_same (Based a c) (Known d) e one = absurd (false≢true one)
 
+-- of two words with one base, a third has one with both or with neither
+pub same_base : (u v w : Word) → have_one_base v w ≡ true → have_one_base u w ≡ have_one_base u v
+same_base (Known c) (Known d) (Known e) one = refl
+same_base (Based a c) (Known d) (Known e) one = refl
+same_base (Known c) (Based b d) (Based z e) one = refl
+same_base (Based a c) (Based b d) (Based z e) one = ap (λ x. a == x) (sym (eqb-true b z one))
+same_base u (Known d) (Based z e) one = absurd (false≢true one)
+same_base u (Based b d) (Known e) one = absurd (false≢true one)
+
 same_int : (c d : ℤ) → int_eq c d ≡ true → c ≡ d
 same_int c d t = (Decides-int_eq c d).0 t
 

@@ -1,5 +1,5 @@
 -- What is known before the next operation; for `KnownRegisters::take` and `known_addresses`.
-use Rattle.iloc_addresses.proofs.Common.{◌≡◌, ℕ, ◌+◌, List, [], ◌∷◌, ◌++◌, map, pos, ◌==◌, Some, None, Option, nat_cmp, unwrap_or, sym, ap, ◌∙◌, add-one, arith, eqb-true, eqb-false, get, range_with_len, defined, Op, Reg, by_bool, is_register, op_at, address_at, address_of, known_before, result_word, Word, Known, AreBefore, ChangesOnly, word_in}
+use Rattle.iloc_addresses.proofs.Common.{◌≡◌, ℕ, ◌+◌, List, [], ◌∷◌, ◌++◌, map, ◌==◌, Some, None, Option, sym, ap, ◌∙◌, add-one, arith, eqb-true, eqb-false, range_with_len, defined, Op, Reg, by_bool, is_register, op_at, address_at, address_of, known_before, result_word, Word, AreBefore, ChangesOnly, word_at, word_in}
 use Rattle.std.proofs.Math.Path.{fun_ext}
 use Rattle.std.proofs.lemmas.List.FromFn.{map-range_with_len_more}
 use Rattle.iloc_addresses.specs.declared.registers.KnownRegisters.{KnownRegisters}
@@ -23,7 +23,7 @@ module _ (ops : List Op) (i : ℕ) (op : Op) (old : KnownRegisters) (here : op_a
   pub one_more : (new : KnownRegisters) (register : Reg) → defined op ≡ Some register
       → ChangesOnly old new register (result_word i op (word_in old)) → AreBefore ops (i + 1) new
   one_more new register defines changes r = rw add-one (rw test (by_bool (r.0 == register.0)
-      (λ t. rw t (ap (λ n. unwrap_or (get nat_cmp new.words n) (Known (pos 0))) (eqb-true r.0 register.0 t)
+      (λ t. rw t (ap (word_at new) (eqb-true r.0 register.0 t)
       ∙ changes.changed ∙ result_known))
       (λ f. rw f (changes.others r (eqb-false r.0 register.0 f) ∙ known r))))
     where

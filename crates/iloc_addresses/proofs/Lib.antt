@@ -2,6 +2,7 @@ pub mod Common
 pub mod KnownBefore
 pub mod FarPairs
 pub mod ByConstants
+pub mod LastByConstants
 pub mod Bases
 pub mod Accessed
 pub mod LastOnes

@@ -17,6 +17,7 @@ pub fn known_addresses(alloc: Global, ops: &[Op]) -> Result<Vec<Option<Word>>, N
     ensures { IfOk result (λ found. found.items ≡ map (address_at ops.now) (range_with_len 0 (length ops.now))) }
 {
     let mut registers = KnownRegisters::new(alloc);
+    registers.clear(3 * ops.len());
     let mut found = Vec::new(alloc);
     for (i, op) in ops.iter().enumerate() {
         found.push(registers.address_of(op))?;

@@ -8,6 +8,7 @@ ghost use Rattle.std.specs.Option.{option_to_list};
 
 mod accesses;
 mod by_constant;
+mod last_by_constant;
 mod stores;
 
 use accesses::Accesses;

@@ -11,5 +11,6 @@ mod words;
 
 pub use addresses::known_addresses;
 pub use dependences::MemoryDependences;
+pub use registers::KnownRegisters;
 pub use successors::count_successors;
 pub use words::are_apart;

@@ -1,8 +1,6 @@
 -- What stands last before an operation, and what waits for a store.
 use Rattle.std.specs.Prelude.{ℕ, ◌≡◌, ◌<◌, ◌≤◌, ◌+◌, ◌==◌, ◌||◌, Bool, true, false, if◌then◌else◌, List, ◌++◌, Option, Some, None, ℤ, count_by}
 use Rattle.std.specs.Option.{option_or}
-use Rattle.std.specs.Ordering.{int_cmp}
-use Rattle.std.specs.BTreeMap.{get}
 use Rattle.iloc_ops.specs.declared.op.Op.{Op}
 use Rattle.iloc_meaning.specs.Arithmetic.{wrapped}
 use Rattle.iloc_meaning.specs.Trace.{op_at}
@@ -17,6 +15,7 @@ use Rattle.iloc_addresses.specs.declared.dependences.accesses.Access.{Access}
 use Rattle.iloc_addresses.specs.declared.dependences.accesses.Accesses.{Accesses}
 use Rattle.iloc_addresses.specs.declared.dependences.stores.Stores.{Stores}
 use Rattle.iloc_addresses.specs.Steps.ByConstant.{ops_at, count_in}
+use Rattle.iloc_addresses.specs.Steps.LastByConstant.{last_at}
 
 -- whether two words have one base, or both none
 abbrev pub have_one_base : Word → Word → Bool
@@ -41,7 +40,7 @@ IsShort c = wrapped c ≡ c
 -- the store that is found for an address
 abbrev pub store_for : Stores → Word → Option ℕ
 store_for stores address =
-    if have_one_base stores.base address then option_or (get int_cmp stores.own (constant_of address)) stores.other
+    if have_one_base stores.base address then option_or (last_at stores.own (constant_of address)) stores.other
     else stores.last
 
 -- how many of the operations that wait for a store pass a test

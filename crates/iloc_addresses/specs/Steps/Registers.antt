@@ -1,5 +1,5 @@
 -- What is known of registers while operations are gone through.
-use Rattle.std.specs.Prelude.{ℕ, ◌≡◌, ◌≢◌, List, unwrap_or, pos}
+use Rattle.std.specs.Prelude.{ℕ, ◌≡◌, ◌≢◌, List, slice_get, unwrap_or, pos}
 use Rattle.std.specs.Ordering.{nat_cmp}
 use Rattle.std.specs.BTreeMap.{get}
 use Rattle.iloc_ops.specs.declared.op.Reg.{Reg}
@@ -9,9 +9,13 @@ use Rattle.iloc_rules.specs.declared.word.Word.TheVariants.{Known}
 use Rattle.iloc_rules.specs.Apart.{known_before}
 use Rattle.iloc_addresses.specs.declared.registers.KnownRegisters.{KnownRegisters}
 
--- what is known of register r: that it is 0, unless something was noted
+-- what is known of a register by its number: that it is 0, unless something was noted
+abbrev pub word_at : KnownRegisters → ℕ → Word
+word_at registers n =
+    unwrap_or (slice_get registers.words.items n) (unwrap_or (get nat_cmp registers.others n) (Known (pos 0)))
+
 abbrev pub word_in : KnownRegisters → Reg → Word
-word_in registers r = unwrap_or (get nat_cmp registers.words r.0) (Known (pos 0))
+word_in registers r = word_at registers r.0
 
 -- the register has the word, and each other keeps its own
 pub record ChangesOnly (old new : KnownRegisters) (r : Reg) (word : Word) : Type 0 where

@@ -3,11 +3,11 @@ ghost use Rattle.std.specs.Prelude.{◌≡◌, ◌<◌, if◌then◌else◌, Non
 ghost use Rattle.iloc_rules.specs.declared.word.Word.{Word};
 ghost use Rattle.iloc_rules.specs.Apart.{are_apart};
 
+use super::last_by_constant::LastByConstant;
 use crate::words::{constant_of, have_one_base};
 use iloc_ops::NoMemory;
 use iloc_rules::Word;
 use std::alloc::Global;
-use std::collections::BTreeMap;
 
 /// For each address the last store that isn't apart from it.
 #[derive(Drop)]
@@ -19,7 +19,7 @@ pub(crate) struct Stores {
     // The last store with another base than that one's.
     other: Option<u32>,
     // By constant the last store with its base after the other.
-    own: BTreeMap<i32, u32>,
+    own: LastByConstant,
 }
 
 impl Stores {
@@ -34,7 +34,7 @@ impl Stores {
             base: Word::Known(0),
             last: None,
             other: None,
-            own: BTreeMap::new(alloc),
+            own: LastByConstant::new(alloc),
         }
     }
 
@@ -62,7 +62,7 @@ impl Stores {
     {
         let constant = constant_of(address);
         if have_one_base(self.base, address) {
-            self.own.get(&constant).copied().or(self.other)
+            self.own.get(constant).or(self.other)
         } else {
             self.last
         }
@@ -80,7 +80,7 @@ impl Stores {
             self.other = self.last;
             self.own.clear();
         }
-        self.own.insert(constant, j)?;
+        self.own.set(constant, j)?;
         self.base = address;
         self.last = Some(j);
         Ok(())

@@ -5,7 +5,7 @@ use Rattle.iloc_addresses.proofs.addresses.known_addresses.Goals as goal
 pub loop-i-init : goal.loop-i-init
 loop-i-init c = record {
   found = c.new-found.ensures.items;
-  known = c.new-registers.ensures c.args.ops.now;
+  known = c.clear.ensures c.args.ops.now;
 }
 
 pub loop-i-preserved : goal.loop-i-preserved
