@@ -165,9 +165,12 @@ impl Edges {
         ensures edges { OnOk result (length self.new.edges.items ≡ 0) }
         ensures capacity { OnOk result (HasCapacity self.new space) }
     {
-        self.clear(0)?;
+        self.edges.clear();
         self.edges.reserve(MOST_EDGES * space)?;
-        self.starts.reserve(space)?;
+        self.starts.clear();
+        self.starts.reserve(space + 1)?;
+        self.starts.push_reserved(0);
+        self.heads.clear();
         self.heads.reserve(space)?;
         Ok(())
     }

@@ -198,9 +198,10 @@ impl Tables {
         ensures ops { OnOk result (self.new.ops.items ≡ renamed block.now.ops) }
         ensures latencies { OnOk result (self.new.latencies ≡ self.old.latencies) }
     {
-        self.clear(lasts, block.ops.len())?;
-        names.clear(block.ops.len());
-        for op in block.ops.as_slice() {
+        let ops = block.ops.as_slice();
+        self.clear(lasts, ops.len())?;
+        names.clear(ops.len());
+        for op in ops {
             if !is_nop(op) {
                 self.push_by_shape(names, lasts, op)?;
             }

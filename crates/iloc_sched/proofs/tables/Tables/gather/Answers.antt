@@ -6,7 +6,7 @@ use Rattle.iloc_sched.proofs.tables.Tables.gather.Goals.{then-not-is_nop+in_ok-p
 
 pub push_by_shape-requires-clause-gathered : goal.push_by_shape-requires-clause-gathered
 push_by_shape-requires-clause-gathered c =
-    (take c.loop-op.op-index c.as_slice-op-items.result.now, c.loop-op.invariant.gathered)
+    (take c.loop-op.op-index c.as_slice-ops.result.now, c.loop-op.invariant.gathered)
 
 pub loop-op-preserved : goal.loop-op-preserved
 loop-op-preserved c = elim c.if-not-is_nop.branch [
@@ -50,4 +50,4 @@ returns-clause-book c = record {
 
 pub returns-clause-ops : goal.returns-clause-ops
 returns-clause-ops c =
-    all_renamed c.args.block.now.ops _ _ _ c.loop-op-test.false c.as_slice-op-items.ensures c.loop-op.invariant.gathered.ops
+    all_renamed c.args.block.now.ops _ _ _ c.loop-op-test.false c.as_slice-ops.ensures c.loop-op.invariant.gathered.ops

@@ -5,8 +5,8 @@ use Rattle.iloc_sched.proofs.tables.Tables.gather.Given as goal
 abbrev pub invariant-loop-op : goal.invariant-loop-op
 invariant-loop-op l = record {
   given : l.names.given ≤ 3 * l.op-index;
-  gathered : IsGathered (without_nops (take l.op-index l.op-items)) l.self l.lasts l.names;
+  gathered : IsGathered (without_nops (take l.op-index l.ops)) l.self l.lasts l.names;
   few : length l.self.ops.items ≤ l.op-index;
   latencies : l.self.latencies ≡ l.fn.self.latencies;
-  capacity : CanHold l.self (length l.op-items);
+  capacity : CanHold l.self (length l.ops);
 }
