@@ -32,6 +32,10 @@ EDGES = {
                                      "store r0 => r1\noutput 0\n", 9, 9),
     "a_sum_of_two_bases": ("load r0 => r1\nload r9 => r2\nadd r1, r2 => r3\nstore r0 => r1\nload r3 => r4\n", 15, 15),
     "stores_keep_their_order": (FOUR_CONSTANTS + "store r1 => r4\nstoreAI r1 => r4, 4\n", 7, 7),
+    "constants_of_one_slot": ("loadI 4 => r1\nloadI 1028 => r2\nstore r1 => r1\nstore r2 => r2\nload r1 => r3\n"
+                              "load r2 => r4\n", 13, 12),
+    "loads_that_wait": ("".join(f"loadI {4 * n} => r{n}\nload r{n} => r{n + 40}\n" for n in range(1, 41))
+                        + "loadI 400 => r90\nstore r90 => r90\nstore r90 => r40\nstore r90 => r1\n", 67, 66),
 }
 
 

@@ -15,7 +15,7 @@ ghost use Rattle.iloc_rules.specs.declared.memory_rule.MemoryRule.{MemoryRule as
 ghost use Rattle.iloc_rules.specs.declared.memory_rule.MemoryRule.TheVariants.{Book};
 ghost use Rattle.iloc_rules.specs.Renaming.{IsRenamed};
 
-mod by_address;
+pub(crate) mod by_address;
 pub(crate) mod kinds;
 pub mod lasts;
 pub mod later;

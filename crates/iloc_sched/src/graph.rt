@@ -81,13 +81,10 @@ impl Graph {
                 self.tables
                     .open(&mut self.names, &mut self.lasts, block, latencies)
             }
-            MemoryRule::Address => self.tables.open_by_address(
-                self.alloc,
-                &mut self.names,
-                &mut self.lasts,
-                block,
-                latencies,
-            ),
+            MemoryRule::Address => {
+                self.tables
+                    .open_by_address(&mut self.names, &mut self.lasts, block, latencies)
+            }
         };
         match opened {
             Ok(()) => Ok(()),

@@ -4,19 +4,19 @@ ghost use Rattle.iloc_ops.specs.declared.op.Op.{Op};
 ghost use Rattle.iloc_rules.specs.Renaming.{is_nop, renamed, without_nops, IsRenamed};
 
 use crate::edges::Edges;
+use crate::edges::by_address::LastsByAddress;
 use crate::edges::kinds::{Operations, fill_kinds};
 use crate::edges::lasts::Lasts;
 use crate::ranking::priority::fill_latencies;
 use crate::registers::OperandRegisters;
 use crate::renaming::{Names, is_nop};
-use iloc_addresses::known_addresses;
 use iloc_ops::{Block, MAX_OPS, NoMemory, Op};
 use iloc_rules::MemoryRule;
 use iloc_timed::{Kind, Latencies};
 use std::alloc::Global;
 
 /// Renamed operations, with their kinds and latencies and the edges between them.
-#[derive(Debug, Drop)]
+#[derive(Drop)]
 pub struct Tables {
     pub ops: Vec<Op>,
     pub kinds: Vec<Kind>,
@@ -26,6 +26,8 @@ pub struct Tables {
     pub edges: Edges,
     /// By operation its latency.
     pub own: Vec<u32>,
+    // By which edges by address are found.
+    by_address: LastsByAddress,
 }
 
 impl Tables {
@@ -50,6 +52,7 @@ impl Tables {
             rule: MemoryRule::Book,
             edges: Edges::new(alloc),
             own: Vec::new(alloc),
+            by_address: LastsByAddress::new(alloc),
         }
     }
 
@@ -232,7 +235,6 @@ impl Tables {
     /// Takes the operations of a block for these latencies by address.
     pub fn open_by_address(
         &mut self,
-        alloc: Global,
         names: &mut Names,
         lasts: &mut Lasts,
         block: &Block,
@@ -248,13 +250,12 @@ impl Tables {
         names.rename_block(&mut self.ops, block)?;
         fill_kinds(&mut self.kinds, &self.ops)?;
         fill_latencies(&mut self.own, &self.kinds, latencies)?;
-        let addresses = known_addresses(alloc, &self.ops)?;
         let operations = Operations {
             ops: &self.ops,
             latencies: &self.own,
         };
-        let registers = 3 * self.ops.len();
-        self.edges.fill_by_address(alloc, lasts, &operations, &addresses, registers, latencies)?;
+        self.edges
+            .fill_by_address(lasts, &mut self.by_address, &operations, latencies)?;
         self.rule = MemoryRule::Address;
         Ok(())
     }

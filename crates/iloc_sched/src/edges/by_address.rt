@@ -1,14 +1,15 @@
 //! The kept edges where operations whose addresses are known to differ don't wait for each other by memory.
-ghost use Rattle.std.specs.Prelude.{ℕ, ◌≡◌, ◌≤◌, ◌<◌, ◌+◌, ◌*◌, length, map, OnOk, Contains};
-ghost use Rattle.std.specs.List.{range_with_len};
+ghost use Rattle.std.specs.Prelude.{ℕ, ◌≡◌, ◌≤◌, ◌<◌, ◌+◌, ◌*◌, List, length, map, OnOk, Contains};
+ghost use Rattle.iloc_ops.specs.declared.op.Op.{Op as operation};
 ghost use Rattle.iloc_ops.specs.Registers.{used};
 ghost use Rattle.iloc_meaning.specs.Trace.{op_at};
 ghost use Rattle.iloc_timed.specs.Kinds.{kind as kind_of};
 ghost use Rattle.iloc_timed.specs.Latency.{latency};
-ghost use Rattle.iloc_rules.specs.Apart.{by_address, address_at};
+ghost use Rattle.iloc_rules.specs.Apart.{by_address};
 ghost use Rattle.iloc_rules.specs.declared.memory_rule.MemoryRule.TheVariants.{Address};
 ghost use Rattle.iloc_rules.specs.Renaming.{IsRenamed};
 ghost use Rattle.iloc_addresses.specs.Dependences.{AreSources};
+ghost use Rattle.iloc_addresses.specs.Steps.Dependences.{waiting};
 ghost use Rattle.iloc_sched.specs.Steps.Edges.ByAddress.{delay_after, CoversSources};
 ghost use Rattle.iloc_sched.specs.Steps.Edges.Lasts.{IsNext};
 ghost use Rattle.iloc_sched.specs.Steps.Edges.PartialGraph.{HasCapacity, IsPartialGraph, KeepsFrame, KeepsCapacity, Grows};
@@ -20,9 +21,9 @@ use crate::edges::Edges;
 use crate::edges::kinds::Operations;
 use crate::edges::lasts::Lasts;
 use crate::registers::{OperandRegisters, Uses};
-use iloc_addresses::MemoryDependences;
-use iloc_ops::{MAX_OPS, NoMemory};
-use iloc_rules::{Word, reads_stored};
+use iloc_addresses::{KnownRegisters, MemoryDependences};
+use iloc_ops::{MAX_OPS, NoMemory, Op};
+use iloc_rules::reads_stored;
 use iloc_timed::{Kind, Latencies};
 use std::alloc::Global;
 
@@ -34,6 +35,55 @@ fn delay_after(latencies: &Latencies, first: Kind, second: Kind) -> u32
         latencies.store
     } else {
         1
+    }
+}
+
+/// What is known before an operation of registers, and of those that it may have to wait for by memory and outputs.
+#[derive(Drop)]
+pub(crate) struct LastsByAddress {
+    registers: KnownRegisters,
+    dependences: MemoryDependences,
+    // Those that the last one has to wait for.
+    sources: Vec<u32>,
+}
+
+impl LastsByAddress {
+    ghost use Rattle.iloc_sched.specs.Steps.Edges.ByAddress.{AreKnown};
+
+    /// One that is to be cleared before the first list.
+    pub(crate) fn new(alloc: Global) -> LastsByAddress {
+        LastsByAddress {
+            registers: KnownRegisters::new(alloc),
+            dependences: MemoryDependences::new(alloc),
+            sources: Vec::new(alloc),
+        }
+    }
+
+    /// Before the first operation of a list. From now on registers below the limit are looked up fastest.
+    fn clear(&mut self, registers: usize)
+        ensures known { (ops : List operation) → AreKnown ops self.new 0 }
+        ensures waiting { waiting self.new.dependences ≡ 0 }
+    {
+        self.registers.clear(registers);
+        self.dependences.clear();
+    }
+
+    /// Takes operation j, of this kind, and finds those that it has to wait for.
+    #[inline(always)]
+    fn take(&mut self, op: &Op, kind: Kind, j: usize) -> Result<(), NoMemory>
+        requires of { kind ≡ kind_of op.now }
+        requires few { j < MAX_OPS }
+        ensures sources { OnOk result ((ops : List operation) → op_at ops j ≡ op.now → AreKnown ops self.old j
+            → AreSources (by_address ops) ops j self.new.sources.items) }
+        ensures known { OnOk result ((ops : List operation) → op_at ops j ≡ op.now → AreKnown ops self.old j
+            → AreKnown ops self.new (j + 1)) }
+        ensures few { OnOk result (length self.new.sources.items + waiting self.new.dependences
+            ≤ waiting self.old.dependences + 3) }
+    {
+        let address = self.registers.address_of(op);
+        self.dependences
+            .take(kind, address, j as u32, &mut self.sources)?;
+        self.registers.take(op, j as u32)
     }
 }
 
@@ -96,38 +146,34 @@ impl Edges {
         self.starts.push_reserved(self.edges.len() as u32);
     }
 
-    /// The kept edges of renamed operations with these addresses, found fastest where their registers are below the limit.
+    /// The kept edges of renamed operations.
     pub fn fill_by_address(
         &mut self,
-        alloc: Global,
         lasts: &mut Lasts,
+        earlier: &mut LastsByAddress,
         operations: &Operations,
-        addresses: &[Option<Word>],
-        registers: usize,
         latencies: &Latencies,
     ) -> Result<(), NoMemory>
         requires few { length operations.now.ops.now ≤ MAX_OPS }
         requires renamed { IsRenamed operations.now.ops.now }
         requires own { operations.now.latencies.now ≡ map (latency latencies.now) operations.now.ops.now }
-        requires addresses { addresses.now
-            ≡ map (address_at operations.now.ops.now) (range_with_len 0 (length operations.now.ops.now)) }
         ensures { OnOk result (IsGraphWhere (by_address operations.now.ops.now) latencies.now operations.now.ops.now
             (graph_of self.new)) }
     {
-        self.clear(operations.ops.len())?;
-        lasts.clear(registers);
-        let mut dependences = MemoryDependences::new(alloc);
-        let mut sources = Vec::new(alloc);
-        for j in 0..operations.ops.len() {
+        let count = operations.ops.len();
+        self.clear(count)?;
+        lasts.clear(3 * count);
+        earlier.clear(3 * count);
+        for j in 0..count {
             let op = operations.ops[j];
             let registers = OperandRegisters::of(&op);
             let kind = Kind::of(&op);
-            dependences.take(kind, addresses[j], j as u32, &mut sources)?;
+            earlier.take(&op, kind, j)?;
             self.add_by_address(
                 operations,
                 latencies,
                 lasts,
-                &sources,
+                &earlier.sources,
                 kind,
                 registers.uses,
                 j,

@@ -7,6 +7,9 @@ use Rattle.iloc_timed.specs.declared.latencies.Latencies.{Latencies}
 use Rattle.iloc_timed.specs.Kinds.{kind}
 use Rattle.iloc_rules.specs.Delays.{reads_stored}
 use Rattle.iloc_rules.specs.Steps.Members.{In}
+use Rattle.iloc_addresses.specs.Steps.Dependences.{IsBefore}
+use Rattle.iloc_addresses.specs.Steps.Registers.{AreBefore}
+use Rattle.iloc_sched.specs.declared.edges.by_address.LastsByAddress.{LastsByAddress}
 use Rattle.iloc_sched.specs.Steps.Graph.{Graph}
 use Rattle.iloc_sched.specs.Steps.Edges.PartialGraph.{HasEdge}
 
@@ -18,3 +21,8 @@ delay_after lat i j = if reads_stored i j then lat.store else 1
 abbrev pub CoversSources : Latencies → List Op → Graph → ℕ → List ℕ → Type 0
 CoversSources lat ops graph j sources =
     (i : ℕ) → In sources i → HasEdge graph j i (delay_after lat (kind (op_at ops i)) (kind (op_at ops j)))
+
+-- this is known before operation j of registers, and of what it may have to wait for
+pub record AreKnown (ops : List Op) (lasts : LastsByAddress) (j : ℕ) : Type 0 where
+  pub registers : AreBefore ops j lasts.registers
+  pub memory : IsBefore ops lasts.dependences j
