@@ -31,21 +31,23 @@ pub use Rattle.iloc_timed.specs.declared.row.Row.{Row}
 pub use Rattle.iloc_rules.proofs.Basics.Maxima.{fold_max_each, fold_max_reached, max_is}
 pub use Rattle.iloc_rules.proofs.Basics.Members.{any_at, contains_from, empty_from, from_any, from_append, from_filter, from_map, in_filter, in_from, in_left, in_map, in_right}
 pub use Rattle.iloc_rules.proofs.Basics.Ordered.{ordered_filter}
-pub use Rattle.iloc_rules.proofs.DelayPairs.DelayBounds.{delay_at_least, delay_at_most, from_when, in_when}
-pub use Rattle.iloc_rules.proofs.PriorityValues.Longest.{is_priority, length-priorities}
+pub use Rattle.iloc_rules.proofs.DelayPairs.DelayBounds.{delay_at_least_where, delay_at_most_where}
 pub use Rattle.iloc_rules.proofs.Renamed.MentionedSources.{length-renamed_by}
-pub use Rattle.iloc_rules.specs.Delays.{delays, keeps_order, memory_delays, reads_stored, uses_result, when}
-pub use Rattle.iloc_rules.specs.Greedy.{IsGreedyBy, can_go_beside, chosen_with, first_of_all, may_stand_beside, on_units, ready}
-pub use Rattle.iloc_rules.specs.Lawful.{IsLawful}
-pub use Rattle.iloc_rules.specs.Least.{least, least_of}
-pub use Rattle.iloc_rules.specs.Priority.{priorities, priority}
+pub use Rattle.iloc_rules.specs.Delays.{Counts, IsDelayPairWhere, delays, delays_where, keeps_order_where, reads_stored, uses_result, when}
+pub use Rattle.iloc_rules.specs.Greedy.{IsGreedyWhere, can_go_beside, chosen_with, first_of_all, may_stand_beside, on_units}
+pub use Rattle.iloc_rules.specs.Lawful.{IsLawfulWhere}
 pub use Rattle.iloc_rules.specs.Renaming.{without_nops}
-pub use Rattle.iloc_rules.specs.Starts.{start}
+pub use Rattle.iloc_rules.specs.Rule.{counts_by}
+pub use Rattle.iloc_rules.specs.Starts.{start_where}
 pub use Rattle.iloc_rules.specs.Steps.Choosing.{GoesBefore}
 pub use Rattle.iloc_rules.specs.Steps.Members.{In}
+pub use Rattle.iloc_rules.specs.declared.delay_pairs.Pair.{Pair}
 pub use Rattle.iloc_rules.specs.declared.delay_pairs.TheConstants.{LONGEST_DELAY}
+pub use Rattle.iloc_rules.specs.declared.memory_rule.MemoryRule.{MemoryRule}
+pub use Rattle.iloc_explain.specs.Chain.{chain_by, chains_by}
 pub use Rattle.iloc_explain.specs.Path.{Begins, Binds, HadRoom, IsLastToArrive, IsPath, LeadBack, origin, span}
+pub use Rattle.iloc_explain.specs.ReadyList.{ready_under}
 pub use Rattle.iloc_explain.specs.Steps.Queue.{AreLater, IsComing, IsInOrder, IsKept, IsKnown, IsReadyList, IsReadyPlace, IsRowAt, Place, coming_cmp, number, place_at, place_cmp, shown, without, without_place}
-pub use Rattle.iloc_explain.specs.Waiting.{IsReadyAt, WaitsUntil, ends_at, issue_order, waited_until}
+pub use Rattle.iloc_explain.specs.Waiting.{IsReadyAt, WaitsForAll, WaitsUntil, ends_at, issue_order, waited_until}
 pub use Rattle.iloc_explain.specs.declared.explanation.Explained.{Explained}
 pub use Rattle.iloc_explain.specs.declared.path.Stretch.TheVariants.{Delay, Free, Held}

@@ -1,7 +1,7 @@
 -- In a greedy schedule no row has room for an operation that is ready and issued later.
-use Rattle.iloc_explain.proofs.Common.{◌≡◌, ℕ, ◌+◌, ◌-◌, ◌<◌, ◌≤◌, true, ◌≢◌, List, [], ◌∷◌, ◌++◌, reverse, length, nat_le, ◌==◌, Some, None, Contains, filter, Option, sym, refl, ap, ◌∙◌, subst, inl, inr, arith, eqb-true, leb-false, reverse-append, none-some, Op, by_bool, op_at, issued_within, holds_one, holds_zero, issued_there, kind, latency, holds, issue_cycle, row_at, Latencies, Row, from_append, in_filter, in_from, IsGreedyBy, can_go_beside, chosen_with, first_of_all, may_stand_beside, on_units, ready, In, Binds, HadRoom, IsPath, LeadBack, origin, span, IsReadyAt, Delay, Free}
+use Rattle.iloc_explain.proofs.Common.{◌≡◌, ℕ, ◌+◌, ◌-◌, ◌<◌, ◌≤◌, true, ◌≢◌, List, [], ◌∷◌, ◌++◌, reverse, length, nat_le, ◌==◌, Some, None, Contains, filter, Option, sym, refl, ap, ◌∙◌, subst, inl, inr, arith, eqb-true, leb-false, reverse-append, none-some, Op, by_bool, op_at, issued_within, holds_one, holds_zero, issued_there, kind, latency, holds, issue_cycle, row_at, Latencies, MemoryRule, Row, from_append, in_filter, in_from, IsGreedyWhere, counts_by, can_go_beside, chosen_with, first_of_all, may_stand_beside, on_units, ready_under, In, Binds, HadRoom, IsPath, LeadBack, origin, span, IsReadyAt, Delay, Free}
 use Rattle.iloc_rules.proofs.Choice.FirstOfAll.{first_some}
-use Rattle.iloc_rules.proofs.Choice.Ready.{ready_from}
+use Rattle.iloc_rules.proofs.Choice.Ready.{ready_from_where}
 use Rattle.iloc_explain.specs.declared.holding.Holder.TheVariants.{Delays, Nothing}
 use Rattle.iloc_explain.specs.declared.path.Stretch.{Stretch}
 use Rattle.iloc_explain.specs.Holding.{clash, held_by, holder, keeper, keeper_of}
@@ -22,18 +22,18 @@ units_keep : (ops : List Op) (j a : ℕ) (b : Option ℕ) → (b ≡ None → cl
     → keeper ops (on_units ops a b) j ≢ None
 units_keep ops j a b clashes = grind (arith, full_keeps, one_keeps)
 
-module _ (prios : List ℕ) (lat : Latencies) (block ops : List Op) (rows : List Row) (greedy : IsGreedyBy prios lat block ops rows) where
+module _ (prios : List ℕ) (rule : MemoryRule) (lat : Latencies) (block ops : List Op) (rows : List Row) (greedy : IsGreedyWhere (counts_by rule ops) prios lat block ops rows) where
   -- the first of what is ready is issued in the row
   first_held : (ops : List Op) (row : Row) (a : ℕ) (b : Option ℕ) → row ≡ on_units ops a b → holds row a ≡ true
   first_held ops row a b is = grind (arith, holds_one, holds_zero)
 
-  pub no_room : (j r b : ℕ) → j < length ops → IsReadyAt lat ops rows j r → r ≤ b → b < issue_cycle rows j
+  pub no_room : (j r b : ℕ) → j < length ops → IsReadyAt rule lat ops rows j r → r ≤ b → b < issue_cycle rows j
       → keeper ops (row_at rows b) j ≢ None
   no_room j r b known is_ready after before =
       let last : issue_cycle rows j < length rows = issued_within ops rows j known greedy.lawful.table in
       let within : b < length rows = omega arith in
-      let candidates : List ℕ = ready lat ops rows b in
-      let waits : In candidates j = ready_from lat ops rows b j record {
+      let candidates : List ℕ = ready_under rule lat ops rows b in
+      let waits : In candidates j = ready_from_where (counts_by rule ops) lat ops rows b j record {
         within = known;
         waiting = omega arith;
         over = λ h d pair. let over : issue_cycle rows h + d ≤ r = is_ready.over h d pair in omega arith;
@@ -64,7 +64,7 @@ module _ (prios : List ℕ) (lat : Latencies) (block ops : List Op) (rows : List
           (λ f. rw f refl)
 
   -- so nothing but its delays or an operation keeps one out of the row before
-  pub held_by_some : (j r : ℕ) → j < length ops → IsReadyAt lat ops rows j r → holder ops rows j (issue_cycle rows j) r ≢ Nothing
+  pub held_by_some : (j r : ℕ) → j < length ops → IsReadyAt rule lat ops rows j r → holder ops rows j (issue_cycle rows j) r ≢ Nothing
   held_by_some j r known is_ready nothing = by_bool (nat_le (issue_cycle rows j) r)
       (λ t. let delays : Delays ≡ Nothing = rw t at nothing in absurd cc)
       (λ f.
@@ -77,17 +77,17 @@ module _ (prios : List ℕ) (lat : Latencies) (block ops : List Op) (rows : List
       none_held (Some i) is = absurd cc
 
   -- and no stretch that leads back is free
-  none_free : (j c n : ℕ) (back : List Stretch) → j < length ops → c ≤ issue_cycle rows j → LeadBack lat ops rows j c back
+  none_free : (j c n : ℕ) (back : List Stretch) → j < length ops → c ≤ issue_cycle rows j → LeadBack rule lat ops rows j c back
       → In back (Free n) → ⊥
   none_free j c n [] known within leads there = there
   none_free j c n (s ∷ back) known within (binds, leads) (inl here) =
-      let free : Binds lat ops rows j c (Free n) = subst (Binds lat ops rows j c) here binds in
+      let free : Binds rule lat ops rows j c (Free n) = subst (Binds rule lat ops rows j c) here binds in
       let had : HadRoom ops rows j free.0 c n = free.2 in
       let some : 0 < n = had.some in
       let far : free.0 + n ≤ c = had.ready in
       no_room j free.0 (c - 1) known free.1 (omega arith) (omega arith) (had.room (c - 1) (omega arith) (omega arith))
   none_free j c n (s ∷ back) known within (binds, leads) (inr later) =
-      let place = binds_from lat ops rows j c s greedy.lawful.table known within binds in
+      let place = binds_from rule lat ops rows j c s greedy.lawful.table known within binds in
       none_free (origin s j) (c - span s) n back place.0 place.1 leads later
 
 in_turned : (xs : List Stretch) (s : Stretch) → In (reverse xs) s → In xs s
@@ -100,20 +100,20 @@ in_turned (x ∷ xs) s there =
       | inr (inr none) ↦ absurd none
     ]
 
-path_has_none : (prios : List ℕ) (lat : Latencies) (block ops : List Op) (rows : List Row) (path : List Stretch) (n : ℕ)
-    → IsGreedyBy prios lat block ops rows → IsPath lat ops rows path → Contains path (Free n) → ⊥
-path_has_none prios lat block [] rows path n greedy is there =
+path_has_none : (prios : List ℕ) (rule : MemoryRule) (lat : Latencies) (block ops : List Op) (rows : List Row) (path : List Stretch) (n : ℕ)
+    → IsGreedyWhere (counts_by rule ops) prios lat block ops rows → IsPath rule lat ops rows path → Contains path (Free n) → ⊥
+path_has_none prios rule lat block [] rows path n greedy is there =
     let none : In [] (Free n) = subst (λ xs. In xs (Free n)) is (in_from path (Free n) there) in none
-path_has_none prios lat block (op ∷ ops) rows path n greedy (j, back, last, leads, turned) there =
+path_has_none prios rule lat block (op ∷ ops) rows path n greedy (j, back, last, leads, turned) there =
     let inside : In (reverse (Delay j (latency lat (op_at (op ∷ ops) j)) ∷ back)) (Free n) =
     subst (λ xs. In xs (Free n)) turned (in_from path (Free n) there) in
     elim (in_turned (Delay j (latency lat (op_at (op ∷ ops) j)) ∷ back) (Free n) inside) [
       | inl same ↦ absurd cc
-      | inr before ↦ none_free prios lat block (op ∷ ops) rows greedy j (issue_cycle rows j) n back last.known (omega arith) leads before
+      | inr before ↦ none_free prios rule lat block (op ∷ ops) rows greedy j (issue_cycle rows j) n back last.known (omega arith) leads before
     ]
 
 pub greedy_leaves_none : GreedySchedulesLeaveNoRoom
 greedy_leaves_none = record {
-  held = λ prios lat block ops rows greedy. held_by_some prios lat block ops rows greedy;
-  path = λ prios lat block ops rows path greedy is n. path_has_none prios lat block ops rows path n greedy is;
+  held = λ prios rule lat block ops rows greedy. held_by_some prios rule lat block ops rows greedy;
+  path = λ prios rule lat block ops rows path greedy is n. path_has_none prios rule lat block ops rows path n greedy is;
 }

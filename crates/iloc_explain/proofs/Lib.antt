@@ -1,9 +1,11 @@
 pub mod Common
 pub mod HasDelay
 pub mod IssueCycles
-pub mod LatestOnes
+pub mod ChainLengths
+pub mod CountedPairs
 pub mod Links
 pub mod ReadyCycles
+pub mod KeptPairs
 pub mod Waits
 pub mod OneReadyCycle
 pub mod Stretches

@@ -1,5 +1,5 @@
 -- There is one text that explains a schedule.
-use Rattle.iloc_explain.proofs.Common.{◌≡◌, ℕ, suc, ◌+◌, ◌-◌, ◌<◌, ◌≤◌, List, [], ◌∷◌, ◌++◌, length, slice_get, Some, sym, refl, ap, ◌∙◌, subst, ap₂, inl, inr, arith, cases_order, none-some, same_Some, Op, cycles, issue_cycle, row_at, Latencies, Row, least, without_nops, Begins, Binds, HadRoom, IsLastToArrive, IsPath, LeadBack, origin, span, waited_until, Explained, Delay, Free, Held}
+use Rattle.iloc_explain.proofs.Common.{◌≡◌, ℕ, suc, ◌+◌, ◌-◌, ◌<◌, ◌≤◌, List, [], ◌∷◌, ◌++◌, length, slice_get, Some, sym, refl, ap, ◌∙◌, subst, ap₂, inl, inr, arith, cases_order, none-some, same_Some, Op, cycles, issue_cycle, row_at, Latencies, MemoryRule, Row, without_nops, Begins, Binds, HadRoom, IsLastToArrive, IsPath, LeadBack, origin, span, waited_until, Explained, Delay, Free, Held}
 use Rattle.iloc_explain.specs.Explained.{IsExplained}
 use Rattle.iloc_explain.specs.Holding.{holder, keeper}
 use Rattle.iloc_explain.specs.Laws.{SchedulesHaveOneExplanation}
@@ -10,7 +10,7 @@ use Rattle.iloc_explain.specs.declared.path.Stretch.{Stretch}
 use Rattle.iloc_explain.proofs.Stretches.{waited_earlier}
 
 -- A schedule has one path.
-module _ (lat : Latencies) (ops : List Op) (rows : List Row) where
+module _ (rule : MemoryRule) (lat : Latencies) (ops : List Op) (rows : List Row) where
   -- where one of them is an operation in the row before, and the other room in it, they aren't of one cycle
   room_or_kept : (j c r n h : ℕ) → HadRoom ops rows j r c n → keeper ops (row_at rows (c - 1)) j ≡ Some h → ⊥
   room_or_kept j c r n h had kept = grind (arith, none-some)
@@ -23,45 +23,45 @@ module _ (lat : Latencies) (ops : List Op) (rows : List Row) where
   room_same j c r n m had also = grind (arith, cases_order, room_not_longer)
 
   -- one stretch binds an operation in a cycle
-  binds_same : (j c : ℕ) (s t : Stretch) → Binds lat ops rows j c s → Binds lat ops rows j c t → s ≡ t
+  binds_same : (j c : ℕ) (s t : Stretch) → Binds rule lat ops rows j c s → Binds rule lat ops rows j c t → s ≡ t
   binds_same j c (Delay i d) (Delay k e) (ready, first, sum) (also, other, sum') = grind (arith, same_Some)
   binds_same j c (Delay i d) (Held h) (ready, first, sum) (r, also, later, kept) =
-      let same : c ≡ r = ready_same lat ops rows j c r ready also in absurd (omega arith)
+      let same : c ≡ r = ready_same rule lat ops rows j c r ready also in absurd (omega arith)
   binds_same j c (Delay i d) (Free n) (ready, first, sum) (r, also, had) =
-      let same : c ≡ r = ready_same lat ops rows j c r ready also in
+      let same : c ≡ r = ready_same rule lat ops rows j c r ready also in
       let some : 0 < n = had.some in
       let far : r + n ≤ c = had.ready in
       absurd (omega arith)
   binds_same j c (Held h) (Delay i d) (r, also, later, kept) (ready, first, sum) =
-      let same : c ≡ r = ready_same lat ops rows j c r ready also in absurd (omega arith)
+      let same : c ≡ r = ready_same rule lat ops rows j c r ready also in absurd (omega arith)
   binds_same j c (Held h) (Held g) (r, ready, later, kept) (q, also, later', kept') =
       ap Held (same_Some h g (sym kept ∙ kept'))
   binds_same j c (Held h) (Free n) (r, ready, later, kept) (q, also, had) = absurd (room_or_kept j c q n h had kept)
   binds_same j c (Free n) (Delay i d) (r, also, had) (ready, first, sum) =
-      let same : c ≡ r = ready_same lat ops rows j c r ready also in
+      let same : c ≡ r = ready_same rule lat ops rows j c r ready also in
       let some : 0 < n = had.some in
       let far : r + n ≤ c = had.ready in
       absurd (omega arith)
   binds_same j c (Free n) (Held h) (q, also, had) (r, ready, later, kept) = absurd (room_or_kept j c q n h had kept)
   binds_same j c (Free n) (Free m) (r, ready, had) (q, also, had') =
-      let same : q ≡ r = ready_same lat ops rows j q r also ready in
+      let same : q ≡ r = ready_same rule lat ops rows j q r also ready in
       ap Free (room_same j c r n m had (subst (λ k. HadRoom ops rows j k c m) same had'))
 
   -- and none where a path begins
-  begins_there : (j c : ℕ) (s : Stretch) → Begins lat ops rows j c → Binds lat ops rows j c s → ⊥
+  begins_there : (j c : ℕ) (s : Stretch) → Begins rule lat ops rows j c → Binds rule lat ops rows j c s → ⊥
   begins_there j c (Delay i d) (inl start) (ready, first, sum) = grind (arith, waited_earlier)
   begins_there j c (Delay i d) (inr (r, also, early)) (ready, first, sum) =
-      let same : c ≡ r = ready_same lat ops rows j c r ready also in omega arith
+      let same : c ≡ r = ready_same rule lat ops rows j c r ready also in omega arith
   begins_there j c (Held h) (inl start) (r, ready, later, kept) = omega arith
   begins_there j c (Held h) (inr (q, also, early)) (r, ready, later, kept) =
-      let same : q ≡ r = ready_same lat ops rows j q r also ready in omega arith
+      let same : q ≡ r = ready_same rule lat ops rows j q r also ready in omega arith
   begins_there j c (Free n) (inl start) (r, ready, had) = grind arith
   begins_there j c (Free n) (inr (q, also, early)) (r, ready, had) =
-      let same : q ≡ r = ready_same lat ops rows j q r also ready in
+      let same : q ≡ r = ready_same rule lat ops rows j q r also ready in
       let far : r + n ≤ c = had.ready in
       omega arith
 
-  leads_same : (j c : ℕ) (back other : List Stretch) → LeadBack lat ops rows j c back → LeadBack lat ops rows j c other
+  leads_same : (j c : ℕ) (back other : List Stretch) → LeadBack rule lat ops rows j c back → LeadBack rule lat ops rows j c other
       → back ≡ other
   leads_same j c [] [] leads also = refl
   leads_same j c [] (t ∷ other) begins (binds, rest) = absurd (begins_there j c t begins binds)
@@ -70,21 +70,21 @@ module _ (lat : Latencies) (ops : List Op) (rows : List Row) where
       let same : t ≡ s = binds_same j c t s binds' binds in
       ap₂ (λ x xs. x ∷ xs) (sym same)
       (leads_same (origin s j) (c - span s) back other rest
-      (subst (λ x. LeadBack lat ops rows (origin x j) (c - span x) other) same rest'))
+      (subst (λ x. LeadBack rule lat ops rows (origin x j) (c - span x) other) same rest'))
 
   last_same : (j k : ℕ) → IsLastToArrive lat ops rows j → IsLastToArrive lat ops rows k → j ≡ k
   last_same j k one other = grind (arith, cases_order)
 
-pub path_same : (lat : Latencies) (ops : List Op) (rows : List Row) (path other : List Stretch) → IsPath lat ops rows path
-    → IsPath lat ops rows other → path ≡ other
-path_same lat ops rows path other is also = grind (arith, last_same, leads_same)
+pub path_same : (rule : MemoryRule) (lat : Latencies) (ops : List Op) (rows : List Row) (path other : List Stretch) → IsPath rule lat ops rows path
+    → IsPath rule lat ops rows other → path ≡ other
+path_same rule lat ops rows path other is also = grind (arith, last_same, leads_same)
 
-line_same : (prios : List ℕ) (lat : Latencies) (ops : List Op) (rows : List Row) (j : ℕ) (e f : Explained) (op new : Op)
-    → IsExplained prios lat ops rows j e → IsExplained prios lat ops rows j f → explained_line j e op new ≡ explained_line j f op new
-line_same prios lat ops rows j e f op new is also =
-    let ready : e.ready ≡ f.ready = ready_same lat ops rows j e.ready f.ready is.ready also.ready in
+line_same : (prios : List ℕ) (rule : MemoryRule) (lat : Latencies) (ops : List Op) (rows : List Row) (j : ℕ) (e f : Explained) (op new : Op)
+    → IsExplained prios rule lat ops rows j e → IsExplained prios rule lat ops rows j f → explained_line j e op new ≡ explained_line j f op new
+line_same prios rule lat ops rows j e f op new is also =
+    let ready : e.ready ≡ f.ready = ready_same rule lat ops rows j e.ready f.ready is.ready also.ready in
     let after : e.after.items ≡ f.after.items =
-    is.after ∙ (ap (waited_until lat ops rows j) ready ∙ sym also.after) in
+    is.after ∙ (ap (waited_until rule lat ops rows j) ready ∙ sym also.after) in
     let cycle : e.cycle ≡ f.cycle = is.cycle ∙ sym also.cycle in
     let unit : e.unit ≡ f.unit = is.unit ∙ sym also.unit in
     let priority : e.priority ≡ f.priority = is.priority ∙ sym also.priority in
@@ -93,38 +93,38 @@ line_same prios lat ops rows j e f op new is also =
     let held : e.held ≡ f.held = is.held ∙ (ap (holder ops rows j (issue_cycle rows j)) ready ∙ sym also.held) in
     rw (cycle, unit, ready, after, priority, earliest, slack, held) refl
 
-lines_same : (prios : List ℕ) (lat : Latencies) (ops : List Op) (rows : List Row) (k : ℕ) (es fs : List Explained) (block renamed : List Op)
-    → length es ≡ length fs → ((j : ℕ) (e : Explained) → slice_get es j ≡ Some e → IsExplained prios lat ops rows (k + j) e)
-    → ((j : ℕ) (f : Explained) → slice_get fs j ≡ Some f → IsExplained prios lat ops rows (k + j) f)
+lines_same : (prios : List ℕ) (rule : MemoryRule) (lat : Latencies) (ops : List Op) (rows : List Row) (k : ℕ) (es fs : List Explained) (block renamed : List Op)
+    → length es ≡ length fs → ((j : ℕ) (e : Explained) → slice_get es j ≡ Some e → IsExplained prios rule lat ops rows (k + j) e)
+    → ((j : ℕ) (f : Explained) → slice_get fs j ≡ Some f → IsExplained prios rule lat ops rows (k + j) f)
     → explained_lines k es block renamed ≡ explained_lines k fs block renamed
-lines_same prios lat ops rows k [] [] block renamed long are also = refl
-lines_same prios lat ops rows k [] (f ∷ fs) block renamed long are also = absurd (omega arith)
-lines_same prios lat ops rows k (e ∷ es) [] block renamed long are also = absurd (omega arith)
-lines_same prios lat ops rows k (e ∷ es) (f ∷ fs) [] renamed long are also = refl
-lines_same prios lat ops rows k (e ∷ es) (f ∷ fs) (op ∷ block) [] long are also = refl
-lines_same prios lat ops rows k (e ∷ es) (f ∷ fs) (op ∷ block) (new ∷ renamed) long are also =
+lines_same prios rule lat ops rows k [] [] block renamed long are also = refl
+lines_same prios rule lat ops rows k [] (f ∷ fs) block renamed long are also = absurd (omega arith)
+lines_same prios rule lat ops rows k (e ∷ es) [] block renamed long are also = absurd (omega arith)
+lines_same prios rule lat ops rows k (e ∷ es) (f ∷ fs) [] renamed long are also = refl
+lines_same prios rule lat ops rows k (e ∷ es) (f ∷ fs) (op ∷ block) [] long are also = refl
+lines_same prios rule lat ops rows k (e ∷ es) (f ∷ fs) (op ∷ block) (new ∷ renamed) long are also =
     let here : k + 0 ≡ k = omega arith in
-    let P : ℕ → Type 0 = λ n. IsExplained prios lat ops rows n e in
-    let Q : ℕ → Type 0 = λ n. IsExplained prios lat ops rows n f in
+    let P : ℕ → Type 0 = λ n. IsExplained prios rule lat ops rows n e in
+    let Q : ℕ → Type 0 = λ n. IsExplained prios rule lat ops rows n f in
     ap₂ (λ line rest. line ++ rest)
-    (line_same prios lat ops rows k e f op new (subst P here (are 0 e refl)) (subst Q here (also 0 f refl)))
-    (lines_same prios lat ops rows (k + 1) es fs block renamed (omega arith)
+    (line_same prios rule lat ops rows k e f op new (subst P here (are 0 e refl)) (subst Q here (also 0 f refl)))
+    (lines_same prios rule lat ops rows (k + 1) es fs block renamed (omega arith)
     (λ j x at. let next : k + suc j ≡ (k + 1) + j = omega arith in
-    let R : ℕ → Type 0 = λ n. IsExplained prios lat ops rows n x in subst R next (are (suc j) x at))
+    let R : ℕ → Type 0 = λ n. IsExplained prios rule lat ops rows n x in subst R next (are (suc j) x at))
     (λ j x at. let next : k + suc j ≡ (k + 1) + j = omega arith in
-    let R : ℕ → Type 0 = λ n. IsExplained prios lat ops rows n x in subst R next (also (suc j) x at)))
+    let R : ℕ → Type 0 = λ n. IsExplained prios rule lat ops rows n x in subst R next (also (suc j) x at)))
 
 pub one_explanation : SchedulesHaveOneExplanation
-one_explanation prios lat block ops rows issued text text' is also =
+one_explanation prios rule lat bound block ops rows issued text text' is also =
     let long : length is.explained ≡ length also.explained = is.are_explained.all ∙ sym also.are_explained.all in
     let lines : explained_lines 0 is.explained (without_nops block) issued ≡ explained_lines 0 also.explained (without_nops block) issued =
-    lines_same prios lat ops rows 0 is.explained also.explained (without_nops block) issued long
+    lines_same prios rule lat ops rows 0 is.explained also.explained (without_nops block) issued long
     (λ j e at. let here : j ≡ 0 + j = omega arith in
-    let R : ℕ → Type 0 = λ n. IsExplained prios lat ops rows n e in subst R here (is.are_explained.each j e at))
+    let R : ℕ → Type 0 = λ n. IsExplained prios rule lat ops rows n e in subst R here (is.are_explained.each j e at))
     (λ j e at. let here : j ≡ 0 + j = omega arith in
-    let R : ℕ → Type 0 = λ n. IsExplained prios lat ops rows n e in subst R here (also.are_explained.each j e at)) in
-    let chain : is.chain ≡ also.chain = longest_same lat ops is.chain also.chain is.is_longest also.is_longest in
-    let path : is.path ≡ also.path = path_same lat ops rows is.path also.path is.is_path also.is_path in
-    is.listed ∙ (ap₂ (λ ls ch. ls ++ cycles_line (cycles lat ops rows) (least lat block) ++ chain_line ch ++ path_line is.path) lines chain
-    ∙ (ap (λ pa. explained_lines 0 also.explained (without_nops block) issued ++ cycles_line (cycles lat ops rows) (least lat block)
+    let R : ℕ → Type 0 = λ n. IsExplained prios rule lat ops rows n e in subst R here (also.are_explained.each j e at)) in
+    let chain : is.chain ≡ also.chain = longest_same rule lat ops is.chain also.chain is.is_longest also.is_longest in
+    let path : is.path ≡ also.path = path_same rule lat ops rows is.path also.path is.is_path also.is_path in
+    is.listed ∙ (ap₂ (λ ls ch. ls ++ cycles_line (cycles lat ops rows) bound ++ chain_line ch ++ path_line is.path) lines chain
+    ∙ (ap (λ pa. explained_lines 0 also.explained (without_nops block) issued ++ cycles_line (cycles lat ops rows) bound
     ++ chain_line also.chain ++ path_line pa) path ∙ sym also.listed))

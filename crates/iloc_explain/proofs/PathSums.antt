@@ -1,5 +1,5 @@
 -- The stretches of the path of a lawful schedule take its cycles together.
-use Rattle.iloc_explain.proofs.Common.{◌≡◌, ℕ, ◌+◌, ◌-◌, ◌<◌, ◌≤◌, List, [], ◌∷◌, ◌++◌, reverse, length, sym, refl, ap, ◌∙◌, inl, inr, arith, reverse-append, sum_by-cons, sum_by_push, sum_by, Op, op_at, issued_within, cycles, latency, issue_cycle, Latencies, Row, IsLawful, Binds, LeadBack, origin, span, IsReadyAt, Delay, Free, Held}
+use Rattle.iloc_explain.proofs.Common.{◌≡◌, ℕ, ◌+◌, ◌-◌, ◌<◌, ◌≤◌, List, [], ◌∷◌, ◌++◌, reverse, length, sym, refl, ap, ◌∙◌, inl, inr, arith, reverse-append, sum_by-cons, sum_by_push, sum_by, Op, op_at, issued_within, cycles, latency, issue_cycle, Latencies, MemoryRule, Row, IsLawfulWhere, counts_by, Binds, LeadBack, origin, span, IsReadyAt, Delay, Free, Held}
 use Rattle.iloc_explain.specs.declared.path.Stretch.{Stretch}
 use Rattle.iloc_explain.specs.Laws.{PathsSumToTheCycles}
 use Rattle.iloc_explain.proofs.OneReadyCycle.{ready_same}
@@ -14,9 +14,9 @@ sum_by_reverse f (x ∷ xs) =
     let first : sum_by f (x ∷ xs) ≡ f x + sum_by f xs = sum_by-cons f x xs in
     ap (sum_by f) turned ∙ omega arith
 
-module _ (lat : Latencies) (block ops : List Op) (rows : List Row) (lawful : IsLawful lat block ops rows) where
+module _ (rule : MemoryRule) (lat : Latencies) (block ops : List Op) (rows : List Row) (lawful : IsLawfulWhere (counts_by rule ops) lat block ops rows) where
   -- an operation is issued once it is ready
-  pub ready_by_issue : (j r : ℕ) → IsReadyAt lat ops rows j r → r ≤ issue_cycle rows j
+  pub ready_by_issue : (j r : ℕ) → IsReadyAt rule lat ops rows j r → r ≤ issue_cycle rows j
   ready_by_issue j r ready = elim ready.earliest [
     | inl start ↦ omega arith
     | inr (i, waits) ↦
@@ -26,8 +26,8 @@ module _ (lat : Latencies) (block ops : List Op) (rows : List Row) (lawful : IsL
   ]
 
   -- and so is it where a stretch begins
-  ready_before : (j c : ℕ) (s : Stretch) → j < length ops → c ≤ issue_cycle rows j → Binds lat ops rows j c s → (r : ℕ)
-      → IsReadyAt lat ops rows (origin s j) r → r ≤ c - span s
+  ready_before : (j c : ℕ) (s : Stretch) → j < length ops → c ≤ issue_cycle rows j → Binds rule lat ops rows j c s → (r : ℕ)
+      → IsReadyAt rule lat ops rows (origin s j) r → r ≤ c - span s
   ready_before j c (Delay i d) known within (ready, first, sum) r also =
       let before : r ≤ issue_cycle rows i = ready_by_issue i r also in omega arith
   ready_before j c (Held h) known within (q, ready, later, is) r also =
@@ -37,18 +37,18 @@ module _ (lat : Latencies) (block ops : List Op) (rows : List Row) (lawful : IsL
       let before : r ≤ issue_cycle rows h = ready_by_issue h r also in
       omega arith
   ready_before j c (Free n) known within (q, ready, had) r also =
-      let same : r ≡ q = ready_same lat ops rows j r q also ready in
+      let same : r ≡ q = ready_same rule lat ops rows j r q also ready in
       let far : q + n ≤ c = had.ready in
       omega arith
 
   leads_sum : (j c : ℕ) (back : List Stretch) → j < length ops → c ≤ issue_cycle rows j
-      → ((r : ℕ) → IsReadyAt lat ops rows j r → r ≤ c) → LeadBack lat ops rows j c back → sum_by span back ≡ c
+      → ((r : ℕ) → IsReadyAt rule lat ops rows j r → r ≤ c) → LeadBack rule lat ops rows j c back → sum_by span back ≡ c
   leads_sum j c [] known within before (inl start) = sym start
   leads_sum j c [] known within before (inr (r, ready, early)) =
       absurd (let low : r ≤ c = before r ready in omega arith)
   leads_sum j c (s ∷ back) known within before (binds, leads) =
-      let place = binds_from lat ops rows j c s lawful.table known within binds in
-      let long = binds_long lat ops rows j c s binds in
+      let place = binds_from rule lat ops rows j c s lawful.table known within binds in
+      let long = binds_long rule lat ops rows j c s binds in
       let most : span s ≤ c = long.1 in
       let rest : sum_by span back ≡ c - span s =
       leads_sum (origin s j) (c - span s) back place.0 place.1 (ready_before j c s known within binds) leads in
@@ -56,11 +56,11 @@ module _ (lat : Latencies) (block ops : List Op) (rows : List Row) (lawful : IsL
       omega arith
 
 pub paths_sum : PathsSumToTheCycles
-paths_sum lat block [] rows path lawful is = rw is refl
-paths_sum lat block (op ∷ ops) rows path lawful (j, back, last, leads, turned) =
+paths_sum rule lat block [] rows path lawful is = rw is refl
+paths_sum rule lat block (op ∷ ops) rows path lawful (j, back, last, leads, turned) =
     let rest : sum_by span back ≡ issue_cycle rows j =
-    leads_sum lat block (op ∷ ops) rows lawful j (issue_cycle rows j) back last.known (omega arith)
-    (ready_by_issue lat block (op ∷ ops) rows lawful j) leads in
+    leads_sum rule lat block (op ∷ ops) rows lawful j (issue_cycle rows j) back last.known (omega arith)
+    (ready_by_issue rule lat block (op ∷ ops) rows lawful j) leads in
     let whole : List Stretch = Delay j (latency lat (op_at (op ∷ ops) j)) ∷ back in
     let same : sum_by span path ≡ sum_by span whole = ap (sum_by span) turned ∙ sum_by_reverse span whole in
     let all : sum_by span whole ≡ latency lat (op_at (op ∷ ops) j) + sum_by span back =

@@ -1,19 +1,19 @@
 -- A path, stretch by stretch, from its end back.
-use Rattle.iloc_explain.proofs.Common.{◌≡◌, ℕ, ◌+◌, ◌-◌, ◌<◌, ◌≤◌, List, [], ◌∷◌, ◌++◌, map, reverse, length, get_or, slice_index, ap, ◌∙◌, append_assoc, append-nil, arith, get_or_default, get_or-map-range_with_len, length-map-range_with_len, map-range_with_len_more, range_with_len, Op, op_at, arrival_le_cycles, cycles_le, cycles, latency, IsTable, issue_cycle, Latencies, Row, Begins, Binds, IsLastToArrive, IsPath, origin, span, Delay}
+use Rattle.iloc_explain.proofs.Common.{◌≡◌, ℕ, ◌+◌, ◌-◌, ◌<◌, ◌≤◌, List, [], ◌∷◌, ◌++◌, map, reverse, length, get_or, slice_index, ap, ◌∙◌, append_assoc, append-nil, arith, get_or_default, get_or-map-range_with_len, length-map-range_with_len, map-range_with_len_more, range_with_len, Op, op_at, arrival_le_cycles, cycles_le, cycles, latency, IsTable, issue_cycle, Latencies, MemoryRule, Row, Begins, Binds, IsLastToArrive, IsPath, origin, span, Delay}
 use Rattle.iloc_explain.specs.declared.path.Stretch.{Stretch}
 use Rattle.iloc_explain.specs.Steps.Greatest.{IsPlaceOfGreatest}
 use Rattle.iloc_explain.specs.Steps.Walk.{IsWalked}
 use Rattle.iloc_explain.proofs.Stretches.{binds_from}
 
-pub walk_start : (lat : Latencies) (ops : List Op) (rows : List Row) (last c : ℕ) (path : List Stretch) → last < length ops
+pub walk_start : (rule : MemoryRule) (lat : Latencies) (ops : List Op) (rows : List Row) (last c : ℕ) (path : List Stretch) → last < length ops
     → c ≡ issue_cycle rows last → path ≡ Delay last (latency lat (op_at ops last)) ∷ []
-    → IsWalked lat ops rows last last c path
-walk_start lat ops rows last c path known at is = grind arith
+    → IsWalked rule lat ops rows last last c path
+walk_start rule lat ops rows last c path known at is = grind arith
 
-pub walk_more : (lat : Latencies) (ops : List Op) (rows : List Row) (last j c i b : ℕ) (s : Stretch) (path more : List Stretch)
-    → IsTable ops rows → IsWalked lat ops rows last j c path → Binds lat ops rows j c s → more ≡ path ++ s ∷ []
-    → i ≡ origin s j → b ≡ c - span s → IsWalked lat ops rows last i b more
-walk_more lat ops rows last j c i b s path more table walked binds added from at = grind (arith, append_assoc, binds_from)
+pub walk_more : (rule : MemoryRule) (lat : Latencies) (ops : List Op) (rows : List Row) (last j c i b : ℕ) (s : Stretch) (path more : List Stretch)
+    → IsTable ops rows → IsWalked rule lat ops rows last j c path → Binds rule lat ops rows j c s → more ≡ path ++ s ∷ []
+    → i ≡ origin s j → b ≡ c - span s → IsWalked rule lat ops rows last i b more
+walk_more rule lat ops rows last j c i b s path more table walked binds added from at = grind (arith, append_assoc, binds_from)
 
 -- the place of the greatest arrival is the first operation whose result arrives last
 pub last_to_arrive : (lat : Latencies) (ops : List Op) (rows : List Row) (numbers : List ℕ) (j : ℕ)
@@ -43,11 +43,11 @@ last_to_arrive lat ops rows numbers j are is =
     }
 
 -- what was walked back to its beginning is the path, turned round
-pub walk_ends : (lat : Latencies) (ops : List Op) (rows : List Row) (last j c : ℕ) (back path : List Stretch)
-    → IsLastToArrive lat ops rows last → IsWalked lat ops rows last j c back → Begins lat ops rows j c → path ≡ reverse back
-    → IsPath lat ops rows path
-walk_ends lat [] rows last j c back path is walked begins turned = absurd (let known : last < 0 = is.known in omega arith)
-walk_ends lat (op ∷ ops) rows last j c back path is walked begins turned = (
+pub walk_ends : (rule : MemoryRule) (lat : Latencies) (ops : List Op) (rows : List Row) (last j c : ℕ) (back path : List Stretch)
+    → IsLastToArrive lat ops rows last → IsWalked rule lat ops rows last j c back → Begins rule lat ops rows j c → path ≡ reverse back
+    → IsPath rule lat ops rows path
+walk_ends rule lat [] rows last j c back path is walked begins turned = absurd (let known : last < 0 = is.known in omega arith)
+walk_ends rule lat (op ∷ ops) rows last j c back path is walked begins turned = (
   last,
   walked.done,
   is,

@@ -1,130 +1,148 @@
--- The latest of what earlier operations leave to wait for is when an operation is ready.
-use Rattle.iloc_explain.proofs.Common.{◌≡◌, ℕ, ◌+◌, ◌<◌, ◌≤◌, max, true, ◌⊎◌, List, map, length, Contains, sym, refl, ◌∙◌, inl, inr, arith, and_from, and_parts, false≢true, or_cases, or_left, or_right, defined, used, Op, Reg, is_register, op_at, is_output, is_store, kind, latency, issue_cycle, Kind, Latencies, Row, fold_max_each, fold_max_reached, max_is, any_at, contains_from, from_any, from_append, from_map, in_from, in_left, in_map, in_right, from_when, in_when, delays, keeps_order, memory_delays, reads_stored, uses_result, when, In, IsReadyAt}
-use Rattle.iloc_timed.specs.declared.kind.Kind.TheVariants as K
-use Rattle.iloc_timed.proofs.Greatest.{le_fold_max}
-use Rattle.iloc_explain.specs.declared.latest.Latest.{Latest}
-use Rattle.iloc_explain.specs.Steps.Latest.{AreLatest, result_of, by_kind, ready_after, arrival, next_cycle}
+-- When operations are ready, by delay pairs from which all follow: `ready_cycles`, `explain`.
+use Rattle.iloc_explain.proofs.Common.{◌≡◌, ℕ, ◌+◌, ◌<◌, ◌≤◌, max, ◌⊎◌, List, [], ◌∷◌, ◌++◌, length, get_or, ◌==◌, slice_index, Contains, sym, refl, ap, ◌∙◌, subst, inl, inr, arith, get_or_default, get_or-set_other, get_or-set_same, cases_eq, cases_lt, eq-eqb, ne_eqb, Op, issue_cycle, Latencies, MemoryRule, Row, contains_from, from_append, in_from, in_left, in_right, IsDelayPairWhere, counts_by, In, Pair, IsReadyAt, WaitsForAll}
+use Rattle.std.specs.Prelude.{if◌then◌else◌}
+use Rattle.std.proofs.Common.{cond, length-set, set}
+use Rattle.std.specs.Ordering.{MatchOrdering, is_lt, nat_cmp, ord_max}
+use Rattle.std.specs.declared.cmp.Ordering.{Ordering}
+use Rattle.std.specs.declared.cmp.Ordering.TheVariants.{Equal, Greater, Less}
+use Rattle.std.proofs.lemmas.Cmp.{ranked}
+use Rattle.iloc_explain.specs.Measures.{ImplyAll}
+use Rattle.iloc_explain.specs.Steps.Ready.{AreReady}
 
--- why a delay stands between two operations
-data Reason (lat : Latencies) (i j : Op) (d : ℕ) : Type 0 where
-  Uses : (r : Reg) → In (used j) r → is_register r (defined i) ≡ true → latency lat i ≡ d → Reason lat i j d
-  Reads : reads_stored (kind i) (kind j) ≡ true → latency lat i ≡ d → Reason lat i j d
-  Keeps : keeps_order (kind i) (kind j) ≡ true → 1 ≡ d → Reason lat i j d
+-- what is read where there is no pair
+abbrev pub no_pair : Pair
+no_pair = record { first = 0; second = 0; delay = 0 }
 
-reason : (lat : Latencies) (i j : Op) (d : ℕ) → Contains (delays lat i j) d → Reason lat i j d
-reason lat i j d there = elim (from_append (when (uses_result i j) (latency lat i)) (memory_delays lat i j) d
-    (in_from (delays lat i j) d there)) [
-      | inl here ↦
-          let is = from_when (uses_result i j) (latency lat i) d here in
-          let one = from_any (λ r. is_register r (defined i)) (used j) is.0 in
-          Uses one.0 one.1 one.2 is.1
-      | inr memory ↦ elim (from_append (when (reads_stored (kind i) (kind j)) (latency lat i))
-          (when (keeps_order (kind i) (kind j)) 1) d memory) [
-            | inl stored ↦ let is = from_when (reads_stored (kind i) (kind j)) (latency lat i) d stored in Reads is.0 is.1
-            | inr order ↦ let is = from_when (keeps_order (kind i) (kind j)) 1 d order in Keeps is.0 is.1
-          ]
-    ]
+pub pair_there : (pairs : List Pair) (k : ℕ) → k < length pairs → Contains pairs (get_or pairs k no_pair)
+pair_there pairs k within = (k, within, get_or_default pairs k (get_or pairs k no_pair) no_pair within)
 
-delay_of : (lat : Latencies) (i j : Op) (d : ℕ) → Reason lat i j d → Contains (delays lat i j) d
-delay_of lat i j d h1 = grind (arith, any_at, contains_from, in_left, in_right, in_when)
+-- the greater of two numbers, as it is computed
+pub max_of : (a b : ℕ) → ord_max nat_cmp a b ≡ max a b
+max_of a b = by_order (nat_cmp b a) (ranked b a (nat_cmp b a) refl)
+  where
+    by_order : (o : Ordering) → MatchOrdering o (b < a) (b ≡ a) (a < b) → cond (is_lt o) a b ≡ max a b
+    by_order Less less = omega arith
+    by_order Equal same = omega arith
+    by_order Greater more = omega arith
 
-module _ (lat : Latencies) (ops : List Op) (rows : List Row) (j : ℕ) (l : Latest) (are : AreLatest lat ops rows j l) where
-  -- what an earlier operation stored is there by then
-  stored_by : (k : Kind) (i : ℕ) → i < j → reads_stored (kind (op_at ops i)) k ≡ true
-      → arrival lat ops rows i ≤ by_kind l k
-  stored_by k i before is = grind (arith, and_parts, false≢true)
+pub none_ready : (issued ready : List ℕ) → length ready ≡ length issued → ((j : ℕ) → slice_index ready j ≡ 0)
+    → AreReady [] issued ready
+none_ready issued ready size zeros = record {
+  size = size;
+  over = λ p there. absurd there;
+  reached = λ j. inl (zeros j);
+}
 
-  -- what has to come first is issued before then
-  ordered_by : (k : Kind) (i : ℕ) → i < j → keeps_order (kind (op_at ops i)) k ≡ true
-      → next_cycle lat ops rows i ≤ by_kind l k
-  ordered_by k i before is = grind (arith, and_parts, false≢true, or_cases)
+-- one more pair
+module _ (pairs : List Pair) (p : Pair) (issued ready : List ℕ) (are : AreReady pairs issued ready)
+    (within : p.second < length issued) where
+  abbrev over_now : ℕ
+  over_now = slice_index issued p.first + p.delay
 
-  -- an earlier operation for which operation j waits until this cycle, or none where that is 0
-  abbrev Reached : Op → ℕ → Type 0
-  Reached op c = (c ≡ 0) ⊎ ((i : ℕ) × (i < j) × (d : ℕ) × Reason lat (op_at ops i) op d × (issue_cycle rows i + d ≡ c))
+  abbrev raised : List ℕ
+  raised = set ready p.second (max (slice_index ready p.second) over_now)
 
-  abbrev ReachedBy : Kind → ℕ → Type 0
-  ReachedBy k c = (c ≡ 0) ⊎ ((i : ℕ) × (i < j) × (
-      ((reads_stored (kind (op_at ops i)) k ≡ true) × (arrival lat ops rows i ≡ c))
-      ⊎ ((keeps_order (kind (op_at ops i)) k ≡ true) × (next_cycle lat ops rows i ≡ c))))
+  own : slice_index raised p.second ≡ max (slice_index ready p.second) over_now
+  own = get_or-set_same ready p.second (max (slice_index ready p.second) over_now) 0 (let size : length ready ≡ length issued = are.size in omega arith)
 
-  stored_reached : (k : Kind) → ((a : Kind) → is_store a ≡ true → reads_stored a k ≡ true) → ReachedBy k l.stored
-  stored_reached k reads = grind arith
+  other : (j : ℕ) → (j ≡ p.second → ⊥) → slice_index raised j ≡ slice_index ready j
+  other j apart = get_or-set_other ready p.second j (max (slice_index ready p.second) over_now) 0 apart
 
-  loads_reached : ReachedBy K.Store l.loads
-  loads_reached = grind (arith, and_from, or_left)
-
-  stores_reached : ReachedBy K.Store l.stores
-  stores_reached = grind (arith, and_from, or_left, or_right)
-
-  outputs_reached : (k : Kind) → ((a : Kind) → is_output a ≡ true → keeps_order a k ≡ true) → ReachedBy k l.outputs
-  outputs_reached k keeps = grind arith
-
-  greater : (k : Kind) (a b : ℕ) → ReachedBy k a → ReachedBy k b → ReachedBy k (max a b)
-  greater k a b first second = elim (max_is a b) [ inl is ↦ rw is first | inr is ↦ rw is second ]
-
-  kind_reached : (k : Kind) → ReachedBy k (by_kind l k)
-  kind_reached K.Load = stored_reached K.Load (λ a store. and_from _ _ store refl)
-  kind_reached K.Store =
-      greater K.Store (max l.loads l.stores) l.outputs (greater K.Store l.loads l.stores loads_reached stores_reached)
-      (outputs_reached K.Store (λ a output. or_left _ _ (and_from _ _ (or_right _ _ output) refl)))
-  kind_reached K.Output =
-      greater K.Output l.stored l.outputs (stored_reached K.Output (λ a store. and_from _ _ store refl))
-      (outputs_reached K.Output (λ a output. or_right _ _ (and_from _ _ output refl)))
-  kind_reached _ = inl refl
-
-  reached : (op : Op) → Reached op (ready_after l op)
-  reached op = elim (fold_max_reached (by_kind l (kind op)) (map (result_of l) (used op))) [
-    | inl start ↦ by_its_kind start (kind_reached (kind op))
-    | inr there ↦
-        let one = from_map (result_of l) (used op) (ready_after l op) there in
-        by_use one.0 one.1 one.2 (are.results one.0).reached
+  grows : (j : ℕ) → slice_index ready j ≤ slice_index raised j
+  grows j = elim (cases_eq j p.second) [
+    | inl same ↦ subst (λ k. slice_index ready k ≤ slice_index raised k) (sym same) (omega (arith, own))
+    | inr apart ↦ omega (arith, other j apart)
   ]
-    where
-      by_its_kind : ready_after l op ≡ by_kind l (kind op) → ReachedBy (kind op) (by_kind l (kind op))
-          → Reached op (ready_after l op)
-      by_its_kind start (inl zero) = inl (start ∙ zero)
-      by_its_kind start (inr (i, before, inl (reads, at))) =
-          inr (i, before, latency lat (op_at ops i), Reads reads refl, at ∙ sym start)
-      by_its_kind start (inr (i, before, inr (keeps, at))) = inr (i, before, 1, Keeps keeps refl, at ∙ sym start)
 
-      by_use : (r : Reg) → In (used op) r → result_of l r ≡ ready_after l op
-          → (result_of l r ≡ 0) ⊎ ((i : ℕ) × (i < j) × (is_register r (defined (op_at ops i)) ≡ true) × (arrival lat ops rows i ≡ result_of l r))
-          → Reached op (ready_after l op)
-      by_use r there is (inl zero) = inl (sym is ∙ zero)
-      by_use r there is (inr (i, before, defines, at)) =
-          inr (i, before, latency lat (op_at ops i), Uses r there defines refl, at ∙ is)
+  abbrev Reached : List ℕ → List Pair → ℕ → Type 0
+  Reached ends found j = (slice_index ends j ≡ 0) ⊎ ((q : Pair) × In found q × (q.second ≡ j)
+      × (slice_index issued q.first + q.delay ≡ slice_index ends j))
 
-  over : (op : Op) (i d : ℕ) → i < j → Reason lat (op_at ops i) op d → issue_cycle rows i + d ≤ ready_after l op
-  over op i d before (Uses r there defines at) =
-      let low : arrival lat ops rows i ≤ result_of l r = (are.results r).over i before defines in
-      let most : result_of l r ≤ ready_after l op =
-      fold_max_each (by_kind l (kind op)) (map (result_of l) (used op)) (result_of l r)
-      (in_map (result_of l) (used op) r there) in
-      omega arith
-  over op i d before (Reads reads at) =
-      let low : arrival lat ops rows i ≤ by_kind l (kind op) = stored_by (kind op) i before reads in
-      let most : by_kind l (kind op) ≤ ready_after l op =
-      le_fold_max (by_kind l (kind op)) (map (result_of l) (used op)) in
-      omega arith
-  over op i d before (Keeps keeps at) =
-      let low : next_cycle lat ops rows i ≤ by_kind l (kind op) = ordered_by (kind op) i before keeps in
-      let most : by_kind l (kind op) ≤ ready_after l op =
-      le_fold_max (by_kind l (kind op)) (map (result_of l) (used op)) in
-      omega arith
+  before : (j : ℕ) → slice_index raised j ≡ slice_index ready j → Reached raised (pairs ++ p ∷ []) j
+  before j same = elim (are.reached j) [
+    | inl zero ↦ inl (same ∙ zero)
+    | inr (q, there, to, at) ↦ inr (q, in_left pairs (p ∷ []) q there, to, at ∙ sym same)
+  ]
 
-  pub is_ready : j < length ops → IsReadyAt lat ops rows j (ready_after l (op_at ops j))
-  is_ready within = record {
-    over = λ i d pair. over (op_at ops j) i d pair.order (reason lat (op_at ops i) (op_at ops j) d pair.delay);
-    earliest = elim (reached (op_at ops j)) [
+  here : Reached raised (pairs ++ p ∷ []) p.second
+  here = elim (cases_lt (slice_index ready p.second) over_now) [
+    | inl more ↦ inr (p, in_right pairs (p ∷ []) p (inl refl), refl, omega (arith, own))
+    | inr less ↦ before p.second (omega (arith, own))
+  ]
+
+  pub one_more_ready : AreReady (pairs ++ p ∷ []) issued raised
+  one_more_ready = record {
+    size = length-set ready p.second (max (slice_index ready p.second) over_now) ∙ are.size;
+    over = λ q there. elim (from_append pairs (p ∷ []) q there) [
+      | inl earlier ↦ omega (arith, are.over q earlier, grows q.second)
+      | inr (inl same) ↦ subst (λ (r : Pair). slice_index issued r.first + r.delay ≤ slice_index raised r.second) same
+          (omega (arith, own))
+      | inr (inr none) ↦ absurd none
+    ];
+    reached = λ j. elim (cases_eq j p.second) [
+      | inl same ↦ subst (Reached raised (pairs ++ p ∷ [])) (sym same) here
+      | inr apart ↦ before j (other j apart)
+    ];
+  }
+
+-- Where rows wait for all delays, the pairs alone say when an operation is ready: its cycle may be put in place of that of its issue.
+module _ (rule : MemoryRule) (lat : Latencies) (ops : List Op) (rows : List Row) (pairs : List Pair) (issued ready : List ℕ)
+    (all : ImplyAll rule lat ops pairs) (waits : WaitsForAll rule lat ops rows)
+    (at : (i : ℕ) → i < length ops → slice_index issued i ≡ issue_cycle rows i) (are : AreReady pairs issued ready) where
+  issued_first : (p : Pair) → Contains pairs p → slice_index issued p.first ≡ issue_cycle rows p.first
+  issued_first p there = at p.first (omega (arith, (all.each p there).order, (all.each p there).within))
+
+  by_issue : (j : ℕ) → slice_index ready j ≤ issue_cycle rows j
+  by_issue j = elim (are.reached j) [
+    | inl zero ↦ omega arith
+    | inr (p, there, to, ends) ↦
+        let held = contains_from pairs p there in
+        subst (λ k. slice_index ready k ≤ issue_cycle rows k) to
+        (let ends' : slice_index issued p.first + p.delay ≡ slice_index ready p.second = ends ∙ ap (slice_index ready) (sym to) in
+        omega (arith, ends', issued_first p held, waits p.first p.second p.delay (all.each p held)))
+  ]
+
+  abbrev moved : ℕ → ℕ → ℕ
+  moved j k = if k == j then slice_index ready j else issue_cycle rows k
+
+  moved_own : (j : ℕ) → moved j j ≡ slice_index ready j
+  moved_own j = rw (eq-eqb j j refl) refl
+
+  moved_other : (j k : ℕ) → (k ≡ j → ⊥) → moved j k ≡ issue_cycle rows k
+  moved_other j k apart = rw (ne_eqb k j apart) refl
+
+  moved_low : (j k : ℕ) → moved j k ≤ issue_cycle rows k
+  moved_low j k = elim (cases_eq k j) [
+    | inl same ↦ subst (λ m. moved j m ≤ issue_cycle rows m) (sym same) (omega (arith, moved_own j, by_issue j))
+    | inr apart ↦ omega (arith, moved_other j k apart)
+  ]
+
+  moved_waits : (j : ℕ) (p : Pair) → Contains pairs p → moved j p.first + p.delay ≤ moved j p.second
+  moved_waits j p there = elim (cases_eq p.second j) [
+    | inl same ↦
+        let over : slice_index issued p.first + p.delay ≤ slice_index ready p.second = are.over p (in_from pairs p there) in
+        subst (λ m. moved m p.first + p.delay ≤ moved m p.second) same
+        (omega (arith, over, moved_low p.second p.first, issued_first p there, moved_own p.second))
+    | inr apart ↦
+        omega (arith, moved_low j p.first, waits p.first p.second p.delay (all.each p there), moved_other j p.second apart)
+  ]
+
+  pub is_ready : (j : ℕ) → IsReadyAt rule lat ops rows j (slice_index ready j)
+  is_ready j = record {
+    over = λ i d pair.
+        let apart : i ≡ j → ⊥ = (λ same. omega (arith, pair.order, same)) in
+        omega (arith, all.imply (moved j) (moved_waits j) i j d pair, moved_other j i apart, moved_own j);
+    earliest = elim (are.reached j) [
       | inl zero ↦ inl zero
-      | inr (i, before, d, why, at) ↦ inr (
-        i,
-        record {
-          delay = d;
-          pair = record { order = before; within = within; delay = delay_of lat (op_at ops i) (op_at ops j) d why };
-          ends = at;
-        },
-      )
+      | inr (p, there, to, ends) ↦
+          let held = contains_from pairs p there in
+          inr (
+            p.first,
+            record {
+              delay = p.delay;
+              pair = subst (λ k. IsDelayPairWhere (counts_by rule ops) lat ops p.first k p.delay) to (all.each p held);
+              ends = sym (ap (λ c. c + p.delay) (issued_first p held)) ∙ ends;
+            },
+          )
     ];
   }

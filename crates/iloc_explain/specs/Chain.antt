@@ -1,50 +1,60 @@
 -- Chains of delays, which no schedule of the block can shorten.
-use Rattle.std.specs.Prelude.{ℕ, ◌+◌, ◌≡◌, ◌<◌, ◌≤◌, max, fold, List, [], ◌∷◌, length}
+use Rattle.std.specs.Prelude.{ℕ, ◌+◌, ◌≡◌, ◌<◌, ◌≤◌, max, fold, List, [], ◌∷◌, length, slice_index}
 use Rattle.iloc_ops.specs.declared.op.Op.{Op}
 use Rattle.iloc_meaning.specs.Trace.{op_at}
 use Rattle.iloc_timed.specs.declared.latencies.Latencies.{Latencies}
 use Rattle.iloc_timed.specs.Latency.{latency}
-use Rattle.iloc_rules.specs.Delays.{IsDelayPair}
-use Rattle.iloc_rules.specs.Priority.{priorities, priority}
+use Rattle.iloc_rules.specs.declared.heuristic.Heuristic.TheVariants.{Chain}
+use Rattle.iloc_rules.specs.declared.memory_rule.MemoryRule.{MemoryRule}
+use Rattle.iloc_rules.specs.Delays.{IsDelayPairWhere}
+use Rattle.iloc_rules.specs.Rule.{counts_by, priorities_under}
 
--- a delay from operation i to operation j and the priority of j are together the priority of i
-pub record Continues (lat : Latencies) (ops : List Op) (i j : ℕ) : Type 0 where
+-- by operation the longest chain of delays from it, by a rule of memory
+abbrev pub chains_by : MemoryRule → Latencies → List Op → List ℕ
+chains_by rule lat ops = priorities_under rule Chain lat ops
+
+-- the longest chain of delays from operation i
+abbrev pub chain_by : MemoryRule → Latencies → List Op → ℕ → ℕ
+chain_by rule lat ops i = slice_index (chains_by rule lat ops) i
+
+-- a delay from operation i to operation j and the longest chain from j are together the longest from i
+pub record Continues (rule : MemoryRule) (lat : Latencies) (ops : List Op) (i j : ℕ) : Type 0 where
   pub delay : ℕ
-  pub pair : IsDelayPair lat ops i j delay
-  pub sum : priority lat ops i ≡ delay + priority lat ops j
+  pub pair : IsDelayPairWhere (counts_by rule ops) lat ops i j delay
+  pub sum : chain_by rule lat ops i ≡ delay + chain_by rule lat ops j
 
 -- operation j is the first that continues a chain at operation i
-pub record IsNext (lat : Latencies) (ops : List Op) (i j : ℕ) : Type 0 where
-  pub continues : Continues lat ops i j
-  pub first : (k : ℕ) → k < j → Continues lat ops i k → ⊥
+pub record IsNext (rule : MemoryRule) (lat : Latencies) (ops : List Op) (i j : ℕ) : Type 0 where
+  pub continues : Continues rule lat ops i j
+  pub first : (k : ℕ) → k < j → Continues rule lat ops i k → ⊥
 
 -- the chain starts with operation i, goes on with the next each time, and ends where there is none
-abbrev pub IsChainFrom : Latencies → List Op → ℕ → List ℕ → Type 0
-IsChainFrom lat ops i [] = ⊥
-IsChainFrom lat ops i (x ∷ []) = (x ≡ i) × ((j : ℕ) → Continues lat ops i j → ⊥)
-IsChainFrom lat ops i (x ∷ y ∷ chain) = (x ≡ i) × IsNext lat ops i y × IsChainFrom lat ops y (y ∷ chain)
+abbrev pub IsChainFrom : MemoryRule → Latencies → List Op → ℕ → List ℕ → Type 0
+IsChainFrom rule lat ops i [] = ⊥
+IsChainFrom rule lat ops i (x ∷ []) = (x ≡ i) × ((j : ℕ) → Continues rule lat ops i j → ⊥)
+IsChainFrom rule lat ops i (x ∷ y ∷ chain) = (x ≡ i) × IsNext rule lat ops i y × IsChainFrom rule lat ops y (y ∷ chain)
 
--- operation i is the first of the greatest priority
-pub record IsFirstOfGreatest (lat : Latencies) (ops : List Op) (i : ℕ) : Type 0 where
+-- operation i is the first from which a longest chain leads
+pub record IsFirstOfGreatest (rule : MemoryRule) (lat : Latencies) (ops : List Op) (i : ℕ) : Type 0 where
   pub known : i < length ops
-  pub greatest : (k : ℕ) → k < length ops → priority lat ops k ≤ priority lat ops i
-  pub first : (k : ℕ) → k < i → priority lat ops k < priority lat ops i
+  pub greatest : (k : ℕ) → k < length ops → chain_by rule lat ops k ≤ chain_by rule lat ops i
+  pub first : (k : ℕ) → k < i → chain_by rule lat ops k < chain_by rule lat ops i
 
--- the chain from the first operation of the greatest priority; where there are no operations it is empty
-abbrev pub IsLongestChain : Latencies → List Op → List ℕ → Type 0
-IsLongestChain lat [] chain = chain ≡ []
-IsLongestChain lat (op ∷ ops) chain =
-    (i : ℕ) × IsFirstOfGreatest lat (op ∷ ops) i × IsChainFrom lat (op ∷ ops) i chain
+-- the chain from the first operation from which a longest one leads; where there are no operations it is empty
+abbrev pub IsLongestChain : MemoryRule → Latencies → List Op → List ℕ → Type 0
+IsLongestChain rule lat [] chain = chain ≡ []
+IsLongestChain rule lat (op ∷ ops) chain =
+    (i : ℕ) × IsFirstOfGreatest rule lat (op ∷ ops) i × IsChainFrom rule lat (op ∷ ops) i chain
 
 -- Each operation of the chain waits for the one before it, and the delays and the latency of the last operation take so
 -- many cycles together.
-abbrev pub Spans : Latencies → List Op → List ℕ → ℕ → Type 0
-Spans lat ops [] cycles = ⊥
-Spans lat ops (i ∷ []) cycles = cycles ≡ latency lat (op_at ops i)
-Spans lat ops (i ∷ j ∷ chain) cycles =
-    (d : ℕ) × (rest : ℕ) × IsDelayPair lat ops i j d × (cycles ≡ d + rest) × Spans lat ops (j ∷ chain) rest
+abbrev pub Spans : MemoryRule → Latencies → List Op → List ℕ → ℕ → Type 0
+Spans rule lat ops [] cycles = ⊥
+Spans rule lat ops (i ∷ []) cycles = cycles ≡ latency lat (op_at ops i)
+Spans rule lat ops (i ∷ j ∷ chain) cycles =
+    (d : ℕ) × (rest : ℕ) × IsDelayPairWhere (counts_by rule ops) lat ops i j d × (cycles ≡ d + rest) × Spans rule lat ops (j ∷ chain) rest
 
--- the chain spans the greatest priority, as none spans more
-abbrev pub SpansTheGreatest : Latencies → List Op → List ℕ → Type 0
-SpansTheGreatest lat [] chain = chain ≡ []
-SpansTheGreatest lat (op ∷ ops) chain = Spans lat (op ∷ ops) chain (fold max 0 (priorities lat (op ∷ ops)))
+-- the chain spans as many cycles as the longest, as none spans more
+abbrev pub SpansTheGreatest : MemoryRule → Latencies → List Op → List ℕ → Type 0
+SpansTheGreatest rule lat [] chain = chain ≡ []
+SpansTheGreatest rule lat (op ∷ ops) chain = Spans rule lat (op ∷ ops) chain (fold max 0 (chains_by rule lat (op ∷ ops)))

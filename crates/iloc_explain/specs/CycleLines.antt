@@ -7,12 +7,12 @@ use Rattle.iloc_timed.specs.declared.latencies.Latencies.{Latencies}
 use Rattle.iloc_timed.specs.declared.row.Row.{Row}
 use Rattle.iloc_timed.specs.Cycles.{cycles}
 use Rattle.iloc_timed.specs.Rows.{row_at}
-use Rattle.iloc_rules.specs.Greedy.{first_of_all, ready}
-use Rattle.iloc_rules.specs.Least.{least}
+use Rattle.iloc_rules.specs.declared.memory_rule.MemoryRule.{MemoryRule}
+use Rattle.iloc_rules.specs.Greedy.{first_of_all}
 use Rattle.iloc_explain.specs.declared.ready_list.TheConstants.{MOST_LISTED}
 use Rattle.iloc_explain.specs.Holding.{held_by, keeper}
 use Rattle.iloc_explain.specs.Listing.{cycles_line, holder_text}
-use Rattle.iloc_explain.specs.ReadyList.{arrival, first_ranked, is_idle, left_out, next_busy, next_ready, under_way}
+use Rattle.iloc_explain.specs.ReadyList.{arrival, first_ranked, is_idle, left_out, next_busy, next_ready, ready_under, under_way}
 
 -- `C`, or `C-D` up to a later cycle
 abbrev pub span_text : ℕ → ℕ → List ℕ
@@ -51,18 +51,18 @@ next_text ops row None coming = coming_text coming
 abbrev pub paired : (ℕ → ℕ) → List ℕ → List (ℕ × ℕ)
 paired value numbers = map (λ n. (n, value n)) numbers
 
-module _ (prios : List ℕ) (lat : Latencies) (ops : List Op) (rows : List Row) where
+module _ (prios : List ℕ) (rule : MemoryRule) (lat : Latencies) (ops : List Op) (rows : List Row) where
   -- `J:P,J:P..`: what is ready at cycle c, by rank, each with its priority, at most so many
   abbrev pub ready_text : ℕ → List ℕ
   ready_text c =
-      pairs_text (codes ":") (paired (slice_index prios) (first_ranked MOST_LISTED prios (ready lat ops rows c)))
-      ++ more_text (length (ready lat ops rows c) - MOST_LISTED)
+      pairs_text (codes ":") (paired (slice_index prios) (first_ranked MOST_LISTED prios (ready_under rule lat ops rows c)))
+      ++ more_text (length (ready_under rule lat ops rows c) - MOST_LISTED)
 
   -- `takes X ; Y next J held H`: the row of cycle c, and the first that is left out of it
   abbrev pub taken_text : ℕ → List ℕ
   taken_text c =
       codes " takes " ++ slot_text (row_at rows c).zero ++ codes " ; " ++ slot_text (row_at rows c).one ++ codes " next "
-      ++ next_text ops (row_at rows c) (first_of_all prios (left_out lat ops rows c)) (next_ready lat ops rows prios c)
+      ++ next_text ops (row_at rows c) (first_of_all prios (left_out rule lat ops rows c)) (next_ready rule lat ops rows prios c)
 
   -- `I@C,I@C..`: what is under way, each with the cycle at which its result arrives
   abbrev pub active_text : ℕ → List ℕ
@@ -70,7 +70,7 @@ module _ (prios : List ℕ) (lat : Latencies) (ops : List Op) (rows : List Row) 
 
   -- the last cycle of the line that begins with cycle c
   abbrev pub last_cycle : ℕ → ℕ
-  last_cycle c = if is_idle lat ops rows c then next_busy lat ops rows c - 1 else c
+  last_cycle c = if is_idle rule lat ops rows c then next_busy rule lat ops rows c - 1 else c
 
   -- `cycle C ready J:P,J:P.. takes X ; Y next J held H active I@C,I@C..`
   abbrev pub cycle_line : ℕ → List ℕ
@@ -81,11 +81,11 @@ module _ (prios : List ℕ) (lat : Latencies) (ops : List Op) (rows : List Row) 
   -- whether nothing is ready at the cycle before
   abbrev pub is_idle_before : ℕ → Bool
   is_idle_before zero = false
-  is_idle_before (suc c) = is_idle lat ops rows c
+  is_idle_before (suc c) = is_idle rule lat ops rows c
 
   -- whether a line begins with cycle c: of cycles in a row at which nothing is ready the first alone begins one
   abbrev pub begins_line : ℕ → Bool
-  begins_line c = not (is_idle_before c && is_idle lat ops rows c)
+  begins_line c = not (is_idle_before c && is_idle rule lat ops rows c)
 
   abbrev pub line_from : ℕ → List ℕ
   line_from c = if begins_line c then cycle_line c else []
@@ -93,8 +93,8 @@ module _ (prios : List ℕ) (lat : Latencies) (ops : List Op) (rows : List Row) 
   abbrev pub cycle_lines : List ℕ
   cycle_lines = flat_map line_from (range_with_len 0 (length rows))
 
--- What is listed of these operations in these rows, a schedule of the block that these priorities rank: a line for each cycle,
--- and the cycles with their lower bound.
-abbrev pub ready_listing : List ℕ → Latencies → List Op → List Op → List Row → List ℕ
-ready_listing prios lat block ops rows =
-    cycle_lines prios lat ops rows ++ cycles_line (cycles lat ops rows) (least lat block)
+-- What is listed of these operations in these rows, a schedule by a rule of memory that these priorities rank: a line for each
+-- cycle, and the cycles with their lower bound.
+abbrev pub ready_listing : List ℕ → MemoryRule → Latencies → ℕ → List Op → List Row → List ℕ
+ready_listing prios rule lat bound ops rows =
+    cycle_lines prios rule lat ops rows ++ cycles_line (cycles lat ops rows) bound

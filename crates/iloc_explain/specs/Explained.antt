@@ -6,11 +6,13 @@ use Rattle.iloc_timed.specs.declared.latencies.Latencies.{Latencies}
 use Rattle.iloc_timed.specs.declared.row.Row.{Row}
 use Rattle.iloc_timed.specs.Cycles.{cycles}
 use Rattle.iloc_timed.specs.Rows.{row_at, issue_cycle}
-use Rattle.iloc_rules.specs.Priority.{priority}
-use Rattle.iloc_rules.specs.Starts.{start}
+use Rattle.iloc_rules.specs.declared.memory_rule.MemoryRule.{MemoryRule}
+use Rattle.iloc_rules.specs.Rule.{counts_by}
+use Rattle.iloc_rules.specs.Starts.{start_where}
 use Rattle.iloc_explain.specs.declared.explanation.Explained.{Explained}
 use Rattle.iloc_explain.specs.declared.explanation.Unit.{Unit as unit_type}
 use Rattle.iloc_explain.specs.declared.explanation.Unit.TheVariants as unit
+use Rattle.iloc_explain.specs.Chain.{chain_by}
 use Rattle.iloc_explain.specs.Holding.{holder}
 use Rattle.iloc_explain.specs.Waiting.{IsReadyAt, waited_until}
 
@@ -20,22 +22,22 @@ unit_of row i = if list_any (λ k. i == k) (option_to_list row.zero) then unit.Z
 
 -- How many cycles later operation j could be issued for the delays behind it: the schedule's cycles less its own and less
 -- the longest chain of delays from it, whatever priorities rank the operations.
-abbrev pub slack_in : Latencies → List Op → List Row → ℕ → ℕ
-slack_in lat ops rows j = cycles lat ops rows - issue_cycle rows j - priority lat ops j
+abbrev pub slack_in : MemoryRule → Latencies → List Op → List Row → ℕ → ℕ
+slack_in rule lat ops rows j = cycles lat ops rows - issue_cycle rows j - chain_by rule lat ops j
 
--- This is operation j: when and where it is issued, when it was ready, what it waited for until then, which of these
+-- This is operation j by a rule of memory: when and where it is issued, when it was ready, what it waited for until then, which of these
 -- priorities is its own, when its delays alone would let it be issued, its slack, and what kept it out of the row before.
-pub record IsExplained (prios : List ℕ) (lat : Latencies) (ops : List Op) (rows : List Row) (j : ℕ) (e : Explained) : Type 0 where
+pub record IsExplained (prios : List ℕ) (rule : MemoryRule) (lat : Latencies) (ops : List Op) (rows : List Row) (j : ℕ) (e : Explained) : Type 0 where
   pub cycle : e.cycle ≡ issue_cycle rows j
   pub unit : e.unit ≡ unit_of (row_at rows (issue_cycle rows j)) j
-  pub ready : IsReadyAt lat ops rows j e.ready
-  pub after : e.after.items ≡ waited_until lat ops rows j e.ready
+  pub ready : IsReadyAt rule lat ops rows j e.ready
+  pub after : e.after.items ≡ waited_until rule lat ops rows j e.ready
   pub priority : e.priority ≡ slice_index prios j
-  pub earliest : e.earliest ≡ start lat ops j
-  pub slack : e.slack ≡ slack_in lat ops rows j
+  pub earliest : e.earliest ≡ start_where (counts_by rule ops) lat ops j
+  pub slack : e.slack ≡ slack_in rule lat ops rows j
   pub held : e.held ≡ holder ops rows j (issue_cycle rows j) e.ready
 
 -- each operation is explained, in the order of their numbers
-pub record AreExplained (prios : List ℕ) (lat : Latencies) (ops : List Op) (rows : List Row) (explained : List Explained) : Type 0 where
+pub record AreExplained (prios : List ℕ) (rule : MemoryRule) (lat : Latencies) (ops : List Op) (rows : List Row) (explained : List Explained) : Type 0 where
   pub all : length explained ≡ length ops
-  pub each : (j : ℕ) (e : Explained) → slice_get explained j ≡ Some e → IsExplained prios lat ops rows j e
+  pub each : (j : ℕ) (e : Explained) → slice_get explained j ≡ Some e → IsExplained prios rule lat ops rows j e

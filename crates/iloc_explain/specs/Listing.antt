@@ -9,7 +9,7 @@ use Rattle.iloc_timed.specs.declared.latencies.Latencies.{Latencies}
 use Rattle.iloc_timed.specs.declared.row.Row.{Row}
 use Rattle.iloc_timed.specs.Cycles.{cycles}
 use Rattle.iloc_rules.specs.Renaming.{without_nops}
-use Rattle.iloc_rules.specs.Least.{least}
+use Rattle.iloc_rules.specs.declared.memory_rule.MemoryRule.{MemoryRule}
 use Rattle.iloc_explain.specs.declared.explanation.Explained.{Explained}
 use Rattle.iloc_explain.specs.declared.explanation.Unit.{Unit as unit_type}
 use Rattle.iloc_explain.specs.declared.explanation.Unit.TheVariants as unit
@@ -82,19 +82,19 @@ abbrev pub cycles_line : ℕ → ℕ → List ℕ
 cycles_line taken bound =
     codes "cycles " ++ decimal taken ++ codes " least " ++ decimal bound ++ optimal_mark taken bound ++ codes "\n"
 
--- The text explains these operations in these rows, a schedule of the block that these priorities rank: a line for
--- each operation, the cycles with their lower bound, a longest chain of delays, and what binds in this schedule. The lines
--- show each operation as it is issued, which for a schedule of ours is as it stands there.
-pub record IsExplanation (prios : List ℕ) (lat : Latencies) (block ops : List Op) (rows : List Row) (issued : List Op)
-    (text : List ℕ) : Type 0 where
+-- The text explains these operations in these rows, a schedule of the block by a rule of memory that these priorities rank: a
+-- line for each operation, the cycles with their lower bound, a longest chain of delays, and what binds in this schedule. The
+-- lines show each operation as it is issued, which for a schedule of ours is as it stands there.
+pub record IsExplanation (prios : List ℕ) (rule : MemoryRule) (lat : Latencies) (bound : ℕ) (block ops : List Op)
+    (rows : List Row) (issued : List Op) (text : List ℕ) : Type 0 where
   pub explained : List Explained
-  pub are_explained : AreExplained prios lat ops rows explained
+  pub are_explained : AreExplained prios rule lat ops rows explained
   pub chain : List ℕ
-  pub is_longest : IsLongestChain lat ops chain
+  pub is_longest : IsLongestChain rule lat ops chain
   pub path : List Stretch
-  pub is_path : IsPath lat ops rows path
+  pub is_path : IsPath rule lat ops rows path
   pub listed : text ≡
       explained_lines 0 explained (without_nops block) issued
-      ++ cycles_line (cycles lat ops rows) (least lat block)
+      ++ cycles_line (cycles lat ops rows) bound
       ++ chain_line chain
       ++ path_line path

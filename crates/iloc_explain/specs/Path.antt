@@ -7,6 +7,7 @@ use Rattle.iloc_timed.specs.declared.row.Row.{Row}
 use Rattle.iloc_timed.specs.Cycles.{cycles}
 use Rattle.iloc_timed.specs.Latency.{latency}
 use Rattle.iloc_timed.specs.Rows.{row_at, issue_cycle}
+use Rattle.iloc_rules.specs.declared.memory_rule.MemoryRule.{MemoryRule}
 use Rattle.iloc_explain.specs.declared.path.Stretch.{Stretch}
 use Rattle.iloc_explain.specs.declared.path.Stretch.TheVariants.{Delay, Held, Free}
 use Rattle.iloc_explain.specs.Holding.{keeper}
@@ -33,22 +34,22 @@ pub record HadRoom (ops : List Op) (rows : List Row) (j r c n : ℕ) : Type 0 wh
 
 -- What binds operation j in cycle c: a delay for the first of those for which it waited until then, an operation that kept
 -- it out of the row before, or nothing for the rows before that had room.
-abbrev pub Binds : Latencies → List Op → List Row → ℕ → ℕ → Stretch → Type 0
-Binds lat ops rows j c (Delay i d) =
-    IsReadyAt lat ops rows j c × (slice_get (waited_until lat ops rows j c) 0 ≡ Some i) × (issue_cycle rows i + d ≡ c)
-Binds lat ops rows j c (Held h) =
-    (r : ℕ) × IsReadyAt lat ops rows j r × (r < c) × (keeper ops (row_at rows (c - 1)) j ≡ Some h)
-Binds lat ops rows j c (Free n) = (r : ℕ) × IsReadyAt lat ops rows j r × HadRoom ops rows j r c n
+abbrev pub Binds : MemoryRule → Latencies → List Op → List Row → ℕ → ℕ → Stretch → Type 0
+Binds rule lat ops rows j c (Delay i d) =
+    IsReadyAt rule lat ops rows j c × (slice_get (waited_until rule lat ops rows j c) 0 ≡ Some i) × (issue_cycle rows i + d ≡ c)
+Binds rule lat ops rows j c (Held h) =
+    (r : ℕ) × IsReadyAt rule lat ops rows j r × (r < c) × (keeper ops (row_at rows (c - 1)) j ≡ Some h)
+Binds rule lat ops rows j c (Free n) = (r : ℕ) × IsReadyAt rule lat ops rows j r × HadRoom ops rows j r c n
 
 -- A path begins in cycle 0; where rows aren't lawful, also in a cycle before the operation is ready.
-abbrev pub Begins : Latencies → List Op → List Row → ℕ → ℕ → Type 0
-Begins lat ops rows j c = (c ≡ 0) ⊎ ((r : ℕ) × IsReadyAt lat ops rows j r × (c < r))
+abbrev pub Begins : MemoryRule → Latencies → List Op → List Row → ℕ → ℕ → Type 0
+Begins rule lat ops rows j c = (c ≡ 0) ⊎ ((r : ℕ) × IsReadyAt rule lat ops rows j r × (c < r))
 
 -- these stretches, the last first, lead back from operation j in cycle c to the beginning
-abbrev pub LeadBack : Latencies → List Op → List Row → ℕ → ℕ → List Stretch → Type 0
-LeadBack lat ops rows j c [] = Begins lat ops rows j c
-LeadBack lat ops rows j c (last ∷ before) =
-    Binds lat ops rows j c last × LeadBack lat ops rows (origin last j) (c - span last) before
+abbrev pub LeadBack : MemoryRule → Latencies → List Op → List Row → ℕ → ℕ → List Stretch → Type 0
+LeadBack rule lat ops rows j c [] = Begins rule lat ops rows j c
+LeadBack rule lat ops rows j c (last ∷ before) =
+    Binds rule lat ops rows j c last × LeadBack rule lat ops rows (origin last j) (c - span last) before
 
 -- operation j is the first of those whose results arrive last
 pub record IsLastToArrive (lat : Latencies) (ops : List Op) (rows : List Row) (j : ℕ) : Type 0 where
@@ -58,8 +59,8 @@ pub record IsLastToArrive (lat : Latencies) (ops : List Op) (rows : List Row) (j
 
 -- The path: the stretches that lead back from the issue of that operation, and behind them its latency. Where there are no
 -- operations it is empty.
-abbrev pub IsPath : Latencies → List Op → List Row → List Stretch → Type 0
-IsPath lat [] rows path = path ≡ []
-IsPath lat (op ∷ ops) rows path = (j : ℕ) × (before : List Stretch) × IsLastToArrive lat (op ∷ ops) rows j
-    × LeadBack lat (op ∷ ops) rows j (issue_cycle rows j) before
+abbrev pub IsPath : MemoryRule → Latencies → List Op → List Row → List Stretch → Type 0
+IsPath rule lat [] rows path = path ≡ []
+IsPath rule lat (op ∷ ops) rows path = (j : ℕ) × (before : List Stretch) × IsLastToArrive lat (op ∷ ops) rows j
+    × LeadBack rule lat (op ∷ ops) rows j (issue_cycle rows j) before
     × (path ≡ reverse (Delay j (latency lat (op_at (op ∷ ops) j)) ∷ before))

@@ -1,6 +1,6 @@
 -- What the code keeps from step to step: no contract of a public function names them.
 pub mod Issued
-pub mod Latest
+pub mod Ready
 pub mod Waits
 pub mod Links
 pub mod SoFar

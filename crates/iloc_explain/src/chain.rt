@@ -1,9 +1,10 @@
 //! A longest chain of delays.
 ghost use Rattle.std.specs.Prelude.{◌≡◌, ◌<◌, ◌↔◌, [], length, IfOk, IsTrue, MatchOption};
-ghost use Rattle.iloc_rules.specs.Priority.{priorities as all_priorities};
-ghost use Rattle.iloc_explain.specs.Chain.{Continues, IsLongestChain, SpansTheGreatest};
+ghost use Rattle.iloc_explain.specs.Chain.{Continues, IsLongestChain, SpansTheGreatest, chains_by};
+ghost use Rattle.iloc_explain.specs.Counted.{IsCounted};
 ghost use Rattle.iloc_explain.specs.Steps.Greatest.{IsPlaceOfGreatest};
 
+use crate::counted::Counted;
 use crate::waited::has_delay;
 use iloc_ops::{NoMemory, Op};
 use iloc_timed::Latencies;
@@ -26,40 +27,50 @@ pub(crate) fn place_of_greatest(numbers: &[u32]) -> Option<usize>
 }
 
 /// Whether a longest chain from operation i may go on with operation j.
-fn continues(ops: &[Op], latencies: &Latencies, priorities: &[u32], i: usize, j: usize) -> bool
+fn continues(
+    ops: &[Op],
+    latencies: &Latencies,
+    counted: &Counted,
+    chains: &[u32],
+    i: usize,
+    j: usize,
+) -> bool
     requires order { i < j }
     requires within { j < length ops.now }
-    requires priorities { priorities.now ≡ all_priorities latencies.now ops.now }
-    ensures { IsTrue result ↔ Continues latencies.now ops.now i j }
+    requires counted { IsCounted ops.now counted.now }
+    requires chains { chains.now ≡ chains_by counted.now.rule latencies.now ops.now }
+    ensures { IsTrue result ↔ Continues counted.now.rule latencies.now ops.now i j }
 {
-    let own = priorities[i];
-    let next = priorities[j];
-    next <= own && has_delay(ops, latencies, i, j, u64::from(own - next))
+    let own = chains[i];
+    let next = chains[j];
+    next <= own && has_delay(ops, latencies, counted, i, j, u64::from(own - next))
 }
 
-/// A longest chain of delays of renamed operations, by their priorities: it starts with the first operation of the
-/// greatest priority, and goes on with the first operation whose delay and priority together are that of the one
-/// before. It takes time linear in the number of operations.
+/// A longest chain of delays of renamed operations, by how long the longest chains from each are: it starts with the first
+/// operation from which one of the longest leads, and goes on with the first operation whose delay and longest chain together
+/// are that of the one before. It takes time linear in the number of operations.
 ///
-/// Promise: The chain is that one, and its delays and the latency of its last operation together are the greatest priority.
+/// Promise: The chain is that one, and its delays and the latency of its last operation together are as long as the longest.
 pub fn longest_chain(
     alloc: Global,
     ops: &[Op],
     latencies: &Latencies,
-    priorities: &[u32],
+    counted: &Counted,
+    chains: &[u32],
 ) -> Result<Vec<usize>, NoMemory>
-    requires { priorities.now ≡ all_priorities latencies.now ops.now }
-    ensures chosen { IfOk result (λ chain. IsLongestChain latencies.now ops.now chain.items) }
-    ensures longest { IfOk result (λ chain. SpansTheGreatest latencies.now ops.now chain.items) }
+    requires counted { IsCounted ops.now counted.now }
+    requires chains { chains.now ≡ chains_by counted.now.rule latencies.now ops.now }
+    ensures chosen { IfOk result (λ chain. IsLongestChain counted.now.rule latencies.now ops.now chain.items) }
+    ensures longest { IfOk result (λ chain. SpansTheGreatest counted.now.rule latencies.now ops.now chain.items) }
 {
     let mut chain = Vec::new(alloc);
-    let Some(first) = place_of_greatest(priorities) else {
+    let Some(first) = place_of_greatest(chains) else {
         return Ok(chain);
     };
     chain.push(first)?;
     let mut last = first;
     for j in first + 1..ops.len() {
-        if continues(ops, latencies, priorities, last, j) {
+        if continues(ops, latencies, counted, chains, last, j) {
             chain.push(j)?;
             last = j;
         }

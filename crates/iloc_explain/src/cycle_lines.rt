@@ -2,7 +2,7 @@
 ghost use Rattle.std.specs.Prelude.{ℕ, ◌≡◌, ◌==◌, ◌&&◌, ◌++◌, ◌-◌, ◌<◌, List, length, codes, OnOk, IfSome};
 ghost use Rattle.std.specs.List.{flat_map};
 ghost use Rattle.std.specs.Fmt.{decimal};
-ghost use Rattle.iloc_rules.specs.Renaming.{renamed};
+ghost use Rattle.iloc_rules.specs.declared.memory_rule.MemoryRule.{MemoryRule as rule_value};
 ghost use Rattle.iloc_rules.specs.Steps.Members.{In};
 ghost use Rattle.iloc_explain.specs.CycleLines as listed;
 ghost use Rattle.iloc_explain.specs.CycleLines.{ready_listing};
@@ -10,6 +10,7 @@ ghost use Rattle.iloc_explain.specs.Explained.{AreExplained};
 ghost use Rattle.iloc_explain.specs.Measures.{AreMeasures};
 ghost use Rattle.iloc_explain.specs.Steps.CycleParts.{front_by, last_by, taken_by};
 ghost use Rattle.iloc_explain.specs.Steps.Queue.{IsInOrder, IsKnown, Place};
+ghost use Rattle.iloc_explain.specs.Waiting.{WaitsForAll};
 
 use crate::explanation::{Explained, explain};
 use crate::holding::{held_by, keeper};
@@ -17,7 +18,7 @@ use crate::listing::{push_cycles, push_holder};
 use crate::measures::Measures;
 use crate::ready_list::{MOST_LISTED, ReadyList};
 use crate::under_way::under_way;
-use iloc_ops::{Block, NoMemory, Op, push_number};
+use iloc_ops::{NoMemory, Op, push_number};
 use iloc_timed::{Latencies, Row, Schedule, cycles};
 use std::alloc::Global;
 
@@ -194,10 +195,11 @@ fn push_cycle(
 ) -> Result<(), NoMemory>
     requires order { IsInOrder list.now }
     requires within { cycle < length schedule.now.rows }
-    requires known { (prios : List ℕ) × IsKnown prios latencies.now schedule.now.ops schedule.now.rows cycle list.now }
-    ensures { OnOk result ((prios : List ℕ)
-        → IsKnown prios latencies.now schedule.now.ops schedule.now.rows cycle list.now → text.new.items
-        ≡ text.old.items ++ listed.cycle_line prios latencies.now schedule.now.ops schedule.now.rows cycle) }
+    requires known { (prios : List ℕ) × (rule : rule_value)
+        × IsKnown prios rule latencies.now schedule.now.ops schedule.now.rows cycle list.now }
+    ensures { OnOk result ((prios : List ℕ) (rule : rule_value)
+        → IsKnown prios rule latencies.now schedule.now.ops schedule.now.rows cycle list.now → text.new.items
+        ≡ text.old.items ++ listed.cycle_line prios rule latencies.now schedule.now.ops schedule.now.rows cycle) }
 {
     let (ops, rows) = (schedule.ops(), schedule.rows());
     push_front(alloc, text, list, cycle, rows.len())?;
@@ -227,12 +229,13 @@ fn push_line_from(
     was_idle: bool,
 ) -> Result<(), NoMemory>
     requires within { cycle < length schedule.now.rows }
-    requires known { (prios : List ℕ) × IsKnown prios latencies.now schedule.now.ops schedule.now.rows cycle list.now }
-    ensures { OnOk result ((prios : List ℕ)
-        → IsKnown prios latencies.now schedule.now.ops schedule.now.rows cycle list.now
-        → was_idle ≡ listed.is_idle_before prios latencies.now schedule.now.ops schedule.now.rows cycle
+    requires known { (prios : List ℕ) × (rule : rule_value)
+        × IsKnown prios rule latencies.now schedule.now.ops schedule.now.rows cycle list.now }
+    ensures { OnOk result ((prios : List ℕ) (rule : rule_value)
+        → IsKnown prios rule latencies.now schedule.now.ops schedule.now.rows cycle list.now
+        → was_idle ≡ listed.is_idle_before prios rule latencies.now schedule.now.ops schedule.now.rows cycle
         → text.new.items
-        ≡ text.old.items ++ listed.line_from prios latencies.now schedule.now.ops schedule.now.rows cycle) }
+        ≡ text.old.items ++ listed.line_from prios rule latencies.now schedule.now.ops schedule.now.rows cycle) }
 {
     if is_skipped(list, was_idle) {
         return Ok(());
@@ -248,10 +251,11 @@ fn push_cycles_of(
     latencies: &Latencies,
     explained: &[Explained],
 ) -> Result<(), NoMemory>
-    requires { (prios : List ℕ) × AreExplained prios latencies.now schedule.now.ops schedule.now.rows explained.now }
-    ensures { OnOk result ((prios : List ℕ)
-        → AreExplained prios latencies.now schedule.now.ops schedule.now.rows explained.now → text.new.items
-        ≡ text.old.items ++ listed.cycle_lines prios latencies.now schedule.now.ops schedule.now.rows) }
+    requires { (prios : List ℕ) × (rule : rule_value)
+        × AreExplained prios rule latencies.now schedule.now.ops schedule.now.rows explained.now }
+    ensures { OnOk result ((prios : List ℕ) (rule : rule_value)
+        → AreExplained prios rule latencies.now schedule.now.ops schedule.now.rows explained.now → text.new.items
+        ≡ text.old.items ++ listed.cycle_lines prios rule latencies.now schedule.now.ops schedule.now.rows) }
 {
     // Whose numbers are those of operations.
     let _ops = schedule.ops();
@@ -266,30 +270,24 @@ fn push_cycles_of(
     Ok(())
 }
 
-/// Appends the ready list of a schedule of the block: for each cycle what is ready, by rank, what the row takes, what keeps the next
-/// one out, and what is under way; then the cycles with their lower bound (`least`).
+/// Appends the ready list of a schedule by a rule of memory: for each cycle what is ready, by rank, what the row takes, what keeps
+/// the next one out, and what is under way; then the cycles with their lower bound (`least`).
 ///
 /// Promise: Just that is appended.
 pub fn push_ready_list(
     alloc: Global,
     text: &mut Vec<u8>,
-    block: &Block,
     latencies: &Latencies,
     measures: &Measures,
     schedule: &Schedule,
 ) -> Result<(), NoMemory>
-    requires names { schedule.now.ops ≡ renamed block.now.ops }
     requires measured { AreMeasures latencies.now schedule.now.ops measures.now }
+    requires waits { WaitsForAll measures.now.counted.rule latencies.now schedule.now.ops schedule.now.rows }
     ensures { OnOk result (text.new.items ≡ text.old.items
-        ++ ready_listing measures.now.ranks.items latencies.now block.now.ops schedule.now.ops schedule.now.rows) }
+        ++ ready_listing measures.now.ranks.items measures.now.counted.rule latencies.now measures.now.least
+        schedule.now.ops schedule.now.rows) }
 {
-    let Measures {
-        chains,
-        starts,
-        ranks,
-        ..
-    } = measures;
-    let explained = explain(alloc, schedule, latencies, ranks, chains, starts)?;
+    let explained = explain(alloc, schedule, latencies, measures)?;
     push_cycles_of(alloc, text, schedule, latencies, &explained)?;
     push_cycles(text, cycles(schedule, latencies), measures.least)
 }

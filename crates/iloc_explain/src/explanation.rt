@@ -1,15 +1,16 @@
 //! What is said of each operation of a schedule.
-ghost use Rattle.std.specs.Prelude.{◌≡◌, ◌-◌, length, IfOk};
-ghost use Rattle.iloc_rules.specs.Priority.{priorities as all_priorities};
-ghost use Rattle.iloc_rules.specs.Starts.{starts as all_starts};
+ghost use Rattle.std.specs.Prelude.{◌≡◌, ◌-◌, IfOk};
 ghost use Rattle.iloc_explain.specs.Explained.{AreExplained, unit_of};
+ghost use Rattle.iloc_explain.specs.Measures.{AreMeasures};
+ghost use Rattle.iloc_explain.specs.Waiting.{WaitsForAll};
 
 use crate::holding::{Holder, holder_of};
 use crate::issued::issue_cycles;
-use crate::latest::Latest;
+use crate::measures::Measures;
+use crate::ready::ready_cycles;
 use crate::waited::waited_until;
 use iloc_ops::NoMemory;
-use iloc_timed::{Latencies, Row, Schedule, cycles, latency};
+use iloc_timed::{Latencies, Row, Schedule, cycles};
 use std::alloc::Global;
 
 /// One of the two units that issue operations.
@@ -60,8 +61,8 @@ fn slack_of(total: u64, cycle: usize, chain: u64) -> u64
     total.saturating_sub(cycle as u64).saturating_sub(chain)
 }
 
-/// Explains each operation of a schedule of renamed operations, in the order of their numbers, by the priorities that ranked
-/// them, the longest chains of delays from them, and their starts, the earliest cycles that delays leave.
+/// Explains each operation of a schedule of renamed operations that waits for their delays, in the order of their numbers, by
+/// what is known of the operations.
 ///
 /// Promise: Each operation is listed with its cycle of issue, its unit, its priority, the first cycle at which all that it
 /// waits for is over, just the operations for which it waited until then, its start, its slack, and what kept it out of the
@@ -70,37 +71,33 @@ pub(crate) fn explain(
     alloc: Global,
     schedule: &Schedule,
     latencies: &Latencies,
-    priorities: &[u32],
-    chains: &[u32],
-    starts: &[u32],
+    measures: &Measures,
 ) -> Result<Vec<Explained>, NoMemory>
-    requires ranked { length priorities.now ≡ length schedule.now.ops }
-    requires chains { chains.now ≡ all_priorities latencies.now schedule.now.ops }
-    requires starts { starts.now ≡ all_starts latencies.now schedule.now.ops }
-    ensures { IfOk result (λ explained.
-        AreExplained priorities.now latencies.now schedule.now.ops schedule.now.rows explained.items) }
+    requires measured { AreMeasures latencies.now schedule.now.ops measures.now }
+    requires waits { WaitsForAll measures.now.counted.rule latencies.now schedule.now.ops schedule.now.rows }
+    ensures { IfOk result (λ explained. AreExplained measures.now.ranks.items measures.now.counted.rule latencies.now
+        schedule.now.ops schedule.now.rows explained.items) }
 {
     let ops = schedule.ops();
     let rows = schedule.rows();
     let issued = issue_cycles(alloc, schedule)?;
+    let ready_at = ready_cycles(alloc, &measures.pairs, &issued)?;
     let total = cycles(schedule, latencies);
-    let mut latest = Latest::new(alloc);
     let mut explained = Vec::new(alloc);
-    for (j, op) in ops.iter().enumerate() {
+    for j in 0..ops.len() {
         let cycle = issued[j];
-        let ready = latest.ready(op) as usize;
-        let after = waited_until(alloc, schedule, latencies, j, ready)?;
+        let ready = ready_at[j];
+        let after = waited_until(alloc, schedule, latencies, &measures.counted, j, ready)?;
         explained.push(Explained {
             cycle,
             unit: unit_of(rows[cycle], j),
             ready,
             after,
-            priority: u64::from(priorities[j]),
-            earliest: u64::from(starts[j]),
-            slack: slack_of(total, cycle, u64::from(chains[j])),
+            priority: u64::from(measures.ranks[j]),
+            earliest: u64::from(measures.starts[j]),
+            slack: slack_of(total, cycle, u64::from(measures.chains[j])),
             held: holder_of(schedule, j, cycle, ready),
         })?;
-        latest.note(op, cycle as u64, cycle as u64 + latency(op, latencies))?;
     }
     Ok(explained)
 }

@@ -2,21 +2,23 @@
 #![tactic(auto)]
 
 mod chain;
+mod counted;
 mod cycle_lines;
 mod explanation;
 mod holding;
 mod issued;
-mod latest;
 pub mod laws;
 mod listing;
 mod measures;
 mod path;
 mod path_line;
+mod ready;
 mod ready_list;
 mod under_way;
 mod waited;
 
 pub use chain::longest_chain;
+pub use counted::Counted;
 pub use cycle_lines::push_ready_list;
 pub use listing::push_explanation;
 pub use measures::Measures;

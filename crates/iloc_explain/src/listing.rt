@@ -6,6 +6,7 @@ ghost use Rattle.iloc_rules.specs.Renaming.{renamed, without_nops};
 ghost use Rattle.iloc_explain.specs.Listing as listed;
 ghost use Rattle.iloc_explain.specs.Listing.{IsExplanation};
 ghost use Rattle.iloc_explain.specs.Measures.{AreMeasures};
+ghost use Rattle.iloc_explain.specs.Waiting.{WaitsForAll};
 
 use crate::chain::longest_chain;
 use crate::explanation::{Explained, Unit, explain};
@@ -150,8 +151,8 @@ pub(crate) fn push_cycles(text: &mut Vec<u8>, cycles: u64, least: u64) -> Result
     Ok(text.extend_from_slice(b"\n")?)
 }
 
-/// Appends what explains a schedule of the block: a line for each operation, the cycles with their lower bound (`least`), a
-/// longest chain of delays, and what binds in this schedule. The lines show each operation as it is `issued`.
+/// Appends what explains a schedule of the block by a rule of memory: a line for each operation, the cycles with their lower bound
+/// (`least`), a longest chain of delays, and what binds in this schedule. The lines show each operation as it is `issued`.
 ///
 /// Promise: What is appended is a text that explains the schedule.
 pub fn push_explanation(
@@ -165,22 +166,24 @@ pub fn push_explanation(
 ) -> Result<(), NoMemory>
     requires names { schedule.now.ops ≡ renamed block.now.ops }
     requires measured { AreMeasures latencies.now schedule.now.ops measures.now }
+    requires waits { WaitsForAll measures.now.counted.rule latencies.now schedule.now.ops schedule.now.rows }
     requires issued { length issued.now ≡ length schedule.now.ops }
-    ensures { OnOk result ((entry : List ℕ) × IsExplanation measures.now.ranks.items latencies.now block.now.ops
-        schedule.now.ops schedule.now.rows issued.now entry × (text.new.items ≡ text.old.items ++ entry)) }
+    ensures { OnOk result ((entry : List ℕ) × IsExplanation measures.now.ranks.items measures.now.counted.rule latencies.now
+        measures.now.least block.now.ops schedule.now.ops schedule.now.rows issued.now entry
+        × (text.new.items ≡ text.old.items ++ entry)) }
 {
+    let explained = explain(alloc, schedule, latencies, measures)?;
     let Measures {
+        counted,
         chains,
-        starts,
-        ranks,
+        least,
         ..
     } = measures;
-    let explained = explain(alloc, schedule, latencies, ranks, chains, starts)?;
     push_lines(text, block.ops.as_slice(), &explained, issued)?;
-    push_cycles(text, cycles(schedule, latencies), measures.least)?;
+    push_cycles(text, cycles(schedule, latencies), *least)?;
     push_chain(
         text,
-        &longest_chain(alloc, schedule.ops(), latencies, chains)?,
+        &longest_chain(alloc, schedule.ops(), latencies, counted, chains)?,
     )?;
     push_path(text, &path_of(alloc, schedule, latencies, &explained)?)
 }

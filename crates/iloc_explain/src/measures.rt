@@ -1,13 +1,20 @@
 //! What an explanation needs to know of a block's operations.
-/// What is known of a block's renamed operations.
+use crate::counted::Counted;
+use iloc_rules::Pair;
+
+/// What is known of a block's renamed operations by a rule of memory.
 #[derive(Debug, Drop)]
 pub struct Measures {
+    /// Which of their pairs count.
+    pub counted: Counted,
+    /// Delay pairs of the operations: rows that wait for these wait for all.
+    pub pairs: Vec<Pair>,
     /// By operation the number that ranks it.
     pub ranks: Vec<u32>,
     /// By operation the longest chain of delays from it, up to the end of the block.
     pub chains: Vec<u32>,
     /// By operation the first cycle at which it can be issued.
     pub starts: Vec<u32>,
-    /// No lawful schedule takes fewer cycles.
+    /// A lower bound on the cycles.
     pub least: u64,
 }

@@ -5,6 +5,7 @@ ghost use Rattle.iloc_meaning.specs.Trace.{op_at};
 ghost use Rattle.iloc_timed.specs.declared.latencies.Latencies.{Latencies as latencies_value};
 ghost use Rattle.iloc_timed.specs.Latency.{latency as latency_value};
 ghost use Rattle.iloc_timed.specs.Rows.{issue_cycle, row_at};
+ghost use Rattle.iloc_rules.specs.declared.memory_rule.MemoryRule.{MemoryRule as rule_value};
 ghost use Rattle.iloc_explain.specs.Explained.{AreExplained};
 ghost use Rattle.iloc_explain.specs.Holding.{keeper};
 ghost use Rattle.iloc_explain.specs.Path.{Begins, Binds, HadRoom, IsPath};
@@ -73,14 +74,14 @@ fn rows_with_room(schedule: &Schedule, j: usize, ready: usize, cycle: usize) -> 
 
 /// What binds operation j in a cycle, by the explained operations; nothing in the cycle in which a path begins.
 fn bound(schedule: &Schedule, explained: &[Explained], j: usize, cycle: usize) -> Option<Stretch>
-    requires explained { (prios : List ℕ) × (lat : latencies_value)
-        × AreExplained prios lat schedule.now.ops schedule.now.rows explained.now }
+    requires explained { (prios : List ℕ) × (rule : rule_value) × (lat : latencies_value)
+        × AreExplained prios rule lat schedule.now.ops schedule.now.rows explained.now }
     requires known { j < length schedule.now.ops }
     requires within { cycle ≤ issue_cycle schedule.now.rows j }
-    ensures { (prios : List ℕ) (lat : latencies_value)
-        → AreExplained prios lat schedule.now.ops schedule.now.rows explained.now
-        → MatchOption result (Begins lat schedule.now.ops schedule.now.rows j cycle)
-        (Binds lat schedule.now.ops schedule.now.rows j cycle) }
+    ensures { (prios : List ℕ) (rule : rule_value) (lat : latencies_value)
+        → AreExplained prios rule lat schedule.now.ops schedule.now.rows explained.now
+        → MatchOption result (Begins rule lat schedule.now.ops schedule.now.rows j cycle)
+        (Binds rule lat schedule.now.ops schedule.now.rows j cycle) }
 {
     let ops = schedule.ops();
     let own = &explained[j];
@@ -104,7 +105,8 @@ fn arrivals(
     latencies: &Latencies,
     explained: &[Explained],
 ) -> Result<Vec<u32>, NoMemory>
-    requires { (prios : List ℕ) × AreExplained prios latencies.now schedule.now.ops schedule.now.rows explained.now }
+    requires { (prios : List ℕ) × (rule : rule_value)
+        × AreExplained prios rule latencies.now schedule.now.ops schedule.now.rows explained.now }
     ensures { IfOk result (λ found. found.items
         ≡ map (λ i. issue_cycle schedule.now.rows i + latency_value latencies.now (op_at schedule.now.ops i))
         (range_with_len 0 (length schedule.now.ops))) }
@@ -131,8 +133,11 @@ pub(crate) fn path_of(
     latencies: &Latencies,
     explained: &[Explained],
 ) -> Result<Vec<Stretch>, NoMemory>
-    requires { (prios : List ℕ) × AreExplained prios latencies.now schedule.now.ops schedule.now.rows explained.now }
-    ensures { IfOk result (λ path. IsPath latencies.now schedule.now.ops schedule.now.rows path.items) }
+    requires { (prios : List ℕ) × (rule : rule_value)
+        × AreExplained prios rule latencies.now schedule.now.ops schedule.now.rows explained.now }
+    ensures { IfOk result (λ path. (prios : List ℕ) (rule : rule_value)
+        → AreExplained prios rule latencies.now schedule.now.ops schedule.now.rows explained.now
+        → IsPath rule latencies.now schedule.now.ops schedule.now.rows path.items) }
 {
     let arrivals = arrivals(alloc, schedule, latencies, explained)?;
     let mut path = Vec::new(alloc);

@@ -34,6 +34,7 @@ use Rattle.iloc_driver.specs.Priorities.{Own, own_of}
 use Rattle.iloc_listing.specs.Schedules.{IsTheGreedy, IsTheGreedyBy, IsTheGreedyUnder, ranks, ranks_under}
 use Rattle.iloc_rules.specs.declared.memory_rule.MemoryRule.{MemoryRule}
 use Rattle.iloc_rules.specs.declared.memory_rule.MemoryRule.TheVariants.{Book, Address}
+use Rattle.iloc_rules.specs.Least.{least}
 use Rattle.iloc_rules.specs.Rule.{counts_by}
 use Rattle.iloc_rules.specs.Greedy.{IsGreedyWhere}
 use Rattle.iloc_args.specs.Rule.{memory_rule}
@@ -46,11 +47,12 @@ pub one_memory : (r q : Request) → AskAlike r q → initial_memory r ≡ initi
 one_memory r q alike = ap (λ at. words_from at r.words.items) alike.at ∙ ap (λ ws. words_from q.at ws) alike.words
 
 -- one text is said of a schedule
-one_said : (by_cycle : Bool) (prios : List ℕ) (lat : Latencies) (block : List Op) (s : Table) (text text' : List ℕ)
-    → IsSaid by_cycle prios lat block s text → IsSaid by_cycle prios lat block s text' → text ≡ text'
-one_said true prios lat block s text text' said said' = said ∙ sym said'
-one_said false prios lat block s text text' said said' =
-    one_explanation prios lat block s.ops s.rows s.ops text text' said said'
+one_said : (by_cycle : Bool) (prios : List ℕ) (rule : MemoryRule) (lat : Latencies) (bound : ℕ) (block : List Op) (s : Table)
+    (text text' : List ℕ) → IsSaid by_cycle prios rule lat bound block s text
+    → IsSaid by_cycle prios rule lat bound block s text' → text ≡ text'
+one_said true prios rule lat bound block s text text' said said' = said ∙ sym said'
+one_said false prios rule lat bound block s text text' said said' =
+    one_explanation prios rule lat bound block s.ops s.rows s.ops text text' said said'
 
 module _ (r q : Request) (alike : AskAlike r q) (k : ℕ) (b : Block) where
   run_same : (e e' : List ℕ) (f f' : Unit {0}) → IsRunEntry r k b e f → IsRunEntry q k b e' f' → (e ≡ e') × (f ≡ f')
@@ -120,9 +122,10 @@ module _ (r q : Request) (alike : AskAlike r q) (k : ℕ) (b : Block) where
   explain_same own e e' c c' is is' =
       let same = same_ranked own is.schedule is'.schedule is.greedy is'.greedy in
       let text : is.text ≡ is'.text =
-      one_said (has q.flags Cycles) (ranks q.priority q.latencies own is'.schedule.ops) q.latencies b.ops is'.schedule is.text is'.text
-      (transport (λ i. IsSaid (has (alike.flags i) Cycles) (ranks (alike.priority i) (alike.latencies i) own (same i).ops)
-      (alike.latencies i) b.ops (same i) is.text) is.said) is'.said in (
+      one_said (has q.flags Cycles) (ranks q.priority q.latencies own is'.schedule.ops) Book q.latencies (least q.latencies b.ops) b.ops is'.schedule
+      is.text is'.text
+      (transport (λ i. IsSaid (has (alike.flags i) Cycles) (ranks (alike.priority i) (alike.latencies i) own (same i).ops) Book
+      (alike.latencies i) (least (alike.latencies i) b.ops) b.ops (same i) is.text) is.said) is'.said in (
         is.listed ∙ (ap (λ t. block_head k b.name ++ codes "\n" ++ t) text ∙ sym is'.listed),
         cycles_same is.schedule is'.schedule c c' same is.counted is'.counted,
       )
@@ -134,8 +137,8 @@ module _ (r q : Request) (alike : AskAlike r q) (k : ℕ) (b : Block) where
   graph_same : (e e' : List ℕ) (f f' : Unit {0}) → IsGraphEntry r k b e f → IsGraphEntry q k b e' f'
       → (e ≡ e') × (f ≡ f')
   graph_same e e' f f' is is' =
-      let same : is.cluster ≡ is'.cluster = one_cluster q.latencies k b.name b.ops is.cluster is'.cluster
-      (transport (λ i. IsCluster (alike.latencies i) k b.name b.ops is.cluster) is.draws) is'.draws in
+      let same : is.cluster ≡ is'.cluster = one_cluster Book q.latencies k b.name b.ops is.cluster is'.cluster
+      (transport (λ i. IsCluster Book (alike.latencies i) k b.name b.ops is.cluster) is.draws) is'.draws in
       (is.listed ∙ (ap (λ c. opening_at k ++ c) same ∙ sym is'.listed), refl)
 
 -- a comparison without a search has no nodes

@@ -4,51 +4,51 @@ use Rattle.std.specs.Prelude.{Contains}
 use Rattle.iloc_ops.specs.declared.op.Op.{Op}
 use Rattle.iloc_meaning.specs.Trace.{op_at}
 use Rattle.iloc_timed.specs.declared.latencies.Latencies.{Latencies}
-use Rattle.iloc_rules.specs.Delays.{delays}
-use Rattle.iloc_rules.specs.Priority.{priority}
+use Rattle.iloc_rules.specs.declared.memory_rule.MemoryRule.{MemoryRule}
+use Rattle.iloc_rules.specs.Delays.{delays_where}
+use Rattle.iloc_rules.specs.Rule.{counts_by}
 use Rattle.iloc_rules.proofs.Basics.Maxima.{fold_max_each}
 use Rattle.iloc_rules.proofs.Basics.Members.{in_from}
-use Rattle.iloc_sched.proofs.KeptEdges.FarPairs.{near_or_by_way}
-use Rattle.iloc_rules.proofs.PriorityValues.Longest.{is_priority}
-use Rattle.iloc_explain.specs.Chain.{Continues, IsChainFrom, IsNext}
+use Rattle.iloc_explain.specs.Chain.{Continues, IsChainFrom, IsNext, chain_by}
+use Rattle.iloc_explain.proofs.ChainLengths.{is_chain}
 use Rattle.iloc_graph.specs.Laws.{ChainsRunAlongNearestPairs, RunsAlong}
 use Rattle.iloc_graph.specs.Nearest.{longest_delay, nearest_pairs}
-use Rattle.iloc_graph.proofs.Waiting.{in_nearest, nearest, nearest_is_delay}
+use Rattle.iloc_graph.proofs.Waiting.{in_nearest, near_or_by_way, nearest, nearest_is_delay}
 
-module _ (lat : Latencies) (ops : List Op) where
+module _ (rule : MemoryRule) (lat : Latencies) (ops : List Op) where
   -- what continues a chain first does so by a nearest pair
-  next_near : (i j : ℕ) → IsNext lat ops i j
-      → (d : ℕ) × Contains (nearest_pairs lat ops) (record { first = i; second = j; delay = d })
-      × (priority lat ops i ≡ d + priority lat ops j)
+  next_near : (i j : ℕ) → IsNext rule lat ops i j
+      → (d : ℕ) × Contains (nearest_pairs rule lat ops) (record { first = i; second = j; delay = d })
+      × (chain_by rule lat ops i ≡ d + chain_by rule lat ops j)
   next_near i j next =
-      let goes : Continues lat ops i j = next.continues in
-      let sum : priority lat ops i ≡ goes.delay + priority lat ops j = goes.sum in
-      elim (near_or_by_way lat ops i j goes.delay goes.pair) [
+      let goes : Continues rule lat ops i j = next.continues in
+      let sum : chain_by rule lat ops i ≡ goes.delay + chain_by rule lat ops j = goes.sum in
+      elim (near_or_by_way rule lat ops i j goes.delay goes.pair) [
         | inl near ↦
-            let d : ℕ = longest_delay lat (op_at ops i) (op_at ops j) in
-            let there : Contains (nearest_pairs lat ops) (record { first = i; second = j; delay = d }) =
-            in_nearest lat ops i j goes.pair.order goes.pair.within (nearest lat ops i j goes.delay near) in
+            let d : ℕ = longest_delay (counts_by rule ops i j) lat (op_at ops i) (op_at ops j) in
+            let there : Contains (nearest_pairs rule lat ops) (record { first = i; second = j; delay = d }) =
+            in_nearest rule lat ops i j goes.pair.order goes.pair.within (nearest rule lat ops i j goes.delay near) in
             let most : goes.delay ≤ d =
-            fold_max_each 0 (delays lat (op_at ops i) (op_at ops j)) goes.delay
-            (in_from (delays lat (op_at ops i) (op_at ops j)) goes.delay goes.pair.delay) in
-            let over : d + priority lat ops j ≤ priority lat ops i =
-            (is_priority lat ops).pairs i j d (nearest_is_delay lat ops i j d there) in
+            fold_max_each 0 (delays_where (counts_by rule ops i j) lat (op_at ops i) (op_at ops j)) goes.delay
+            (in_from (delays_where (counts_by rule ops i j) lat (op_at ops i) (op_at ops j)) goes.delay goes.pair.delay) in
+            let over : d + chain_by rule lat ops j ≤ chain_by rule lat ops i =
+            (is_chain rule lat ops).pairs i j d (nearest_is_delay rule lat ops i j d there) in
             (d, there, omega arith)
         | inr by ↦
             let before : by.way < j = by.second.order in
             let enough : goes.delay ≤ by.first_delay + by.second_delay = by.enough in
-            let to : by.first_delay + priority lat ops by.way ≤ priority lat ops i =
-            (is_priority lat ops).pairs i by.way by.first_delay by.first in
-            let from : by.second_delay + priority lat ops j ≤ priority lat ops by.way =
-            (is_priority lat ops).pairs by.way j by.second_delay by.second in
+            let to : by.first_delay + chain_by rule lat ops by.way ≤ chain_by rule lat ops i =
+            (is_chain rule lat ops).pairs i by.way by.first_delay by.first in
+            let from : by.second_delay + chain_by rule lat ops j ≤ chain_by rule lat ops by.way =
+            (is_chain rule lat ops).pairs by.way j by.second_delay by.second in
             absurd (next.first by.way before (record { delay = by.first_delay; pair = by.first; sum = omega arith }))
       ]
 
-  runs_along : (i : ℕ) (chain : List ℕ) → IsChainFrom lat ops i chain → RunsAlong lat ops chain
+  runs_along : (i : ℕ) (chain : List ℕ) → IsChainFrom rule lat ops i chain → RunsAlong rule lat ops chain
   runs_along i [] is = tt
   runs_along i (x ∷ []) is = tt
   runs_along i (x ∷ y ∷ chain) is = grind (arith, next_near, runs_along y (y ∷ chain) is.2)
 
 pub chains_run_along : ChainsRunAlongNearestPairs
-chains_run_along lat [] chain is = rw is tt
-chains_run_along lat (op ∷ ops) chain is = runs_along lat (op ∷ ops) is.0 chain is.2
+chains_run_along rule lat [] chain is = rw is tt
+chains_run_along rule lat (op ∷ ops) chain is = runs_along rule lat (op ∷ ops) is.0 chain is.2

@@ -7,6 +7,8 @@ use Rattle.iloc_ops.specs.declared.op.Op.{Op}
 use Rattle.iloc_meaning.specs.Trace.{op_at}
 use Rattle.iloc_timed.specs.declared.latencies.Latencies.{Latencies}
 use Rattle.iloc_rules.specs.declared.delay_pairs.Pair.{Pair}
+use Rattle.iloc_rules.specs.declared.memory_rule.MemoryRule.{MemoryRule}
+use Rattle.iloc_rules.specs.Rule.{counts_by}
 use Rattle.iloc_graph.specs.Nearest.{longest_delay, nearest_to, pair_of, sources}
 
 -- one number more
@@ -15,34 +17,34 @@ range_more a zero = let same : a ≡ a + 0 = omega arith in ap (λ k. k ∷ []) 
 range_more a (suc n) = grind (arith, range_more (a + 1) n)
 
 -- the pairs to one more operation
-pub one_more : (lat : Latencies) (ops : List Op) (n : ℕ) (pairs more : List Pair) (found : List ℕ)
-    → pairs ≡ flat_map (nearest_to lat ops) (range_with_len 0 n) → found ≡ sources ops n
-    → more ≡ pairs ++ map (pair_of lat ops n) found → more ≡ flat_map (nearest_to lat ops) (range_with_len 0 (n + 1))
-one_more lat ops n pairs more found so_far are added =
+pub one_more : (rule : MemoryRule) (lat : Latencies) (ops : List Op) (n : ℕ) (pairs more : List Pair) (found : List ℕ)
+    → pairs ≡ flat_map (nearest_to rule lat ops) (range_with_len 0 n) → found ≡ sources rule ops n
+    → more ≡ pairs ++ map (pair_of rule lat ops n) found → more ≡ flat_map (nearest_to rule lat ops) (range_with_len 0 (n + 1))
+one_more rule lat ops n pairs more found so_far are added =
     let range : range_with_len 0 (n + 1) ≡ range_with_len 0 n ++ n ∷ [] =
     ap (range_with_len 0) (add-one n) ∙ range_more 0 n ∙ ap (λ m. range_with_len 0 n ++ m ∷ []) (omega arith) in
-    added ∙ (ap (λ ps. ps ++ map (pair_of lat ops n) found) so_far
-    ∙ (ap (λ is. flat_map (nearest_to lat ops) (range_with_len 0 n) ++ map (pair_of lat ops n) is) are
-    ∙ sym (ap (flat_map (nearest_to lat ops)) range
-    ∙ (flat_map-append (nearest_to lat ops) (range_with_len 0 n) (n ∷ [])
-    ∙ ap (λ ps. flat_map (nearest_to lat ops) (range_with_len 0 n) ++ ps) (append-nil (nearest_to lat ops n))))))
+    added ∙ (ap (λ ps. ps ++ map (pair_of rule lat ops n) found) so_far
+    ∙ (ap (λ is. flat_map (nearest_to rule lat ops) (range_with_len 0 n) ++ map (pair_of rule lat ops n) is) are
+    ∙ sym (ap (flat_map (nearest_to rule lat ops)) range
+    ∙ (flat_map-append (nearest_to rule lat ops) (range_with_len 0 n) (n ∷ [])
+    ∙ ap (λ ps. flat_map (nearest_to rule lat ops) (range_with_len 0 n) ++ ps) (append-nil (nearest_to rule lat ops n))))))
 
 abbrev pair : ℕ → ℕ → ℕ → Pair
 pair i j d = record { first = i; second = j; delay = d }
 
 -- one more of the pairs to an operation
-pub pair_added : (lat : Latencies) (ops : List Op) (j : ℕ) (sources : List ℕ) (k : ℕ) (first all more : List Pair)
-    (a b : Op) (d : ℕ) → k < length sources → all ≡ first ++ map (pair_of lat ops j) (take k sources)
-    → a ≡ op_at ops (get_or sources k 0) → b ≡ op_at ops j → d ≡ longest_delay lat a b
-    → more ≡ all ++ pair (get_or sources k 0) j d ∷ [] → more ≡ first ++ map (pair_of lat ops j) (take (k + 1) sources)
-pair_added lat ops j sources k first all more a b d within so_far from to is added =
+pub pair_added : (rule : MemoryRule) (lat : Latencies) (ops : List Op) (j : ℕ) (sources : List ℕ) (k : ℕ) (first all more : List Pair)
+    (a b : Op) (d : ℕ) → k < length sources → all ≡ first ++ map (pair_of rule lat ops j) (take k sources)
+    → a ≡ op_at ops (get_or sources k 0) → b ≡ op_at ops j → d ≡ longest_delay (counts_by rule ops (get_or sources k 0) j) lat a b
+    → more ≡ all ++ pair (get_or sources k 0) j d ∷ [] → more ≡ first ++ map (pair_of rule lat ops j) (take (k + 1) sources)
+pair_added rule lat ops j sources k first all more a b d within so_far from to is added =
     let i : ℕ = get_or sources k 0 in
-    let long : d ≡ longest_delay lat (op_at ops i) (op_at ops j) =
-    is ∙ (ap (λ x. longest_delay lat x b) from ∙ ap (longest_delay lat (op_at ops i)) to) in
-    let whole : map (pair_of lat ops j) (take (k + 1) sources)
-    ≡ map (pair_of lat ops j) (take k sources) ++ pair_of lat ops j i ∷ [] =
-    ap (map (pair_of lat ops j)) (take_more sources k 0 within)
-    ∙ map-append (pair_of lat ops j) (take k sources) (i ∷ []) in
-    added ∙ (ap (λ e. all ++ pair i j e ∷ []) long ∙ (ap (λ ps. ps ++ pair_of lat ops j i ∷ []) so_far
-    ∙ (append_assoc first (map (pair_of lat ops j) (take k sources)) (pair_of lat ops j i ∷ [])
+    let long : d ≡ longest_delay (counts_by rule ops i j) lat (op_at ops i) (op_at ops j) =
+    is ∙ (ap (λ x. longest_delay (counts_by rule ops i j) lat x b) from ∙ ap (longest_delay (counts_by rule ops i j) lat (op_at ops i)) to) in
+    let whole : map (pair_of rule lat ops j) (take (k + 1) sources)
+    ≡ map (pair_of rule lat ops j) (take k sources) ++ pair_of rule lat ops j i ∷ [] =
+    ap (map (pair_of rule lat ops j)) (take_more sources k 0 within)
+    ∙ map-append (pair_of rule lat ops j) (take k sources) (i ∷ []) in
+    added ∙ (ap (λ e. all ++ pair i j e ∷ []) long ∙ (ap (λ ps. ps ++ pair_of rule lat ops j i ∷ []) so_far
+    ∙ (append_assoc first (map (pair_of rule lat ops j) (take k sources)) (pair_of rule lat ops j i ∷ [])
     ∙ sym (ap (λ ps. first ++ ps) whole))))

@@ -6,6 +6,8 @@ use Rattle.std.proofs.lemmas.List.Kept.{AllPairs-from_increasing}
 use Rattle.iloc_ops.specs.declared.op.Op.{Op}
 use Rattle.iloc_meaning.specs.Trace.{op_at}
 use Rattle.iloc_timed.specs.declared.latencies.Latencies.{Latencies}
+use Rattle.iloc_rules.specs.declared.memory_rule.MemoryRule.{MemoryRule}
+use Rattle.iloc_rules.specs.declared.memory_rule.MemoryRule.TheVariants.{Book}
 use Rattle.iloc_rules.specs.Delays.{delays}
 use Rattle.iloc_sched.specs.Graph.Near.{IsNearPair}
 use Rattle.iloc_sched.specs.declared.edges.Edge.{Edge}
@@ -24,18 +26,18 @@ module _ (lat : Latencies) (ops : List Op) (j : ℕ) (there : j < length ops) (e
   abbrev froms : List ℕ
   froms = map (λ (e : Edge). e.from) edges
 
-  nearest_from : (i : ℕ) → Contains froms i → (i < j) × (is_nearest ops j i ≡ true)
+  nearest_from : (i : ℕ) → Contains froms i → (i < j) × (is_nearest Book ops j i ≡ true)
   nearest_from i held =
       let found = from_map (λ (e : Edge). e.from) edges i (in_from froms i held) in
       let at = contains_from edges found.0 found.1 in
       let near : IsNearPair lat ops found.0.from j found.0.delay =
       subst (λ (e : Edge). IsNearPair lat ops e.from j e.delay) at.2 (each at.0 found.0 at.1).1 in
-      subst (λ k. (k < j) × (is_nearest ops j k ≡ true)) found.2
-      (near.order, nearest lat ops found.0.from j found.0.delay near.near)
+      subst (λ k. (k < j) × (is_nearest Book ops j k ≡ true)) found.2
+      (near.order, nearest Book lat ops found.0.from j found.0.delay near.near)
 
-  nearest_into : (i : ℕ) → i < j → is_nearest ops j i ≡ true → In froms i
+  nearest_into : (i : ℕ) → i < j → is_nearest Book ops j i ≡ true → In froms i
   nearest_into i before is =
-      let delay = delayed lat ops i j is in
+      let delay = delayed Book lat ops i j is in
       let near : IsNearPair lat ops i j delay.0 = record {
         order = before;
         within = there;
@@ -46,26 +48,26 @@ module _ (lat : Latencies) (ops : List Op) (j : ℕ) (there : j < length ops) (e
       subst (In froms) found.4.0
       (in_map (λ (e : Edge). e.from) edges found.1 (in_from edges found.1 (found.0, found.2, found.3)))
 
-  pub sources_are : (sorted : List ℕ) → IsInOrder froms sorted → sorted ≡ sources ops j
+  pub sources_are : (sorted : List ℕ) → IsInOrder froms sorted → sorted ≡ sources Book ops j
   sources_are sorted order =
-      rises_same sorted (sources ops j) (rises_from sorted (AllPairs-from_increasing sorted order.rises))
-      (ordered_filter (λ (x y : ℕ). x < y) (is_nearest ops j) (range_with_len 0 j) (rises_range 0 j))
+      rises_same sorted (sources Book ops j) (rises_from sorted (AllPairs-from_increasing sorted order.rises))
+      (ordered_filter (λ (x y : ℕ). x < y) (is_nearest Book ops j) (range_with_len 0 j) (rises_range 0 j))
       (λ i held.
       let h = nearest_from i (order.from i (contains_from sorted i held)) in
       let before : i < j = h.0 in
-      in_filter (is_nearest ops j) (range_with_len 0 j) i (in_range_from 0 j i (omega arith) (omega arith)) h.1)
+      in_filter (is_nearest Book ops j) (range_with_len 0 j) i (in_range_from 0 j i (omega arith) (omega arith)) h.1)
       (λ i held.
-      let h = from_filter (is_nearest ops j) (range_with_len 0 j) i held in
+      let h = from_filter (is_nearest Book ops j) (range_with_len 0 j) i held in
       let before : (0 ≤ i) × (i < 0 + j) = from_range 0 j i h.0 in
       in_from sorted i (order.all i (contains_from froms i (nearest_into i (omega arith) h.1))))
 
 -- each is an earlier one
-pub source_earlier : (ops : List Op) (n : ℕ) (sorted : List ℕ) → sorted ≡ sources ops n → (k : ℕ) → k < length sorted
+pub source_earlier : (rule : MemoryRule) (ops : List Op) (n : ℕ) (sorted : List ℕ) → sorted ≡ sources rule ops n → (k : ℕ) → k < length sorted
     → slice_index sorted k < n
-source_earlier ops n sorted are k within =
-    let there : In (sources ops n) (slice_index sorted k) =
+source_earlier rule ops n sorted are k within =
+    let there : In (sources rule ops n) (slice_index sorted k) =
     subst (λ xs. In xs (slice_index sorted k)) are (in_at sorted k 0 within) in
-    let h = from_filter (is_nearest ops n) (range_with_len 0 n) (slice_index sorted k) there in
+    let h = from_filter (is_nearest rule ops n) (range_with_len 0 n) (slice_index sorted k) there in
     let before : (0 ≤ slice_index sorted k) × (slice_index sorted k < 0 + n) =
     from_range 0 n (slice_index sorted k) h.0 in
     omega arith

@@ -1,5 +1,6 @@
 -- Rows that wait for the nearest pairs wait for all delays, and the other way round.
-use Rattle.std.proofs.Common.{◌≡◌, ℕ, zero, suc, ◌+◌, ◌-◌, ◌<◌, ◌≤◌, not, true, false, List, length, inl, inr, refl, sym, ◌∙◌, ap, subst, arith}
+use Rattle.std.proofs.Common.{◌≡◌, ℕ, zero, suc, ◌+◌, ◌-◌, ◌<◌, ◌≤◌, not, true, false, List, length, inl, inr, refl, sym, ◌∙◌, ap, subst, arith, ◌⊎◌, ◌&&◌, Bool}
+use Rattle.std.specs.Prelude.{IsTrue}
 use Rattle.std.specs.Prelude.{Contains}
 use Rattle.std.specs.List.{range_with_len}
 use Rattle.std.proofs.lemmas.Bool.{and_from, and_parts, false≢true, not-true, not_from_false, or_cases, or_left, or_right, false_from_ne_true}
@@ -10,95 +11,117 @@ use Rattle.iloc_timed.specs.declared.row.Row.{Row}
 use Rattle.iloc_timed.specs.Kinds.{kind}
 use Rattle.iloc_timed.specs.Latency.{latency}
 use Rattle.iloc_timed.specs.Rows.{issue_cycle}
+use Rattle.iloc_rules.specs.declared.memory_rule.MemoryRule.{MemoryRule}
+use Rattle.iloc_rules.specs.declared.memory_rule.MemoryRule.TheVariants.{Address, Book}
+use Rattle.iloc_rules.specs.Apart.{by_address}
+use Rattle.iloc_rules.specs.Rule.{counts_by}
+use Rattle.iloc_rules.specs.Steps.Ways.{GoesBy}
 use Rattle.iloc_rules.specs.declared.delay_pairs.Pair.{Pair}
-use Rattle.iloc_rules.specs.Delays.{IsDelayPair, delays, keeps_order, memory_delays, reads_stored, uses_result, when}
+use Rattle.iloc_rules.specs.Delays.{IsDelayPairWhere, delays_where, keeps_order_where, memory_delays_where, reads_stored, uses_result, when}
 use Rattle.iloc_rules.specs.Steps.Members.{In}
-use Rattle.iloc_sched.specs.Graph.Near.{IsNear, takes_over}
 use Rattle.iloc_rules.proofs.Basics.Maxima.{fold_max_each, fold_max_reached}
 use Rattle.iloc_rules.proofs.Basics.Members.{any_at, contains_from, from_append, from_filter, from_map, from_range, in_filter, in_from, in_left, in_map, in_range_from, in_right}
-use Rattle.iloc_rules.proofs.DelayPairs.DelayBounds.{delay_at_least, from_when, in_when}
-use Rattle.iloc_sched.proofs.KeptEdges.FarPairs.{near_or_by_way}
+use Rattle.iloc_rules.proofs.DelayPairs.DelayBounds.{delay_at_least_where, from_when, in_when}
+use Rattle.iloc_addresses.proofs.FarPairs as by_addresses
+use Rattle.iloc_sched.proofs.KeptEdges.FarPairs as by_the_book
 use Rattle.iloc_graph.specs.Laws.{NearestPairsImplyAll, WaitsForNearest}
-use Rattle.iloc_graph.specs.Nearest.{is_nearest, is_ordered, is_taken_over, longest_delay, nearest_pairs, nearest_to, pair_of, sources}
+use Rattle.iloc_graph.specs.Nearest.{is_nearest, is_ordered, is_taken_over, longest_delay, nearest_pairs, nearest_to, pair_of, sources, takes_over_by}
 use Rattle.iloc_graph.proofs.Lists.{any_none, from_flat_map, in_flat_map}
 
--- a delay by memory or outputs is between operations of which one comes after the other
-ordered : (lat : Latencies) (i j : Op) (d : ℕ) → Contains (memory_delays lat i j) d → is_ordered i j ≡ true
-ordered lat i j d there = grind (arith, from_append, in_from, or_left, from_when, or_right)
+-- by a rule of memory operation j uses the result of operation i, or comes after it with none between that takes its place
+abbrev pub IsNearUnder : MemoryRule → Latencies → List Op → ℕ → ℕ → ℕ → Type 0
+IsNearUnder rule lat ops i j d =
+    (IsTrue (uses_result (op_at ops i) (op_at ops j)) × (d ≡ latency lat (op_at ops i)))
+    ⊎ (Contains (memory_delays_where (counts_by rule ops i j) lat (op_at ops i) (op_at ops j)) d
+    × ((k : ℕ) → i < k → k < j → takes_over_by rule ops i j k ≡ false))
 
-module _ (lat : Latencies) (ops : List Op) (i j : ℕ) where
+pub near_or_by_way : (rule : MemoryRule) (lat : Latencies) (ops : List Op) (i j d : ℕ)
+    → IsDelayPairWhere (counts_by rule ops) lat ops i j d
+    → IsNearUnder rule lat ops i j d ⊎ GoesBy (counts_by rule ops) lat ops i j d
+near_or_by_way Book lat ops i j d pair = by_the_book.near_or_by_way lat ops i j d pair
+near_or_by_way Address lat ops i j d pair = by_addresses.near_or_by_way (by_address ops) lat ops i j d pair
+
+-- a delay by memory or outputs is between operations of which one comes after the other
+ordered : (counts : Bool) (lat : Latencies) (i j : Op) (d : ℕ) → Contains (memory_delays_where counts lat i j) d
+    → is_ordered counts i j ≡ true
+ordered counts lat i j d there = grind (arith, from_append, in_from, or_left, from_when, or_right)
+
+module _ (rule : MemoryRule) (lat : Latencies) (ops : List Op) (i j : ℕ) where
   abbrev a : Op
   a = op_at ops i
 
   abbrev b : Op
   b = op_at ops j
 
-  by_memory : is_taken_over ops i j ≡ false → (d : ℕ) → In (memory_delays lat a b) d
-      → (e : ℕ) × In (delays lat a b) e × IsNear lat ops i j e
+  abbrev counted : Bool
+  counted = counts_by rule ops i j
+
+  by_memory : is_taken_over rule ops i j ≡ false → (d : ℕ) → In (memory_delays_where counted lat a b) d
+      → (e : ℕ) × In (delays_where counted lat a b) e × IsNearUnder rule lat ops i j e
   by_memory free d there = (
     d,
-    in_right (when (uses_result a b) (latency lat a)) (memory_delays lat a b) d there,
+    in_right (when (uses_result a b) (latency lat a)) (memory_delays_where counted lat a b) d there,
     inr (
-      contains_from (memory_delays lat a b) d there,
-      λ k after before. false_from_ne_true (takes_over a (op_at ops k)) (λ t. false≢true (sym free
-          ∙ any_at (λ m. takes_over a (op_at ops m)) (range_with_len (i + 1) (j - (i + 1))) k
+      contains_from (memory_delays_where counted lat a b) d there,
+      λ k after before. false_from_ne_true (takes_over_by rule ops i j k) (λ t. false≢true (sym free
+          ∙ any_at (λ m. takes_over_by rule ops i j m) (range_with_len (i + 1) (j - (i + 1))) k
           (in_range_from (i + 1) (j - (i + 1)) k (omega arith) (omega arith)) t)),
     ),
   )
 
   -- the first of nearest operations delays the second, and near
-  pub delayed : is_nearest ops j i ≡ true → (d : ℕ) × In (delays lat a b) d × IsNear lat ops i j d
+  pub delayed : is_nearest rule ops j i ≡ true → (d : ℕ) × In (delays_where counted lat a b) d × IsNearUnder rule lat ops i j d
   delayed is = elim (or_cases (uses_result a b) _ is) [
     | inl result ↦ (
       latency lat a,
-      in_left (when (uses_result a b) (latency lat a)) (memory_delays lat a b) (latency lat a)
+      in_left (when (uses_result a b) (latency lat a)) (memory_delays_where counted lat a b) (latency lat a)
           (in_when (uses_result a b) (latency lat a) result),
       inl (result, refl),
     )
     | inr memory ↦
-        let both = and_parts (is_ordered a b) (not (is_taken_over ops i j)) memory in
-        elim (or_cases (reads_stored (kind a) (kind b)) (keeps_order (kind a) (kind b)) both.0) [
-          | inl reads ↦ by_memory (not-true (is_taken_over ops i j) both.1) (latency lat a)
-              (in_left (when (reads_stored (kind a) (kind b)) (latency lat a)) (when (keeps_order (kind a) (kind b)) 1)
-              (latency lat a) (in_when (reads_stored (kind a) (kind b)) (latency lat a) reads))
-          | inr keeps ↦ by_memory (not-true (is_taken_over ops i j) both.1) 1
-              (in_right (when (reads_stored (kind a) (kind b)) (latency lat a)) (when (keeps_order (kind a) (kind b)) 1) 1
-              (in_when (keeps_order (kind a) (kind b)) 1 keeps))
+        let both = and_parts (is_ordered counted a b) (not (is_taken_over rule ops i j)) memory in
+        elim (or_cases (counted && reads_stored (kind a) (kind b)) (keeps_order_where counted (kind a) (kind b)) both.0) [
+          | inl reads ↦ by_memory (not-true (is_taken_over rule ops i j) both.1) (latency lat a)
+              (in_left (when (counted && reads_stored (kind a) (kind b)) (latency lat a)) (when (keeps_order_where counted (kind a) (kind b)) 1)
+              (latency lat a) (in_when (counted && reads_stored (kind a) (kind b)) (latency lat a) reads))
+          | inr keeps ↦ by_memory (not-true (is_taken_over rule ops i j) both.1) 1
+              (in_right (when (counted && reads_stored (kind a) (kind b)) (latency lat a)) (when (keeps_order_where counted (kind a) (kind b)) 1) 1
+              (in_when (keeps_order_where counted (kind a) (kind b)) 1 keeps))
         ]
   ]
 
 -- the longest delay is one of them, where there is one
-longest_is : (lat : Latencies) (i j : Op) (d : ℕ) → In (delays lat i j) d
-    → Contains (delays lat i j) (longest_delay lat i j)
-longest_is lat i j d there = grind (arith, fold_max_reached, delay_at_least, contains_from, fold_max_each)
+longest_is : (counts : Bool) (lat : Latencies) (i j : Op) (d : ℕ) → In (delays_where counts lat i j) d
+    → Contains (delays_where counts lat i j) (longest_delay counts lat i j)
+longest_is counts lat i j d there = grind (arith, fold_max_reached, delay_at_least_where, contains_from, fold_max_each)
 
 -- a near pair is one of the nearest, but maybe for its delay
-pub nearest : (lat : Latencies) (ops : List Op) (i j d : ℕ) → IsNear lat ops i j d → is_nearest ops j i ≡ true
-nearest lat ops i j d near = grind (arith, or_left, or_right, and_from, ordered, not_from_false, any_none, from_range)
+pub nearest : (rule : MemoryRule) (lat : Latencies) (ops : List Op) (i j d : ℕ) → IsNearUnder rule lat ops i j d → is_nearest rule ops j i ≡ true
+nearest rule lat ops i j d near = grind (arith, or_left, or_right, and_from, ordered, not_from_false, any_none, from_range)
 
-pub in_nearest : (lat : Latencies) (ops : List Op) (i j : ℕ) → i < j → j < length ops → is_nearest ops j i ≡ true
-    → Contains (nearest_pairs lat ops) (pair_of lat ops j i)
-in_nearest lat ops i j before within is =
-    contains_from (nearest_pairs lat ops) (pair_of lat ops j i)
-    (in_flat_map (nearest_to lat ops) (range_with_len 0 (length ops)) j (pair_of lat ops j i)
+pub in_nearest : (rule : MemoryRule) (lat : Latencies) (ops : List Op) (i j : ℕ) → i < j → j < length ops → is_nearest rule ops j i ≡ true
+    → Contains (nearest_pairs rule lat ops) (pair_of rule lat ops j i)
+in_nearest rule lat ops i j before within is =
+    contains_from (nearest_pairs rule lat ops) (pair_of rule lat ops j i)
+    (in_flat_map (nearest_to rule lat ops) (range_with_len 0 (length ops)) j (pair_of rule lat ops j i)
     (in_range_from 0 (length ops) j (omega arith) (omega arith))
-    (in_map (pair_of lat ops j) (sources ops j) i
-    (in_filter (is_nearest ops j) (range_with_len 0 j) i (in_range_from 0 j i (omega arith) (omega arith)) is)))
+    (in_map (pair_of rule lat ops j) (sources rule ops j) i
+    (in_filter (is_nearest rule ops j) (range_with_len 0 j) i (in_range_from 0 j i (omega arith) (omega arith)) is)))
 
-module _ (lat : Latencies) (ops : List Op) (rows : List Row) (waits : WaitsForNearest lat ops rows) where
-  near_waits : (i j d : ℕ) → IsDelayPair lat ops i j d → IsNear lat ops i j d → issue_cycle rows i + d ≤ issue_cycle rows j
+module _ (rule : MemoryRule) (lat : Latencies) (ops : List Op) (rows : List Row) (waits : WaitsForNearest rule lat ops rows) where
+  near_waits : (i j d : ℕ) → IsDelayPairWhere (counts_by rule ops) lat ops i j d → IsNearUnder rule lat ops i j d → issue_cycle rows i + d ≤ issue_cycle rows j
   near_waits i j d pair near =
-      let most : d ≤ longest_delay lat (op_at ops i) (op_at ops j) =
-      fold_max_each 0 (delays lat (op_at ops i) (op_at ops j)) d
-      (in_from (delays lat (op_at ops i) (op_at ops j)) d pair.delay) in
-      let over : issue_cycle rows i + longest_delay lat (op_at ops i) (op_at ops j) ≤ issue_cycle rows j =
-      waits i j (longest_delay lat (op_at ops i) (op_at ops j))
-      (in_nearest lat ops i j pair.order pair.within (nearest lat ops i j d near)) in
+      let most : d ≤ longest_delay (counts_by rule ops i j) lat (op_at ops i) (op_at ops j) =
+      fold_max_each 0 (delays_where (counts_by rule ops i j) lat (op_at ops i) (op_at ops j)) d
+      (in_from (delays_where (counts_by rule ops i j) lat (op_at ops i) (op_at ops j)) d pair.delay) in
+      let over : issue_cycle rows i + longest_delay (counts_by rule ops i j) lat (op_at ops i) (op_at ops j) ≤ issue_cycle rows j =
+      waits i j (longest_delay (counts_by rule ops i j) lat (op_at ops i) (op_at ops j))
+      (in_nearest rule lat ops i j pair.order pair.within (nearest rule lat ops i j d near)) in
       omega arith
 
-  waits_within : (n i j d : ℕ) → j ≤ i + n → IsDelayPair lat ops i j d → issue_cycle rows i + d ≤ issue_cycle rows j
+  waits_within : (n i j d : ℕ) → j ≤ i + n → IsDelayPairWhere (counts_by rule ops) lat ops i j d → issue_cycle rows i + d ≤ issue_cycle rows j
   waits_within zero i j d few pair = let order : i < j = pair.order in absurd (omega arith)
-  waits_within (suc n) i j d few pair = elim (near_or_by_way lat ops i j d pair) [
+  waits_within (suc n) i j d few pair = elim (near_or_by_way rule lat ops i j d pair) [
     | inl near ↦ near_waits i j d pair near
     | inr by ↦
         let after : i < by.way = by.first.order in
@@ -112,31 +135,33 @@ module _ (lat : Latencies) (ops : List Op) (rows : List Row) (waits : WaitsForNe
   ]
 
 -- what is one of the nearest pairs is a delay pair
-pub nearest_is_delay : (lat : Latencies) (ops : List Op) (i j d : ℕ)
-    → Contains (nearest_pairs lat ops) (record { first = i; second = j; delay = d }) → IsDelayPair lat ops i j d
-nearest_is_delay lat ops i j d there =
+pub nearest_is_delay : (rule : MemoryRule) (lat : Latencies) (ops : List Op) (i j d : ℕ)
+    → Contains (nearest_pairs rule lat ops) (record { first = i; second = j; delay = d }) → IsDelayPairWhere (counts_by rule ops) lat ops i j d
+nearest_is_delay rule lat ops i j d there =
     let pair : Pair = record { first = i; second = j; delay = d } in
-    let to = from_flat_map (nearest_to lat ops) (range_with_len 0 (length ops)) pair (in_from (nearest_pairs lat ops) pair there) in
-    let from = from_map (pair_of lat ops to.0) (sources ops to.0) pair to.2 in
-    let held = from_filter (is_nearest ops to.0) (range_with_len 0 to.0) from.0 from.1 in
+    let to = from_flat_map (nearest_to rule lat ops) (range_with_len 0 (length ops)) pair (in_from (nearest_pairs rule lat ops) pair there) in
+    let from = from_map (pair_of rule lat ops to.0) (sources rule ops to.0) pair to.2 in
+    let held = from_filter (is_nearest rule ops to.0) (range_with_len 0 to.0) from.0 from.1 in
     let within : (0 ≤ to.0) × (to.0 < 0 + length ops) = from_range 0 (length ops) to.0 to.1 in
     let before : (0 ≤ from.0) × (from.0 < 0 + to.0) = from_range 0 to.0 from.0 held.0 in
     let first : from.0 ≡ i = ap (λ (p : Pair). p.first) from.2 in
     let second : to.0 ≡ j = ap (λ (p : Pair). p.second) from.2 in
-    let some = delayed lat ops from.0 to.0 held.1 in
-    let found : Contains (delays lat (op_at ops from.0) (op_at ops to.0)) (pair_of lat ops to.0 from.0).delay =
-    longest_is lat (op_at ops from.0) (op_at ops to.0) some.0 some.1 in
-    let same : (pair_of lat ops to.0 from.0).delay ≡ d = ap (λ (p : Pair). p.delay) from.2 in
+    let some = delayed rule lat ops from.0 to.0 held.1 in
+    let found : Contains (delays_where (counts_by rule ops from.0 to.0) lat (op_at ops from.0) (op_at ops to.0))
+    (pair_of rule lat ops to.0 from.0).delay =
+    longest_is (counts_by rule ops from.0 to.0) lat (op_at ops from.0) (op_at ops to.0) some.0 some.1 in
+    let same : (pair_of rule lat ops to.0 from.0).delay ≡ d = ap (λ (p : Pair). p.delay) from.2 in
     record {
       order = omega arith;
       within = omega arith;
-      delay = subst (λ b. Contains (delays lat (op_at ops i) (op_at ops b)) d) second
-          (subst (λ a. Contains (delays lat (op_at ops a) (op_at ops to.0)) d) first
-          (subst (λ e. Contains (delays lat (op_at ops from.0) (op_at ops to.0)) e) same found));
+      delay = subst (λ b. Contains (delays_where (counts_by rule ops i b) lat (op_at ops i) (op_at ops b)) d) second
+          (subst (λ a. Contains (delays_where (counts_by rule ops a to.0) lat (op_at ops a) (op_at ops to.0)) d) first
+          (subst (λ e. Contains (delays_where (counts_by rule ops from.0 to.0) lat (op_at ops from.0) (op_at ops to.0)) e) same
+          found));
     }
 
 pub nearest_imply_all : NearestPairsImplyAll
-nearest_imply_all lat ops rows = (
-  λ waits i j d pair. waits_within lat ops rows waits j i j d (omega arith) pair,
-  λ waits i j d there. waits i j d (nearest_is_delay lat ops i j d there),
+nearest_imply_all rule lat ops rows = (
+  λ waits i j d pair. waits_within rule lat ops rows waits j i j d (omega arith) pair,
+  λ waits i j d there. waits i j d (nearest_is_delay rule lat ops i j d there),
 )

@@ -9,9 +9,9 @@ use Rattle.iloc_timed.specs.declared.kind.Kind.TheVariants as K
 use Rattle.iloc_timed.specs.declared.latencies.Latencies.{Latencies}
 use Rattle.iloc_timed.specs.Kinds.{kind}
 use Rattle.iloc_rules.specs.declared.delay_pairs.Pair.{Pair}
-use Rattle.iloc_rules.specs.Priority.{priorities}
+use Rattle.iloc_rules.specs.declared.memory_rule.MemoryRule.{MemoryRule}
 use Rattle.iloc_rules.specs.Renaming.{renamed, without_nops}
-use Rattle.iloc_explain.specs.Chain.{IsLongestChain}
+use Rattle.iloc_explain.specs.Chain.{IsLongestChain, chains_by}
 use Rattle.iloc_graph.specs.Nearest.{nearest_pairs}
 
 -- The frame of all blocks. Of a strict graph an edge or a node that is named again gets what is said of it then.
@@ -84,10 +84,11 @@ chain_lines k (i ∷ chain) =
     indent ++ node k i ++ flat_map (λ j. codes " -> " ++ node k j) chain ++ marked
     ++ flat_map (λ j. indent ++ node k j ++ marked) (i ∷ chain)
 
--- The text draws block k: a node for each operation as it stands in the block, an edge for each nearest pair, and a longest
+-- The text draws block k by a rule of memory: a node for each operation as it stands in the block, an edge for each nearest pair, and a longest
 -- chain of delays.
-pub record IsCluster (lat : Latencies) (k : ℕ) (name : Option (List ℕ)) (block : List Op) (text : List ℕ) : Type 0 where
+pub record IsCluster (rule : MemoryRule) (lat : Latencies) (k : ℕ) (name : Option (List ℕ)) (block : List Op)
+    (text : List ℕ) : Type 0 where
   pub chain : List ℕ
-  pub longest : IsLongestChain lat (renamed block) chain
-  pub listed : text ≡ head_lines k name ++ node_lines k 0 (without_nops block) (priorities lat (renamed block))
-      ++ flat_map (edge_line k) (nearest_pairs lat (renamed block)) ++ chain_lines k chain ++ codes "    }\n"
+  pub longest : IsLongestChain rule lat (renamed block) chain
+  pub listed : text ≡ head_lines k name ++ node_lines k 0 (without_nops block) (chains_by rule lat (renamed block))
+      ++ flat_map (edge_line k) (nearest_pairs rule lat (renamed block)) ++ chain_lines k chain ++ codes "    }\n"

@@ -6,39 +6,51 @@ use Rattle.iloc_meaning.specs.Trace.{op_at}
 use Rattle.iloc_timed.specs.declared.latencies.Latencies.{Latencies}
 use Rattle.iloc_timed.specs.Kinds.{kind}
 use Rattle.iloc_rules.specs.declared.delay_pairs.Pair.{Pair}
-use Rattle.iloc_rules.specs.Delays.{uses_result, reads_stored, keeps_order, delays}
+use Rattle.iloc_rules.specs.declared.memory_rule.MemoryRule.{MemoryRule}
+use Rattle.iloc_rules.specs.declared.memory_rule.MemoryRule.TheVariants.{Book, Address}
+use Rattle.iloc_rules.specs.Apart.{by_address}
+use Rattle.iloc_rules.specs.Delays.{uses_result, reads_stored, keeps_order_where, delays_where}
+use Rattle.iloc_rules.specs.Rule.{counts_by}
+use Rattle.iloc_addresses.specs.Near.{takes_over as takes_over_where}
 use Rattle.iloc_sched.specs.Graph.Near.{takes_over}
 
--- whether an operation between i and j takes the place of i
-abbrev pub is_taken_over : List Op → ℕ → ℕ → Bool
-is_taken_over ops i j = list_any (λ k. takes_over (op_at ops i) (op_at ops k)) (range_with_len (i + 1) (j - (i + 1)))
+-- whether operation k takes the place of operation i for operation j, by a rule of memory
+abbrev pub takes_over_by : MemoryRule → List Op → ℕ → ℕ → ℕ → Bool
+takes_over_by Book ops i j k = takes_over (op_at ops i) (op_at ops k)
+takes_over_by Address ops i j k = takes_over_where (by_address ops) ops i j k
 
--- whether the second has to come after the first by memory or outputs
-abbrev pub is_ordered : Op → Op → Bool
-is_ordered i j = reads_stored (kind i) (kind j) || keeps_order (kind i) (kind j)
+-- whether an operation between i and j takes the place of i for j
+abbrev pub is_taken_over : MemoryRule → List Op → ℕ → ℕ → Bool
+is_taken_over rule ops i j = list_any (takes_over_by rule ops i j) (range_with_len (i + 1) (j - (i + 1)))
+
+-- whether the second has to come after the first by memory or outputs, given whether the two count
+abbrev pub is_ordered : Bool → Op → Op → Bool
+is_ordered counts i j = (counts && reads_stored (kind i) (kind j)) || keeps_order_where counts (kind i) (kind j)
 
 -- whether operation j uses the result of operation i, or comes after it by memory or outputs with none between that takes
 -- its place
-abbrev pub is_nearest : List Op → ℕ → ℕ → Bool
-is_nearest ops j i =
-    uses_result (op_at ops i) (op_at ops j) || (is_ordered (op_at ops i) (op_at ops j) && not (is_taken_over ops i j))
+abbrev pub is_nearest : MemoryRule → List Op → ℕ → ℕ → Bool
+is_nearest rule ops j i =
+    uses_result (op_at ops i) (op_at ops j)
+    || (is_ordered (counts_by rule ops i j) (op_at ops i) (op_at ops j) && not (is_taken_over rule ops i j))
 
 -- the earlier operations for which operation j waits so, by rising number
-abbrev pub sources : List Op → ℕ → List ℕ
-sources ops j = filter (is_nearest ops j) (range_with_len 0 j)
+abbrev pub sources : MemoryRule → List Op → ℕ → List ℕ
+sources rule ops j = filter (is_nearest rule ops j) (range_with_len 0 j)
 
--- the longest delay that the first puts on the second, 0 where there is none
-abbrev pub longest_delay : Latencies → Op → Op → ℕ
-longest_delay lat i j = fold max 0 (delays lat i j)
+-- the longest delay that the first puts on the second, given whether the two count, 0 where there is none
+abbrev pub longest_delay : Bool → Latencies → Op → Op → ℕ
+longest_delay counts lat i j = fold max 0 (delays_where counts lat i j)
 
 -- the pair from operation i to operation j with the longest delay
-abbrev pub pair_of : Latencies → List Op → ℕ → ℕ → Pair
-pair_of lat ops j i = record { first = i; second = j; delay = longest_delay lat (op_at ops i) (op_at ops j) }
+abbrev pub pair_of : MemoryRule → Latencies → List Op → ℕ → ℕ → Pair
+pair_of rule lat ops j i =
+    record { first = i; second = j; delay = longest_delay (counts_by rule ops i j) lat (op_at ops i) (op_at ops j) }
 
 -- the nearest pairs to operation j
-abbrev pub nearest_to : Latencies → List Op → ℕ → List Pair
-nearest_to lat ops j = map (pair_of lat ops j) (sources ops j)
+abbrev pub nearest_to : MemoryRule → Latencies → List Op → ℕ → List Pair
+nearest_to rule lat ops j = map (pair_of rule lat ops j) (sources rule ops j)
 
 -- all nearest pairs, in order of the later operation, then of the earlier one
-abbrev pub nearest_pairs : Latencies → List Op → List Pair
-nearest_pairs lat ops = flat_map (nearest_to lat ops) (range_with_len 0 (length ops))
+abbrev pub nearest_pairs : MemoryRule → Latencies → List Op → List Pair
+nearest_pairs rule lat ops = flat_map (nearest_to rule lat ops) (range_with_len 0 (length ops))

@@ -3,15 +3,16 @@ ghost use Rattle.std.specs.Prelude.{◌≡◌, ◌++◌, List, ℕ, length, OnOk
 ghost use Rattle.std.specs.Fmt.{decimal};
 ghost use Rattle.std.specs.List.{flat_map};
 ghost use Rattle.std.specs.Option.{option_copied};
+ghost use Rattle.iloc_rules.specs.declared.memory_rule.MemoryRule.TheVariants.{Book};
 ghost use Rattle.iloc_rules.specs.Renaming.{renamed, without_nops};
 ghost use Rattle.iloc_rules.specs.declared.memory_rule.MemoryRule.TheVariants.{Book};
 ghost use Rattle.iloc_graph.specs.Listing as listed;
 ghost use Rattle.iloc_graph.specs.Listing.{IsCluster};
 
 use crate::nearest::nearest_pairs;
-use iloc_explain::longest_chain;
+use iloc_explain::{Counted, longest_chain};
 use iloc_ops::{Block, Name, NoMemory, Op, push_number, push_op};
-use iloc_rules::Pair;
+use iloc_rules::{MemoryRule, Pair};
 use iloc_sched::Graph;
 use iloc_timed::Kind;
 use std::alloc::Global;
@@ -243,13 +244,15 @@ pub fn push_cluster(
     requires graph { graph.now.ops ≡ renamed block.now.ops }
     requires book { graph.now.rule ≡ Book }
     ensures { OnOk result ((cluster : List ℕ)
-        × IsCluster graph.now.latencies number block.now.name block.now.ops cluster
+        × IsCluster Book graph.now.latencies number block.now.name block.now.ops cluster
         × (text.new.items ≡ text.old.items ++ cluster)) }
 {
     let mut chains = Vec::new(alloc);
     graph.chains(&mut chains)?;
     let pairs = nearest_pairs(alloc, graph)?;
-    let chain = longest_chain(alloc, graph.ops(), graph.latencies(), &chains)?;
+    let (ops, latencies) = (graph.ops(), graph.latencies());
+    let counted = Counted::of(alloc, ops, MemoryRule::Book)?;
+    let chain = longest_chain(alloc, ops, latencies, &counted, &chains)?;
     push_head(text, number, block.name.as_ref())?;
     push_operations(text, number, block.ops.as_slice(), &chains)?;
     push_edges(text, number, &pairs)?;

@@ -1,7 +1,7 @@
 //! Laws of dependence graphs, as contracts of functions that do nothing.
 ghost use Rattle.iloc_graph.specs.Laws.{BlocksHaveOneCluster, ChainsRunAlongNearestPairs, NearestPairsImplyAll};
 
-/// Promise: Rows wait for the nearest pairs of some operations exactly if they wait for all delay pairs of them.
+/// Promise: By either rule of memory, rows wait for the nearest pairs of some operations exactly if they wait for all delay pairs of them.
 pub fn nearest_pairs_imply_all()
     ensures { NearestPairsImplyAll }
 {}

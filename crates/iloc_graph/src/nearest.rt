@@ -1,5 +1,5 @@
 //! The delay pairs that no others imply.
-ghost use Rattle.std.specs.Prelude.{ℕ, ◌≡◌, ◌++◌, ◌<◌, length, map, slice_index, IfOk, OnOk};
+ghost use Rattle.std.specs.Prelude.{ℕ, ◌≡◌, ◌++◌, ◌<◌, true, length, map, slice_index, IfOk, OnOk};
 ghost use Rattle.iloc_rules.specs.declared.memory_rule.MemoryRule.TheVariants.{Book};
 ghost use Rattle.iloc_graph.specs.Nearest as near;
 ghost use Rattle.iloc_graph.specs.Nearest.{pair_of};
@@ -14,7 +14,7 @@ use std::alloc::Global;
 fn sources(alloc: Global, graph: &Graph, j: usize) -> Result<Vec<usize>, NoMemory>
     requires book { graph.now.rule ≡ Book }
     requires there { j < length graph.now.ops }
-    ensures { IfOk result (λ found. found.items ≡ near.sources graph.now.ops j) }
+    ensures { IfOk result (λ found. found.items ≡ near.sources Book graph.now.ops j) }
 {
     let mut found = Vec::new(alloc);
     for edge in graph.edges_into(j) {
@@ -27,7 +27,7 @@ fn sources(alloc: Global, graph: &Graph, j: usize) -> Result<Vec<usize>, NoMemor
 
 /// The longest delay that the first operation puts on the second, 0 where there is none.
 fn longest_delay(first: &Op, second: &Op, latencies: &Latencies) -> u64
-    ensures { result ≡ near.longest_delay latencies.now first.now second.now }
+    ensures { result ≡ near.longest_delay true latencies.now first.now second.now }
 {
     let mut longest = 0;
     for delay in delays(first, second, latencies).as_slice() {
@@ -47,7 +47,7 @@ fn push_pairs(
     requires there { second < length ops.now }
     requires earlier { (k : ℕ) → k < length sources.now → slice_index sources.now k < second }
     ensures { OnOk result
-        (pairs.new.items ≡ pairs.old.items ++ map (pair_of latencies.now ops.now second) sources.now) }
+        (pairs.new.items ≡ pairs.old.items ++ map (pair_of Book latencies.now ops.now second) sources.now) }
 {
     for first in sources {
         pairs.push(Pair {
@@ -67,7 +67,7 @@ fn push_pairs(
 /// Promise: The pairs are just the nearest ones, each once, in that order.
 pub(crate) fn nearest_pairs(alloc: Global, graph: &Graph) -> Result<Vec<Pair>, NoMemory>
     requires { graph.now.rule ≡ Book }
-    ensures { IfOk result (λ pairs. pairs.items ≡ near.nearest_pairs graph.now.latencies graph.now.ops) }
+    ensures { IfOk result (λ pairs. pairs.items ≡ near.nearest_pairs Book graph.now.latencies graph.now.ops) }
 {
     let ops = graph.ops();
     let mut pairs = Vec::new(alloc);

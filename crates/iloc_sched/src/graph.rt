@@ -127,13 +127,13 @@ impl Graph {
 
     /// The kept edges, those into an operation side by side and before those into later ones.
     ///
-    /// Promise: Each is a delay pair of the operations by the graph's rule. By the book each near pair has an edge that is at
-    /// least as long.
+    /// Promise: Each is a delay pair of the operations by the graph's rule, and cycles of issue that wait for these wait for all.
     pub fn edges(&self) -> &[Edge]
         ensures each { All (λ (e : edge_value). IsDelayPairWhere (counts_by self.now.rule self.now.ops)
             self.now.latencies self.now.ops e.from e.to e.delay) result.now }
-        ensures all { self.now.rule ≡ Book → (i j d : ℕ) → IsNearPair self.now.latencies self.now.ops i j d
-            → Any (λ (e : edge_value). (e.from ≡ i) × (e.to ≡ j) × (d ≤ e.delay)) result.now }
+        ensures all { (cycle : ℕ → ℕ) → All (λ (e : edge_value). cycle e.from + e.delay ≤ cycle e.to) result.now
+            → (i j d : ℕ) → IsDelayPairWhere (counts_by self.now.rule self.now.ops) self.now.latencies self.now.ops i j d
+            → cycle i + d ≤ cycle j }
     {
         self.tables.edges.as_slice()
     }

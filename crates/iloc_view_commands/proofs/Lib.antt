@@ -1,1 +1,2 @@
 pub mod Listers
+pub mod KeptEdges

@@ -9,8 +9,7 @@ use Rattle.iloc_timed.specs.declared.latencies.Latencies.{Latencies}
 use Rattle.iloc_rules.specs.declared.heuristic.Heuristic.{Heuristic}
 use Rattle.iloc_rules.specs.declared.memory_rule.MemoryRule.{MemoryRule}
 use Rattle.iloc_rules.specs.declared.memory_rule.MemoryRule.TheVariants.{Book}
-use Rattle.iloc_rules.specs.Least.{least_of}
-use Rattle.iloc_bound.specs.Bound.{least_of_under}
+use Rattle.iloc_rules.specs.Least.{least, least_of}
 use Rattle.iloc_rules.specs.Greedy.{IsGreedyBy}
 use Rattle.iloc_rules.specs.Renaming.{numbering, renamed, without_nops}
 use Rattle.iloc_rules.proofs.PriorityValues.Named.{length-priorities_by}
@@ -37,7 +36,7 @@ use Rattle.iloc_driver.proofs.Entries.{parts_joined}
 -- what a call has appended is the entry, by the name and the words or cycles that it was handed
 
 module _ (request : Request) (k : ℕ) (b : Block) (text more : List ℕ) (name : Option (List ℕ)) (named : name ≡ b.name) where
-  pub graph_listed : (cluster : List ℕ) → IsCluster request.latencies k b.name b.ops cluster
+  pub graph_listed : (cluster : List ℕ) → IsCluster Book request.latencies k b.name b.ops cluster
       → more ≡ (text ++ opening_at k) ++ cluster → Adds (IsGraphEntry request k b) text more tt
   graph_listed cluster draws added = grind (arith, append_assoc)
 
@@ -96,21 +95,24 @@ entry_grown start head line whole said k b name empty opened named ended grown =
 
 -- what was said of the schedule that is greedy by the numbers found is the entry
 pub explain_is : (request : Request) (own : Option (List ℕ)) (k : ℕ) (b : Block) (s : Table) (g : GraphOf) (found said : List ℕ)
-    → g ≡ of_block Book request.latencies b.ops → found ≡ ranks request.priority g.latencies own g.ops
-    → IsGreedyBy found request.latencies b.ops s.ops s.rows → IsSaid (has request.flags Cycles) found request.latencies b.ops s said
+    (rule : MemoryRule) (bound : ℕ) → g ≡ of_block request.latencies b.ops
+    → found ≡ ranks request.priority g.latencies own g.ops → rule ≡ Book → bound ≡ least_of g.latencies g.ops
+    → IsGreedyBy found request.latencies b.ops s.ops s.rows
+    → IsSaid (has request.flags Cycles) found rule request.latencies bound b.ops s said
     → (entry : List ℕ) (cycles : ℕ) → entry ≡ block_head k b.name ++ codes "\n" ++ said
     → cycles ≡ cycles_of request.latencies s → IsExplainEntry request own k b entry cycles
-explain_is request own k b s g found said is ranked greedy says entry cycles listed counted =
+explain_is request own k b s g found said rule bound is ranked book least_is greedy says entry cycles listed counted =
     let ops : g.ops ≡ s.ops = ap (λ (x : GraphOf). x.ops) is ∙ sym greedy.lawful.names in
     let by : found ≡ ranks request.priority request.latencies own s.ops =
     ranked ∙ ap₂ (λ lat ops. ranks request.priority lat own ops) (ap (λ (x : GraphOf). x.latencies) is) ops in
+    let bounds : bound ≡ least request.latencies b.ops =
+    least_is ∙ ap₂ least_of (ap (λ (x : GraphOf). x.latencies) is) (ap (λ (x : GraphOf). x.ops) is) in
     let P : List ℕ → Type 0 = λ prios. IsGreedyBy prios request.latencies b.ops s.ops s.rows in
-    let Q : List ℕ → Type 0 = λ prios. IsSaid (has request.flags Cycles) prios request.latencies b.ops s said in
     record {
       schedule = s;
       greedy = the_greedy_by (ranks request.priority request.latencies own) request.latencies b s (subst P by greedy);
       text = said;
-      said = subst Q by says;
+      said = transport (λ i. IsSaid (has request.flags Cycles) (by i) (book i) request.latencies (bounds i) b.ops s said) says;
       listed = listed;
       counted = counted;
     }

@@ -4,6 +4,9 @@ use Rattle.iloc_ops.specs.declared.file.Block.{Block}
 use Rattle.iloc_ops.specs.declared.op.Op.{Op}
 use Rattle.iloc_timed.specs.Schedule.{Table}
 use Rattle.iloc_timed.specs.declared.latencies.Latencies.{Latencies}
+use Rattle.iloc_rules.specs.declared.memory_rule.MemoryRule.{MemoryRule}
+use Rattle.iloc_rules.specs.declared.memory_rule.MemoryRule.TheVariants.{Book}
+use Rattle.iloc_rules.specs.Least.{least}
 use Rattle.iloc_explain.specs.CycleLines.{ready_listing}
 use Rattle.iloc_explain.specs.Listing.{IsExplanation}
 use Rattle.iloc_args.specs.Flags.{has}
@@ -16,10 +19,11 @@ use Rattle.iloc_driver.specs.Priorities.{Own, own_of}
 use Rattle.iloc_listing.specs.Schedules.{IsTheGreedyBy, ranks}
 use Rattle.iloc_listing.specs.declared.text.ScheduleEntry.{ScheduleEntry}
 
--- what is said of a schedule of a block that these priorities rank: its ready list if it is asked for, else what explains it
-abbrev pub IsSaid : Bool → List ℕ → Latencies → List Op → Table → List ℕ → Type 0
-IsSaid true prios lat block s text = text ≡ ready_listing prios lat block s.ops s.rows
-IsSaid false prios lat block s text = IsExplanation prios lat block s.ops s.rows s.ops text
+-- what is said of a schedule of a block by a rule of memory that these priorities rank, with a lower bound of its cycles: its
+-- ready list if it is asked for, else what explains it
+abbrev pub IsSaid : Bool → List ℕ → MemoryRule → Latencies → ℕ → List Op → Table → List ℕ → Type 0
+IsSaid true prios rule lat bound block s text = text ≡ ready_listing prios rule lat bound s.ops s.rows
+IsSaid false prios rule lat bound block s text = IsExplanation prios rule lat bound block s.ops s.rows s.ops text
 
 -- The entry of block k: its number and its name, and what is said of its schedule, greedy by its own priorities if it has some or
 -- else as the request ranks, whose cycles are found.
@@ -28,8 +32,8 @@ pub record IsExplainEntry (request : Request) (own : Option (List ℕ)) (k : ℕ
   pub schedule : Table
   pub greedy : IsTheGreedyBy (ranks request.priority request.latencies own) request.latencies b schedule
   pub text : List ℕ
-  pub said : IsSaid (has request.flags Cycles) (ranks request.priority request.latencies own schedule.ops) request.latencies b.ops schedule
-      text
+  pub said : IsSaid (has request.flags Cycles) (ranks request.priority request.latencies own schedule.ops) Book request.latencies
+      (least request.latencies b.ops) b.ops schedule text
   pub listed : entry ≡ block_head k b.name ++ codes "\n" ++ text
   pub counted : cycles ≡ cycles_of request.latencies schedule
 

@@ -1,6 +1,7 @@
 -- `graph` draws which operation of each block waits for which, in the language of Graphviz.
 use Rattle.std.specs.Prelude.{◌≡◌, ℕ, ◌==◌, if◌then◌else◌, List, [], ◌∷◌, ◌++◌}
 use Rattle.iloc_ops.specs.declared.file.Block.{Block}
+use Rattle.iloc_rules.specs.declared.memory_rule.MemoryRule.TheVariants.{Book}
 use Rattle.iloc_graph.specs.Listing.{IsCluster, opening, closing}
 use Rattle.iloc_args.specs.declared.request.Request.{Request}
 use Rattle.iloc_driver.specs.Command.{Command, of_files}
@@ -13,7 +14,7 @@ opening_at k = if k == 1 then opening else []
 -- The entry of block k: its cluster. No more is found of it.
 pub record IsGraphEntry (request : Request) (k : ℕ) (b : Block) (entry : List ℕ) (found : Unit {0}) : Type 0 where
   pub cluster : List ℕ
-  pub draws : IsCluster request.latencies k b.name b.ops cluster
+  pub draws : IsCluster Book request.latencies k b.name b.ops cluster
   pub listed : entry ≡ opening_at k ++ cluster
 
 -- the end of the drawing, which has nothing in it where there is no block

@@ -1,21 +1,23 @@
 //! `explain`: why blocks' schedules take their cycles.
 ghost use Rattle.std.specs.Prelude.{ℕ, ◌≡◌, ◌≤◌, ◌++◌, List, length, option_copied, IfOk, OnOk};
 ghost use Rattle.iloc_ops.specs.Limits.{MAX_BLOCKS};
-ghost use Rattle.iloc_rules.specs.Heuristics.{priorities_by};
 ghost use Rattle.iloc_rules.specs.declared.memory_rule.MemoryRule.TheVariants.{Book};
+ghost use Rattle.iloc_rules.specs.Heuristics.{priorities_by};
+ghost use Rattle.iloc_rules.specs.Least.{least, least_of};
 ghost use Rattle.iloc_rules.specs.Renaming.{renamed};
 ghost use Rattle.iloc_explain.specs.Listing.{IsExplanation};
-ghost use Rattle.iloc_explain.specs.Measures.{AreMeasures};
+ghost use Rattle.iloc_explain.specs.Measures.{AreMeasures, ImplyAll};
+ghost use Rattle.iloc_explain.specs.Waiting.{WaitsForAll};
 ghost use Rattle.iloc_listing.specs.Schedules.{ranks as all_ranks};
 ghost use Rattle.iloc_view_commands.specs.Explain.{IsSaid};
 
 use iloc_args::{Flag, Request};
 use iloc_bound::least_of;
 use iloc_driver::FarmedLister;
-use iloc_explain::{Measures, push_explanation, push_ready_list};
+use iloc_explain::{Counted, Measures, push_explanation, push_ready_list};
 use iloc_listing::{EntryMaker, Listing, ScheduleEntry, count_of, push_block_head, with_total};
 use iloc_ops::{Block, Blocks, NoMemory, Op};
-use iloc_rules::{Heuristic, MemoryRule};
+use iloc_rules::{Heuristic, MemoryRule, Pair};
 use iloc_sched::{Graph, Scheduler};
 use iloc_timed::{Latencies, Schedule};
 use std::alloc::Global;
@@ -39,19 +41,40 @@ fn ranks_of(
     Ok(ranks)
 }
 
+/// The delay pairs that a graph keeps, from which all follow.
+fn kept_pairs(alloc: Global, graph: &Graph) -> Result<Vec<Pair>, NoMemory>
+    ensures { IfOk result (λ pairs. ImplyAll Book graph.now.latencies graph.now.ops pairs.items) }
+{
+    let mut pairs = Vec::new(alloc);
+    for edge in graph.edges() {
+        pairs.push(Pair {
+            first: edge.from as usize,
+            second: edge.to as usize,
+            delay: u64::from(edge.delay),
+        })?;
+    }
+    Ok(pairs)
+}
+
 /// What an explanation needs to know of the operations of a graph, which are ranked by these numbers.
 fn measure(alloc: Global, graph: &Graph, ranks: Vec<u32>) -> Result<Measures, NoMemory>
     requires book { graph.now.rule ≡ Book }
     requires ranked { length ranks.items ≡ length graph.now.ops }
     ensures ranks { IfOk result (λ measures. measures.ranks.items ≡ ranks.items) }
+    ensures rule { IfOk result (λ measures. measures.counted.rule ≡ Book) }
+    ensures least { IfOk result (λ measures. measures.least ≡ least_of graph.now.latencies graph.now.ops) }
     ensures measures { IfOk result (AreMeasures graph.now.latencies graph.now.ops) }
 {
+    let counted = Counted::of(alloc, graph.ops(), MemoryRule::Book)?;
+    let pairs = kept_pairs(alloc, graph)?;
     let mut chains = Vec::new(alloc);
     graph.chains(&mut chains)?;
     let mut starts = Vec::new(alloc);
     graph.starts(&mut starts)?;
     let least = least_of(alloc, graph)?;
     Ok(Measures {
+        counted,
+        pairs,
         ranks,
         chains,
         starts,
@@ -60,7 +83,7 @@ fn measure(alloc: Global, graph: &Graph, ranks: Vec<u32>) -> Result<Measures, No
 }
 
 /// Appends what explains a schedule of the block of this graph, whose operations are the block's renamed ones, ranked by a
-/// heuristic. The lines show each operation as it is `issued`.
+/// heuristic, and which waits for all delays by the book. The lines show each operation as it is `issued`.
 ///
 /// Promise: What is appended is a text that explains the schedule.
 pub fn explain_by_graph(
@@ -75,10 +98,11 @@ pub fn explain_by_graph(
     requires graph { graph.now.ops ≡ renamed block.now.ops }
     requires book { graph.now.rule ≡ Book }
     requires names { schedule.now.ops ≡ renamed block.now.ops }
+    requires waits { WaitsForAll Book graph.now.latencies schedule.now.ops schedule.now.rows }
     requires issued { length issued.now ≡ length schedule.now.ops }
     ensures { OnOk result ((entry : List ℕ)
-        × IsExplanation (priorities_by heuristic graph.now.latencies graph.now.ops) graph.now.latencies block.now.ops
-        schedule.now.ops schedule.now.rows issued.now entry
+        × IsExplanation (priorities_by heuristic graph.now.latencies graph.now.ops) Book graph.now.latencies
+        (least graph.now.latencies block.now.ops) block.now.ops schedule.now.ops schedule.now.rows issued.now entry
         × (text.new.items ≡ text.old.items ++ entry)) }
 {
     let ranks = ranks_of(alloc, graph, None, heuristic)?;
@@ -99,12 +123,14 @@ fn push_said(
 ) -> Result<(), NoMemory>
     requires names { schedule.now.ops ≡ renamed block.now.ops }
     requires measured { AreMeasures latencies.now schedule.now.ops measures.now }
+    requires waits { WaitsForAll measures.now.counted.rule latencies.now schedule.now.ops schedule.now.rows }
     ensures { OnOk result ((said : List ℕ)
-        × IsSaid by_cycle measures.now.ranks.items latencies.now block.now.ops schedule.now said
+        × IsSaid by_cycle measures.now.ranks.items measures.now.counted.rule latencies.now measures.now.least block.now.ops
+        schedule.now said
         × (text.new.items ≡ text.old.items ++ said)) }
 {
     if by_cycle {
-        return push_ready_list(alloc, text, block, latencies, measures, schedule);
+        return push_ready_list(alloc, text, latencies, measures, schedule);
     }
     let issued = schedule.ops();
     push_explanation(alloc, text, block, latencies, measures, schedule, issued)

@@ -10,6 +10,7 @@ use Rattle.iloc_ops.specs.declared.op.Op.{Op}
 use Rattle.iloc_timed.specs.declared.latencies.Latencies.{Latencies}
 use Rattle.iloc_timed.specs.declared.row.Row.{Row}
 use Rattle.iloc_timed.specs.Rows.{IsTable, holds}
+use Rattle.iloc_rules.specs.declared.memory_rule.MemoryRule.{MemoryRule}
 use Rattle.iloc_rules.specs.Steps.Members.{In}
 use Rattle.iloc_explain.specs.declared.explanation.Explained.{Explained}
 use Rattle.iloc_explain.specs.declared.ready_list.ReadyList.{ReadyList}
@@ -97,8 +98,9 @@ pub record IsRowAt (es : List Explained) (row : Row) (c : ℕ) : Type 0 where
   pub only : (j : ℕ) (own : Explained) → slice_get es j ≡ Some own → holds row j ≡ true → own.cycle ≡ c
 
 -- at cycle c these are explained, and what is ready then is known
-pub record IsKnown (prios : List ℕ) (lat : Latencies) (ops : List Op) (rows : List Row) (c : ℕ) (list : ReadyList) : Type 0 where
+pub record IsKnown (prios : List ℕ) (rule : MemoryRule) (lat : Latencies) (ops : List Op) (rows : List Row) (c : ℕ)
+    (list : ReadyList) : Type 0 where
   pub explained : List Explained
   pub table : IsTable ops rows
-  pub are : AreExplained prios lat ops rows explained
+  pub are : AreExplained prios rule lat ops rows explained
   pub is : IsReadyList explained c list

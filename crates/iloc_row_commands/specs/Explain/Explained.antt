@@ -9,7 +9,9 @@ use Rattle.iloc_timed.specs.Schedule.{Table, IsFirstBadRow}
 use Rattle.iloc_rows.specs.declared.proposal.Proposed.{Proposed}
 use Rattle.iloc_rows.specs.declared.proposal.unread.Unread.{Unread}
 use Rattle.iloc_rules.specs.declared.heuristic.Heuristic.{Heuristic}
+use Rattle.iloc_rules.specs.declared.memory_rule.MemoryRule.TheVariants.{Book}
 use Rattle.iloc_rules.specs.Heuristics.{priorities_by}
+use Rattle.iloc_rules.specs.Least.{least}
 use Rattle.iloc_rules.specs.Renaming.{without_nops}
 use Rattle.iloc_validation.specs.ByTheBook.{IsByTheBook, IssueTheSame}
 use Rattle.iloc_validation.specs.OwnRows.{AreOwnRows}
@@ -30,7 +32,8 @@ pub record AreExplainedBy (heuristic : Heuristic) (lat : Latencies) (block ops :
   pub issued : List Op
   pub are_own : AreOwnRows lat block ops rows own issued
   pub explanation : List ℕ
-  pub explains : IsExplanation (priorities_by heuristic lat own.ops) lat block own.ops own.rows issued explanation
+  pub explains : IsExplanation (priorities_by heuristic lat own.ops) Book lat (least lat block) block own.ops own.rows issued
+      explanation
   pub listed : text
       ≡ explanation ++ departure_line issued (departure (priorities_by heuristic lat own.ops) lat own.ops own.rows)
 

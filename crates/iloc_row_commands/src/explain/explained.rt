@@ -2,10 +2,13 @@
 ghost use Rattle.std.specs.Prelude.{ℕ, ◌≡◌, ◌≤◌, ◌<◌, ◌++◌, true, List, length, IfOk, OnOk};
 ghost use Rattle.iloc_timed.specs.Rows.{IsTable};
 ghost use Rattle.iloc_rules.specs.Greedy.{IsGreedyBy};
+ghost use Rattle.iloc_rules.specs.declared.memory_rule.MemoryRule.TheVariants.{Book};
 ghost use Rattle.iloc_rules.specs.Heuristics.{priorities_by};
+ghost use Rattle.iloc_rules.specs.Least.{least};
 ghost use Rattle.iloc_rules.specs.Renaming.{renamed};
 ghost use Rattle.iloc_rules.specs.declared.memory_rule.MemoryRule.TheVariants.{Book};
 ghost use Rattle.iloc_explain.specs.Listing.{IsExplanation};
+ghost use Rattle.iloc_explain.specs.Waiting.{WaitsForAll};
 ghost use Rattle.iloc_sched.specs.Graph.GraphOf.{of_block};
 ghost use Rattle.iloc_validation.specs.ByTheBook.{IssueTheSame};
 ghost use Rattle.iloc_verdict.specs.Entry.Listing.{bad_row};
@@ -88,10 +91,11 @@ fn push_own(
     own: &OwnRows,
 ) -> Result<(), NoMemory>
     requires names { own.now.schedule.ops ≡ renamed known.now.block.now.ops }
+    requires waits { WaitsForAll Book known.now.latencies.now own.now.schedule.ops own.now.schedule.rows }
     requires issued { length own.now.issued.items ≡ length own.now.schedule.ops }
     ensures { OnOk result ((explanation : List ℕ)
-        × IsExplanation (priorities_by known.now.heuristic known.now.latencies.now own.now.schedule.ops)
-        known.now.latencies.now known.now.block.now.ops own.now.schedule.ops own.now.schedule.rows own.now.issued.items
+        × IsExplanation (priorities_by known.now.heuristic known.now.latencies.now own.now.schedule.ops) Book
+        known.now.latencies.now (least known.now.latencies.now known.now.block.now.ops) known.now.block.now.ops own.now.schedule.ops own.now.schedule.rows own.now.issued.items
         explanation
         × (text.new.items ≡ text.old.items ++ explanation ++ departure_line own.now.issued.items
         (departure (priorities_by known.now.heuristic known.now.latencies.now own.now.schedule.ops) known.now.latencies.now

@@ -1,12 +1,28 @@
--- Each near pair has its edge, and the edges into an operation are side by side; for `Graph::edges` and `edges_into`.
-use Rattle.iloc_sched.proofs.Common.{◌≡◌, ℕ, ◌+◌, ◌-◌, ◌<◌, ◌≤◌, List, length, get_or, take, drop, All, Any, sym, ap, ◌∙◌, subst, arith, length-drop, length-take, get_or-drop, get_or-take, get_or_default, Op, Latencies, IsNearPair, Graph, IsGraph, IsGraphOf, edge_at, graph_of, Edge, Edges}
+-- Who waits for the kept edges waits for all delays, and the edges into an operation are side by side; for `Graph::edges` and
+-- `edges_into`.
+use Rattle.iloc_sched.proofs.Common.{◌≡◌, ℕ, zero, suc, ◌+◌, ◌-◌, ◌<◌, ◌≤◌, List, length, get_or, take, drop, All, Any, sym, ap, ◌∙◌, subst, inl, inr, arith, length-drop, length-take, get_or-drop, get_or-take, get_or_default, Op, Latencies, Counts, IsDelayPairWhere, IsNearPair, Graph, IsGraph, IsGraphOf, IsGraphWhere, edge_at, no_edge, graph_of, Edge, Edges}
 
-pub all_edges : (lat : Latencies) (ops : List Op) (e : Edges) → IsGraphOf lat ops (graph_of e) → (i j d : ℕ)
-    → IsNearPair lat ops i j d
-    → Any (λ (edge : Edge). (edge.from ≡ i) × (edge.to ≡ j) × (d ≤ edge.delay)) e.edges.items
-all_edges lat ops e kept i j d near =
-    let found = kept.all i j d (record { order = near.order; within = near.within; delay = near.delay }) near.near in
-    (found.0, edge_at e found.0, found.1, get_or_default e.edges.items found.0 _ _ found.1, (found.3, found.2, found.4))
+module _ (counts : Counts) (lat : Latencies) (ops : List Op) (e : Edges) (kept : IsGraphWhere counts lat ops (graph_of e))
+    (cycle : ℕ → ℕ) (waits : All (λ (edge : Edge). cycle edge.from + edge.delay ≤ cycle edge.to) e.edges.items) where
+  waits_within : (n i j d : ℕ) → j ≤ i + n → IsDelayPairWhere counts lat ops i j d → cycle i + d ≤ cycle j
+  waits_within zero i j d few pair = let order : i < j = pair.order in absurd (omega arith)
+  waits_within (suc n) i j d few pair = elim (kept.ways i j d pair) [
+    | inl (x, below, to, from, long) ↦
+        let over : cycle (edge_at e x).from + (edge_at e x).delay ≤ cycle (edge_at e x).to = waits x no_edge below in
+        let first : cycle (edge_at e x).from ≡ cycle i = ap cycle from in
+        let second : cycle (edge_at e x).to ≡ cycle j = ap cycle to in
+        omega arith
+    | inr by ↦
+        let after : i < by.way = by.first.order in
+        let before : by.way < j = by.second.order in
+        let first : cycle i + by.first_delay ≤ cycle by.way = waits_within n i by.way by.first_delay (omega arith) by.first in
+        let second : cycle by.way + by.second_delay ≤ cycle j = waits_within n by.way j by.second_delay (omega arith) by.second in
+        let enough : d ≤ by.first_delay + by.second_delay = by.enough in
+        omega arith
+  ]
+
+  pub waits_for_all : (i j d : ℕ) → IsDelayPairWhere counts lat ops i j d → cycle i + d ≤ cycle j
+  waits_for_all i j d pair = waits_within j i j d (omega arith) pair
 
 -- what holds of each edge holds of those into operation j, of each with where it leads
 module _ (e : Edges) (is : IsGraph (graph_of e)) (Is : ℕ → ℕ → ℕ → Type 0)

@@ -4,6 +4,7 @@ use Rattle.iloc_explain.proofs.waited.waits_for.Goals as goal
 
 pub returns-then-i-j : goal.returns-then-i-j
 returns-then-i-j c =
-    waits_is c.args.latencies.now c.args.ops.now c.args.i c.args.j c.args.delay _ _ _ c.if-i-j.true
+    waits_is c.args.counted.now.rule c.args.latencies.now c.args.ops.now c.args.i c.args.j c.args.delay _ _ _ _ c.if-i-j.true
+    c.counts.ensures
     (get_or_default c.args.ops.now c.args.i _ Nop c.requires.first)
-    (get_or_default c.args.ops.now c.args.j _ Nop c.requires.second) c.puts_delay.ensures
+    (get_or_default c.args.ops.now c.args.j _ Nop c.requires.second) c.puts_delay_where.ensures

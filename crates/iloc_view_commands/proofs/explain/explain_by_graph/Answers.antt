@@ -1,5 +1,6 @@
-use Rattle.std.proofs.Common.{ap, length, subst, sym, ◌∙◌}
+use Rattle.std.proofs.Common.{ap, ap₂, length, subst, sym, ◌∙◌}
 use Rattle.std.proofs.lemmas.Result.{on_ok_weaker}
+use Rattle.iloc_rules.specs.Least.{least_of}
 use Rattle.iloc_rules.proofs.PriorityValues.Named.{length-priorities_by}
 use Rattle.iloc_explain.specs.Measures.{AreMeasures}
 use Rattle.iloc_view_commands.proofs.explain.explain_by_graph.Goals as goal
@@ -16,8 +17,15 @@ push_explanation-requires-clause-measured c =
     (subst (λ lat. AreMeasures lat c.args.graph.now.ops measures) (sym c.latencies-latencies.ensures)
     c.in_ok-measures.ensures.measures)
 
+pub push_explanation-requires-clause-waits : goal.push_explanation-requires-clause-waits
+push_explanation-requires-clause-waits c = rw (c.latencies-latencies.ensures, c.in_ok-measures.ensures.rule) c.requires.waits
+
 pub returns : goal.returns
 returns c =
     let by = c.in_ok-measures.ensures.ranks ∙ c.in_ok-ranks.ensures in
-    on_ok_weaker c.push_explanation.result (λ told. (told.0, rw (c.latencies-latencies.ensures, by) at told.1, told.2))
-    c.push_explanation.ensures
+    let bound = c.in_ok-measures.ensures.least ∙ ap (least_of c.args.graph.now.latencies) c.requires.graph in
+    on_ok_weaker c.push_explanation.result (λ told. (
+      told.0,
+      rw (c.latencies-latencies.ensures, by, c.in_ok-measures.ensures.rule, bound) at told.1,
+      told.2,
+    )) c.push_explanation.ensures

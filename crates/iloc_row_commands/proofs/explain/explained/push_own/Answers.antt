@@ -10,6 +10,12 @@ explain_by_graph-requires-clause-graph c = ap (λ (g : GraphOf). g.ops) c.args.k
 pub explain_by_graph-requires-clause-book : goal.explain_by_graph-requires-clause-book
 explain_by_graph-requires-clause-book c = ap (λ (g : GraphOf). g.rule) c.args.known.now.drawn
 
+pub explain_by_graph-requires-clause-waits : goal.explain_by_graph-requires-clause-waits
+explain_by_graph-requires-clause-waits c =
+    let timed : c.args.known.now.graph.now.latencies ≡ c.args.known.now.latencies.now =
+    ap (λ (g : GraphOf). g.latencies) c.args.known.now.drawn in
+    rw timed c.requires.waits
+
 pub departure_of-requires : goal.departure_of-requires
 departure_of-requires c = c.requires.names ∙ sym c.args.known.now.greedy.lawful.names
 

@@ -1,4 +1,5 @@
 use Rattle.std.proofs.Common.{◌∙◌, append_assoc, inl, inr, refl}
+use Rattle.iloc_validation.proofs.Outcomes.{own_lawful}
 use Rattle.iloc_verdict.specs.Entry.Reasons.{reasons_told}
 use Rattle.iloc_row_commands.specs.Explain.Explained.{not_lawful}
 use Rattle.iloc_row_commands.proofs.explain.explained.push_said.Goals as goal
@@ -10,6 +11,13 @@ pub push_own-requires-clause-names : goal.push_own-requires-clause-names
 push_own-requires-clause-names c =
     (c.in_ok-own-in-Lawful.ensures c.args.known.now.latencies.now
     (rw c.in-Lawful.is at c.in_ok-pairing.ensures.right)).names
+
+pub push_own-requires-clause-waits : goal.push_own-requires-clause-waits
+push_own-requires-clause-waits c =
+    let are = c.in_ok-own-in-Lawful.ensures c.args.known.now.latencies.now (rw c.in-Lawful.is at c.in_ok-pairing.ensures.right) in
+    rw (are.names, are.slots)
+    (own_lawful c.args.known.now.latencies.now c.args.known.now.block.now.ops c.args.theirs.now.ops c.args.theirs.now.rows
+    (are.origin, are.partner, are.under)).waits
 
 pub push_own-requires-clause-issued : goal.push_own-requires-clause-issued
 push_own-requires-clause-issued c =

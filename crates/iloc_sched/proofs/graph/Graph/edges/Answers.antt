@@ -1,6 +1,6 @@
 use Rattle.iloc_sched.proofs.Common.{All, sym, subst, All-from_get_or, IsDelayPairWhere, counts_by, no_edge, Edge}
-use Rattle.iloc_sched.proofs.KeptEdges.SoundGraphs.{book_graph, ruled_graph}
-use Rattle.iloc_sched.proofs.KeptEdges.EdgesInto.{all_edges}
+use Rattle.iloc_sched.proofs.KeptEdges.SoundGraphs.{ruled_graph}
+use Rattle.iloc_sched.proofs.KeptEdges.EdgesInto.{waits_for_all}
 use Rattle.iloc_sched.proofs.graph.Graph.edges.Goals as goal
 
 pub returns-clause-each : goal.returns-clause-each
@@ -14,7 +14,8 @@ returns-clause-each c =
     t.edges.edges.items no_edge kept.sound)
 
 pub returns-clause-all : goal.returns-clause-all
-returns-clause-all c = λ book.
+returns-clause-all c = λ cycle waits.
     let v = c.args.self.now in
     let t = c.self.inside.tables in
-    rw c.as_slice.ensures (all_edges v.latencies v.ops t.edges (book_graph t v c.self.invariant.sound c.self.view_is book))
+    waits_for_all (counts_by v.rule v.ops) v.latencies v.ops t.edges (ruled_graph t v c.self.invariant.sound c.self.view_is)
+    cycle (rw c.as_slice.ensures at waits)

@@ -31,6 +31,12 @@ push_said-requires-clause-measured c =
     (c.in_ok-schedule.ensures Book lat c.args.block.now.ops c.in_ok-refill.ensures.graph).greedy.lawful.names
     c.in_ok-measures.ensures.measures
 
+pub push_said-requires-clause-waits : goal.push_said-requires-clause-waits
+push_said-requires-clause-waits c =
+    let lat = c.args.request.now.latencies in
+    rw c.in_ok-measures.ensures.rule
+    (c.in_ok-schedule.ensures lat c.args.block.now.ops c.in_ok-refill.ensures.graph).greedy.lawful.waits
+
 pub returns : goal.returns
 returns c =
     let request = c.args.request.now in
@@ -38,9 +44,9 @@ returns c =
     let said = c.in_ok-push_said.ensures in
     let entry = c.in_ok-entry.entry in
     explain_is request (option_copied c.args.own) c.args.number block c.in_ok-schedule.schedule _
-    c.in_ok-measures.measures.ranks.items said.0 c.in_ok-refill.ensures.graph
-    (c.in_ok-measures.ensures.ranks ∙ c.in_ok-ranks.ensures)
-    (rw c.deref.ensures.value at (c.in_ok-schedule.ensures Book request.latencies block.ops c.in_ok-refill.ensures.graph).greedy)
+    c.in_ok-measures.measures.ranks.items said.0 _ _ c.in_ok-refill.ensures.graph
+    (c.in_ok-measures.ensures.ranks ∙ c.in_ok-ranks.ensures) c.in_ok-measures.ensures.rule c.in_ok-measures.ensures.least
+    (rw c.deref.ensures.value at (c.in_ok-schedule.ensures request.latencies block.ops c.in_ok-refill.ensures.graph).greedy)
     (rw c.has-by_cycle.ensures at said.1) entry.text entry.cycles
     (c.in_ok-entry.ensures.text
     ∙ (c.deref-2.ensures.value
