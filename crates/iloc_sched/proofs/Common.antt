@@ -46,7 +46,7 @@ pub use Rattle.iloc_rules.specs.declared.memory_rule.MemoryRule.{MemoryRule}
 pub use Rattle.iloc_rules.specs.declared.memory_rule.MemoryRule.TheVariants.{Address, Book}
 pub use Rattle.iloc_addresses.specs.Dependences.{AreSources}
 pub use Rattle.iloc_sched.specs.Graph.GraphOf.{GraphOf}
-pub use Rattle.iloc_sched.specs.Graph.Near.{IsNear, IsNearPair, NoneBetween, takes_over}
+pub use Rattle.iloc_sched.specs.Graph.Near.{IsNear, IsNearBy, IsNearPair, IsNearPairBy, NoneBetween, takes_over}
 pub use Rattle.iloc_sched.specs.Steps.Chains.{ArePrioritiesFrom, AreRaised, AreStartsBefore, IsBefore, IsFrom, IsRaised}
 pub use Rattle.iloc_sched.specs.Steps.Cycle.Calendar.{HasRoom, HasSameSets, IsFirst, IsWithin, KeepsRoom, Puts, Releases, has, offers}
 pub use Rattle.iloc_sched.specs.Steps.Cycle.Classes.{class_of, excludes, place_of}
@@ -58,7 +58,7 @@ pub use Rattle.iloc_sched.specs.Steps.Cycle.RankSets.{AddsBit, HoldsBits, IsFirs
 pub use Rattle.iloc_sched.specs.Steps.Cycle.SoFar.{IsBest, IsCalendar, IsOpen, IsPlan, IsQueued, IsRanked, IsSoFar, IsUnderWay, Issues, IssuesAny, KeepsOut, class_at, counts_of, needs_zero_choice, number_of, rank_of, row_with, slot_count, waiting_count}
 pub use Rattle.iloc_sched.specs.Steps.Edges.ByAddress.{CoversSources, delay_after}
 pub use Rattle.iloc_sched.specs.Steps.Edges.Lasts.{IsLasts, IsNext, NoStoreBetween, NotesDefiner, NotesKind}
-pub use Rattle.iloc_sched.specs.Steps.Edges.PartialGraph.{AddsFrom, CoversMemory, CoversUse, CoversUses, Grows, HasCapacity, HasEdge, HasOneMore, IsNearBy, IsNearPairBy, IsPartialGraph, KeepsFrame}
+pub use Rattle.iloc_sched.specs.Steps.Edges.PartialGraph.{AddsFrom, CoversMemory, CoversUse, CoversUses, Grows, HasCapacity, HasEdge, HasOneMore, IsPartialGraph, KeepsFrame}
 pub use Rattle.iloc_sched.specs.Steps.Edges.SoundGraph.{IsByTheBook, IsOfBlock, IsSound}
 pub use Rattle.iloc_sched.specs.Steps.Graph.{Graph, IsGraph, IsGraphOf, IsGraphWhere, IsLast, LeadsTo}
 pub use Rattle.iloc_sched.specs.Steps.Ranking.Dependents.{AreMarked, IsMarked, Reaches}

@@ -374,7 +374,7 @@ impl Edges {
         requires few { length operations.now.ops.now ≤ MAX_OPS }
         requires renamed { IsRenamed operations.now.ops.now }
         requires own { operations.now.latencies.now ≡ map (latency latencies.now) operations.now.ops.now }
-        ensures { OnOk result (IsGraphOf latencies.now operations.now.ops.now (graph_of self.new)) }
+        ensures { OnOk result (IsGraphOf Book latencies.now operations.now.ops.now (graph_of self.new)) }
     {
         self.clear(operations.ops.len())?;
         lasts.clear(registers);

@@ -10,7 +10,7 @@ ghost use Rattle.iloc_rules.specs.Rule.{counts_by};
 ghost use Rattle.iloc_rules.specs.Starts.{starts_where};
 ghost use Rattle.iloc_rules.specs.declared.memory_rule.MemoryRule.TheVariants.{Book};
 ghost use Rattle.iloc_sched.specs.Graph.GraphOf.{GraphOf, of_block};
-ghost use Rattle.iloc_sched.specs.Graph.Near.{IsNearPair};
+ghost use Rattle.iloc_sched.specs.Graph.Near.{IsNearPairBy};
 ghost use Rattle.iloc_sched.specs.declared.edges.Edge.{Edge as edge_value};
 ghost use Rattle.iloc_sched.specs.Steps.Edges.SoundGraph.{IsSound};
 
@@ -140,15 +140,12 @@ impl Graph {
 
     /// The kept edges into operation j.
     ///
-    /// Promise: Each is a delay pair by the graph's rule. By the book each is a near pair, and each near pair has an edge that is
-    /// at least as long.
+    /// Promise: Each is a near pair by the graph's rule, and each near pair has an edge that is at least as long.
     pub fn edges_into(&self, j: usize) -> &[Edge]
         requires { j < length self.now.ops }
-        ensures each { All (λ (e : edge_value). (e.to ≡ j) × IsDelayPairWhere (counts_by self.now.rule self.now.ops)
-            self.now.latencies self.now.ops e.from j e.delay) result.now }
-        ensures near { self.now.rule ≡ Book → All (λ (e : edge_value). (e.to ≡ j)
-            × IsNearPair self.now.latencies self.now.ops e.from j e.delay) result.now }
-        ensures all { self.now.rule ≡ Book → (i d : ℕ) → IsNearPair self.now.latencies self.now.ops i j d
+        ensures near { All (λ (e : edge_value). (e.to ≡ j)
+            × IsNearPairBy self.now.rule self.now.latencies self.now.ops e.from j e.delay) result.now }
+        ensures all { (i d : ℕ) → IsNearPairBy self.now.rule self.now.latencies self.now.ops i j d
             → Any (λ (e : edge_value). (e.from ≡ i) × (d ≤ e.delay)) result.now }
     {
         let edges = &self.tables.edges;

@@ -1,6 +1,6 @@
 -- Who waits for the kept edges waits for all delays, and the edges into an operation are side by side; for `Graph::edges` and
 -- `edges_into`.
-use Rattle.iloc_sched.proofs.Common.{◌≡◌, ℕ, zero, suc, ◌+◌, ◌-◌, ◌<◌, ◌≤◌, List, length, get_or, take, drop, All, Any, sym, ap, ◌∙◌, subst, inl, inr, arith, length-drop, length-take, get_or-drop, get_or-take, get_or_default, Op, Latencies, Counts, IsDelayPairWhere, IsNearPair, Graph, IsGraph, IsGraphOf, IsGraphWhere, edge_at, no_edge, graph_of, Edge, Edges}
+use Rattle.iloc_sched.proofs.Common.{◌≡◌, ℕ, zero, suc, ◌+◌, ◌-◌, ◌<◌, ◌≤◌, List, length, get_or, take, drop, All, Any, sym, ap, ◌∙◌, subst, inl, inr, arith, length-drop, length-take, get_or-drop, get_or-take, get_or_default, Op, Latencies, Counts, IsDelayPairWhere, MemoryRule, IsNearPairBy, Graph, IsGraph, IsGraphOf, IsGraphWhere, edge_at, no_edge, graph_of, Edge, Edges}
 
 module _ (counts : Counts) (lat : Latencies) (ops : List Op) (e : Edges) (kept : IsGraphWhere counts lat ops (graph_of e))
     (cycle : ℕ → ℕ) (waits : All (λ (edge : Edge). cycle edge.from + edge.delay ≤ cycle edge.to) e.edges.items) where
@@ -77,11 +77,11 @@ module _ (e : Edges) (is : IsGraph (graph_of e)) (Is : ℕ → ℕ → ℕ → T
         (from_is, long),
       )
 
-module _ (lat : Latencies) (ops : List Op) (e : Edges) (kept : IsGraphOf lat ops (graph_of e)) (j : ℕ)
+module _ (rule : MemoryRule) (lat : Latencies) (ops : List Op) (e : Edges) (kept : IsGraphOf rule lat ops (graph_of e)) (j : ℕ)
     (there : j < length ops) where
   -- each edge is near
   near_edge : (x : ℕ) → x < (graph_of e).count
-      → IsNearPair lat ops ((graph_of e).from x) ((graph_of e).to x) ((graph_of e).delay x)
+      → IsNearPairBy rule lat ops ((graph_of e).from x) ((graph_of e).to x) ((graph_of e).delay x)
   near_edge x below =
       let pair = kept.sound x below in
       record { order = pair.order; within = pair.within; delay = pair.delay; near = kept.near x below }
@@ -89,12 +89,12 @@ module _ (lat : Latencies) (ops : List Op) (e : Edges) (kept : IsGraphOf lat ops
   inside : j < (graph_of e).ops
   inside = subst (λ n. j < n) (sym kept.size) there
 
-  pub near_into : All (λ (edge : Edge). (edge.to ≡ j) × IsNearPair lat ops edge.from j edge.delay)
+  pub near_into : All (λ (edge : Edge). (edge.to ≡ j) × IsNearPairBy rule lat ops edge.from j edge.delay)
       (take ((graph_of e).start (j + 1) - (graph_of e).start j) (drop ((graph_of e).start j) e.edges.items))
-  near_into = each_into e kept.is_graph (IsNearPair lat ops) near_edge j inside
+  near_into = each_into e kept.is_graph (IsNearPairBy rule lat ops) near_edge j inside
 
-  pub all_into : (i d : ℕ) → IsNearPair lat ops i j d → Any (λ (edge : Edge). (edge.from ≡ i) × (d ≤ edge.delay))
+  pub all_into : (i d : ℕ) → IsNearPairBy rule lat ops i j d → Any (λ (edge : Edge). (edge.from ≡ i) × (d ≤ edge.delay))
       (take ((graph_of e).start (j + 1) - (graph_of e).start j) (drop ((graph_of e).start j) e.edges.items))
   all_into i d near =
       let found = kept.all i j d (record { order = near.order; within = near.within; delay = near.delay }) near.near in
-      is_into e kept.is_graph (IsNearPair lat ops) near_edge j inside i d found.0 found.1 found.2 found.3 found.4
+      is_into e kept.is_graph (IsNearPairBy rule lat ops) near_edge j inside i d found.0 found.1 found.2 found.3 found.4

@@ -1,6 +1,5 @@
 -- The kept edges grow edge by edge and operation by operation; for `Edges::fill`.
-use Rattle.iloc_sched.proofs.Common.{◌≡◌, ℕ, ◌+◌, ◌<◌, ◌≤◌, List, length, sym, ap, ◌∙◌, subst, inl, inr, arith, Op, op_at, Latencies, delay_at_least_where, short_delay_where, by_address, IsDelayPairWhere, counts_by, MemoryRule, Address, Book, Grows, HasEdge, HasOneMore, IsNearBy, IsNearPairBy, IsPartialGraph, Graph, IsGraph, IsGraphOf, IsGraphWhere, IsLast, LeadsTo}
-use Rattle.iloc_addresses.proofs.FarPairs.{near_or_by_way}
+use Rattle.iloc_sched.proofs.Common.{◌≡◌, ℕ, ◌+◌, ◌<◌, ◌≤◌, List, length, sym, ap, ◌∙◌, subst, arith, Op, op_at, Latencies, delay_at_least_where, short_delay_where, IsDelayPairWhere, counts_by, MemoryRule, Grows, HasEdge, HasOneMore, IsNearBy, IsNearPairBy, IsPartialGraph, Graph, IsGraph, IsGraphOf, IsLast, LeadsTo}
 use Rattle.iloc_sched.proofs.Basics.Cases.{by_eq, by_lt}
 use Rattle.iloc_sched.proofs.Basics.LastOnes.{last_same, last_here, last_before}
 
@@ -143,25 +142,12 @@ module _ (rule : MemoryRule) (lat : Latencies) (ops : List Op) (graph : Graph)
       let h = is.all i j d pair.within pair near in
       (h.0, subst (λ n. h.0 < n) at_end h.1, h.2, h.3, h.4)
 
--- all operations have their edges
-pub kept_at_end : (lat : Latencies) (ops : List Op) (graph : Graph) → IsPartialGraph Book lat ops graph (length ops)
-    → IsGraphOf lat ops graph
-kept_at_end lat ops graph is = record {
-  is_graph = is_graph Book lat ops graph is;
-  size = is.size;
-  sound = pair_at Book lat ops graph is;
-  near = λ x there. (is.sound x there).near;
-  all = near_kept Book lat ops graph is;
-}
-
-pub kept_by_address : (lat : Latencies) (ops : List Op) (graph : Graph)
-    → IsPartialGraph Address lat ops graph (length ops) → IsGraphWhere (by_address ops) lat ops graph
-kept_by_address lat ops graph is = record {
-  is_graph = is_graph Address lat ops graph is;
-  size = is.size;
-  sound = pair_at Address lat ops graph is;
-  ways = λ i j d pair. elim (near_or_by_way (by_address ops) lat ops i j d pair) [
-    | inl near ↦ inl (near_kept Address lat ops graph is i j d pair near)
-    | inr by ↦ inr by
-  ];
-}
+  -- all operations have their edges
+  pub kept_at_end : IsGraphOf rule lat ops graph
+  kept_at_end = record {
+    is_graph = is_graph;
+    size = is.size;
+    sound = pair_at;
+    near = λ x there. (is.sound x there).near;
+    all = near_kept;
+  }

@@ -1,43 +1,39 @@
 -- The tables of a graph are sound, by the book and by address; for `Tables::open`, `open_by_address` and the calls of `Graph`.
-use Rattle.iloc_sched.proofs.Common.{◌≡◌, ℕ, ◌<◌, List, [], map, length, sym, ap, ◌∙◌, subst, inl, inr, arith, get_or_past, Op, kind, latency, Latencies, by_address, all_count, counts_by, MemoryRule, Address, Book, GraphOf, IsByTheBook, IsOfBlock, IsSound, Graph, IsGraphOf, IsGraphWhere, IsEmptied, graph_of, Tables}
-use Rattle.iloc_sched.proofs.KeptEdges.FarPairs.{near_or_by_way}
+use Rattle.iloc_sched.proofs.Common.{◌≡◌, ℕ, ◌<◌, ◌⊎◌, List, [], map, length, sym, ap, ◌∙◌, subst, inl, inr, arith, get_or_past, Op, kind, latency, Latencies, by_address, IsDelayPairWhere, counts_by, MemoryRule, Address, Book, GraphOf, IsNearBy, IsByTheBook, IsOfBlock, IsSound, Graph, IsGraphOf, IsGraphWhere, IsEmptied, graph_of, Tables}
+use Rattle.iloc_rules.specs.Steps.Ways.{GoesBy}
+use Rattle.iloc_addresses.proofs.FarPairs.{near_or_by_way as near_or_far_where}
+use Rattle.iloc_sched.proofs.KeptEdges.FarPairs.{near_or_by_way as near_or_far}
 
 -- what isn't near goes by way of an operation between
-pub by_ways : (lat : Latencies) (ops : List Op) (graph : Graph) → IsGraphOf lat ops graph
-    → IsGraphWhere all_count lat ops graph
-by_ways lat ops graph is = record {
+near_or_by_way : (rule : MemoryRule) (lat : Latencies) (ops : List Op) (i j d : ℕ) → IsDelayPairWhere (counts_by rule ops) lat ops i j d
+    → IsNearBy rule lat ops i j d ⊎ GoesBy (counts_by rule ops) lat ops i j d
+near_or_by_way Book lat ops i j d pair = near_or_far lat ops i j d pair
+near_or_by_way Address lat ops i j d pair = near_or_far_where (by_address ops) lat ops i j d pair
+
+pub by_ways : (rule : MemoryRule) (lat : Latencies) (ops : List Op) (graph : Graph) → IsGraphOf rule lat ops graph
+    → IsGraphWhere (counts_by rule ops) lat ops graph
+by_ways rule lat ops graph is = record {
   is_graph = is.is_graph;
   size = is.size;
   sound = is.sound;
-  ways = λ i j d pair. elim (near_or_by_way lat ops i j d pair) [
+  ways = λ i j d pair. elim (near_or_by_way rule lat ops i j d pair) [
     | inl near ↦ inl (is.all i j d pair near)
     | inr by ↦ inr by
   ];
 }
 
-pub book_is_sound : (t : Tables) → t.rule ≡ Book → IsByTheBook t → IsSound t
-book_is_sound t book is = record {
-  kinds = is.kinds;
-  own = is.own;
-  graph = subst (λ rule. IsGraphWhere (counts_by rule t.ops.items) t.latencies t.ops.items (graph_of t.edges)) (sym book)
-      (by_ways t.latencies t.ops.items (graph_of t.edges) is.graph);
-  book = λ _. is.graph;
-}
-
-not_by_the_book : (rule : MemoryRule) → rule ≡ Address → rule ≡ Book → ⊥
-not_by_the_book rule address book = let same : Address ≡ Book = sym address ∙ book in cc
-
--- so are those of one by address
-pub address_is_sound : (t : Tables) → t.rule ≡ Address → t.kinds.items ≡ map kind t.ops.items
-    → t.own.items ≡ map (latency t.latencies) t.ops.items
-    → IsGraphWhere (by_address t.ops.items) t.latencies t.ops.items (graph_of t.edges) → IsSound t
-address_is_sound t address kinds own graph = record {
+pub is_sound : (t : Tables) → t.kinds.items ≡ map kind t.ops.items → t.own.items ≡ map (latency t.latencies) t.ops.items
+    → IsGraphOf t.rule t.latencies t.ops.items (graph_of t.edges) → IsSound t
+is_sound t kinds own graph = record {
   kinds = kinds;
   own = own;
-  graph = subst (λ rule. IsGraphWhere (counts_by rule t.ops.items) t.latencies t.ops.items (graph_of t.edges)) (sym address)
-      graph;
-  book = λ book. absurd (not_by_the_book t.rule address book);
+  graph = by_ways t.rule t.latencies t.ops.items (graph_of t.edges) graph;
+  near = graph;
 }
+
+pub book_is_sound : (t : Tables) → t.rule ≡ Book → IsByTheBook t → IsSound t
+book_is_sound t book is = is_sound t is.kinds is.own
+    (subst (λ rule. IsGraphOf rule t.latencies t.ops.items (graph_of t.edges)) (sym book) is.graph)
 
 none_by_the_book : (t : Tables) → t.ops.items ≡ [] → t.kinds.items ≡ [] → t.own.items ≡ [] → IsEmptied t.edges
     → IsByTheBook t
@@ -77,13 +73,12 @@ none_is_of_block t ops kinds own edges book = record {
   named = ops;
 }
 
--- a graph by the book has the edges of its near pairs
-pub book_graph : (t : Tables) (v : GraphOf) → IsSound t
-    → record { rule = t.rule; ops = t.ops.items; latencies = t.latencies } ≡ v → v.rule ≡ Book
-    → IsGraphOf v.latencies v.ops (graph_of t.edges)
-book_graph t v sound is book =
-    subst (λ (x : GraphOf). IsGraphOf x.latencies x.ops (graph_of t.edges)) is
-    (sound.book (ap (λ (x : GraphOf). x.rule) is ∙ book))
+-- a graph has the edges of its near pairs
+pub near_graph : (t : Tables) (v : GraphOf) → IsSound t
+    → record { rule = t.rule; ops = t.ops.items; latencies = t.latencies } ≡ v
+    → IsGraphOf v.rule v.latencies v.ops (graph_of t.edges)
+near_graph t v sound is =
+    subst (λ (x : GraphOf). IsGraphOf x.rule x.latencies x.ops (graph_of t.edges)) is sound.near
 
 -- by any rule its edges are delay pairs
 pub ruled_graph : (t : Tables) (v : GraphOf) → IsSound t

@@ -1,10 +1,10 @@
 -- The edges into an operation, each source once, are the operations that it waits for by use; for `Heuristic::Successors`.
-use Rattle.iloc_sched.proofs.Common.{◌≡◌, ℕ, ◌+◌, ◌<◌, ◌≤◌, Bool, true, false, cond, not, ◌&&◌, ◌≢◌, List, length, get_or, set, sym, ap, ◌∙◌, subst, true≢false, arith, length-set, get_or-set_other, get_or-set_same, eq-eqb, eqb-true, and_parts, Op, by_bool, op_at, kind, latency, Latencies, IsDelayPair, all_count, waits_for, Graph, IsGraphOf, IsCounting, adds_one, leads_into, waits_by_kind, waits_by_use}
+use Rattle.iloc_sched.proofs.Common.{◌≡◌, ℕ, ◌+◌, ◌<◌, ◌≤◌, Bool, true, false, cond, not, ◌&&◌, ◌≢◌, List, length, get_or, set, sym, ap, ◌∙◌, subst, true≢false, arith, length-set, get_or-set_other, get_or-set_same, eq-eqb, eqb-true, and_parts, Op, by_bool, op_at, kind, latency, Latencies, IsDelayPair, all_count, waits_for, Graph, IsGraphOf, IsCounting, adds_one, leads_into, waits_by_kind, waits_by_use, Book}
 use Rattle.iloc_sched.proofs.Basics.Cases.{by_eq, by_lt, by_option}
 use Rattle.iloc_sched.proofs.PriorityValues.Dependents.{pair_waits}
 use Rattle.iloc_sched.proofs.PriorityValues.Successors.{use_pair}
 
-module _ (lat : Latencies) (ops : List Op) (graph : Graph) (is : IsGraphOf lat ops graph) (j : ℕ) (there : j < graph.ops) where
+module _ (lat : Latencies) (ops : List Op) (graph : Graph) (is : IsGraphOf Book lat ops graph) (j : ℕ) (there : j < graph.ops) where
   -- whether operation j waits for operation i by their kinds
   abbrev by_kind : ℕ → Bool
   by_kind i = waits_by_kind (kind (op_at ops i)) (kind (op_at ops j))

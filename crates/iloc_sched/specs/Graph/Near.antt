@@ -5,7 +5,12 @@ use Rattle.iloc_meaning.specs.Trace.{op_at}
 use Rattle.iloc_timed.specs.declared.latencies.Latencies.{Latencies}
 use Rattle.iloc_timed.specs.Kinds.{kind, is_store, is_output}
 use Rattle.iloc_timed.specs.Latency.{latency}
-use Rattle.iloc_rules.specs.Delays.{uses_result, memory_delays, delays}
+use Rattle.iloc_rules.specs.declared.memory_rule.MemoryRule.{MemoryRule}
+use Rattle.iloc_rules.specs.declared.memory_rule.MemoryRule.TheVariants.{Book, Address}
+use Rattle.iloc_rules.specs.Apart.{by_address}
+use Rattle.iloc_rules.specs.Delays.{uses_result, memory_delays, delays_where}
+use Rattle.iloc_rules.specs.Rule.{counts_by}
+use Rattle.iloc_addresses.specs.Near.{IsNear as IsNearWhere}
 
 -- whether k takes the place of i for what comes later: an output takes that of an output, a store that of any other
 abbrev pub takes_over : Op → Op → Bool
@@ -21,9 +26,18 @@ IsNear lat ops i j d =
     (IsTrue (uses_result (op_at ops i) (op_at ops j)) × (d ≡ latency lat (op_at ops i)))
     ⊎ (Contains (memory_delays lat (op_at ops i) (op_at ops j)) d × NoneBetween ops i j)
 
--- operation j waits d cycles for operation i, and near
-pub record IsNearPair (lat : Latencies) (ops : List Op) (i j d : ℕ) : Type 0 where
+-- near, by a rule of memory
+abbrev pub IsNearBy : MemoryRule → Latencies → List Op → ℕ → ℕ → ℕ → Type 0
+IsNearBy Book lat ops i j d = IsNear lat ops i j d
+IsNearBy Address lat ops i j d = IsNearWhere (by_address ops) lat ops i j d
+
+-- by the rule operation j waits d cycles for operation i, and near
+pub record IsNearPairBy (rule : MemoryRule) (lat : Latencies) (ops : List Op) (i j d : ℕ) : Type 0 where
   pub order : i < j
   pub within : j < length ops
-  pub delay : Contains (delays lat (op_at ops i) (op_at ops j)) d
-  pub near : IsNear lat ops i j d
+  pub delay : Contains (delays_where (counts_by rule ops i j) lat (op_at ops i) (op_at ops j)) d
+  pub near : IsNearBy rule lat ops i j d
+
+-- the same by the book
+abbrev pub IsNearPair : Latencies → List Op → ℕ → ℕ → ℕ → Type 0
+IsNearPair = IsNearPairBy Book

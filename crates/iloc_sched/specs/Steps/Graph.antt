@@ -2,10 +2,12 @@
 use Rattle.std.specs.Prelude.{ℕ, ◌+◌, ◌≡◌, ◌<◌, ◌≤◌, ◌⊎◌, List, length, Option, Some, None}
 use Rattle.iloc_ops.specs.declared.op.Op.{Op}
 use Rattle.iloc_timed.specs.declared.latencies.Latencies.{Latencies}
-use Rattle.iloc_rules.specs.Delays.{Counts, IsDelayPair, IsDelayPairWhere}
+use Rattle.iloc_rules.specs.Delays.{Counts, IsDelayPairWhere}
+use Rattle.iloc_rules.specs.Rule.{counts_by}
+use Rattle.iloc_rules.specs.declared.memory_rule.MemoryRule.{MemoryRule}
 use Rattle.iloc_rules.specs.Steps.Ways.{GoesBy}
 use Rattle.iloc_rules.specs.declared.delay_pairs.TheConstants.{LONGEST_DELAY}
-use Rattle.iloc_sched.specs.Graph.Near.{IsNear}
+use Rattle.iloc_sched.specs.Graph.Near.{IsNearBy}
 
 -- edges by number: those into operation j are the ones from `start j` up to `start (j + 1)`; of those out of
 -- operation i the last is `head i`, and the one before edge x is `previous x`
@@ -45,10 +47,10 @@ pub record IsGraphWhere (counts : Counts) (lat : Latencies) (ops : List Op) (gra
   pub sound : (x : ℕ) → x < graph.count → IsDelayPairWhere counts lat ops (graph.from x) (graph.to x) (graph.delay x)
   pub ways : (i j d : ℕ) → IsDelayPairWhere counts lat ops i j d → LeadsTo graph i j d ⊎ GoesBy counts lat ops i j d
 
--- where all count, each edge is a delay pair, and near, and each near pair has its edge
-pub record IsGraphOf (lat : Latencies) (ops : List Op) (graph : Graph) : Type 0 where
+-- by the rule, each edge is a delay pair, and near, and each near pair has its edge
+pub record IsGraphOf (rule : MemoryRule) (lat : Latencies) (ops : List Op) (graph : Graph) : Type 0 where
   pub is_graph : IsGraph graph
   pub size : graph.ops ≡ length ops
-  pub sound : (x : ℕ) → x < graph.count → IsDelayPair lat ops (graph.from x) (graph.to x) (graph.delay x)
-  pub near : (x : ℕ) → x < graph.count → IsNear lat ops (graph.from x) (graph.to x) (graph.delay x)
-  pub all : (i j d : ℕ) → IsDelayPair lat ops i j d → IsNear lat ops i j d → LeadsTo graph i j d
+  pub sound : (x : ℕ) → x < graph.count → IsDelayPairWhere (counts_by rule ops) lat ops (graph.from x) (graph.to x) (graph.delay x)
+  pub near : (x : ℕ) → x < graph.count → IsNearBy rule lat ops (graph.from x) (graph.to x) (graph.delay x)
+  pub all : (i j d : ℕ) → IsDelayPairWhere (counts_by rule ops) lat ops i j d → IsNearBy rule lat ops i j d → LeadsTo graph i j d

@@ -13,7 +13,7 @@ ghost use Rattle.iloc_addresses.specs.Steps.Dependences.{waiting};
 ghost use Rattle.iloc_sched.specs.Steps.Edges.ByAddress.{delay_after, CoversSources};
 ghost use Rattle.iloc_sched.specs.Steps.Edges.Lasts.{IsNext};
 ghost use Rattle.iloc_sched.specs.Steps.Edges.PartialGraph.{HasCapacity, IsPartialGraph, KeepsFrame, KeepsCapacity, Grows};
-ghost use Rattle.iloc_sched.specs.Steps.Graph.{IsGraphWhere};
+ghost use Rattle.iloc_sched.specs.Steps.Graph.{IsGraphOf};
 ghost use Rattle.iloc_sched.specs.Steps.Renaming.Registers.{listed};
 ghost use Rattle.iloc_sched.specs.Steps.Views.{graph_of};
 
@@ -157,8 +157,7 @@ impl Edges {
         requires few { length operations.now.ops.now ≤ MAX_OPS }
         requires renamed { IsRenamed operations.now.ops.now }
         requires own { operations.now.latencies.now ≡ map (latency latencies.now) operations.now.ops.now }
-        ensures { OnOk result (IsGraphWhere (by_address operations.now.ops.now) latencies.now operations.now.ops.now
-            (graph_of self.new)) }
+        ensures { OnOk result (IsGraphOf Address latencies.now operations.now.ops.now (graph_of self.new)) }
     {
         let count = operations.ops.len();
         self.clear(count)?;

@@ -8,25 +8,10 @@ use Rattle.iloc_timed.specs.declared.latencies.Latencies.{Latencies}
 use Rattle.iloc_timed.specs.Latency.{latency}
 use Rattle.iloc_sched.specs.declared.edges.Edges.{Edges}
 use Rattle.iloc_rules.specs.declared.memory_rule.MemoryRule.{MemoryRule}
-use Rattle.iloc_rules.specs.declared.memory_rule.MemoryRule.TheVariants.{Book, Address}
-use Rattle.iloc_rules.specs.Apart.{by_address}
-use Rattle.iloc_rules.specs.Delays.{memory_delays, delays_where, IsDelayPairWhere}
+use Rattle.iloc_rules.specs.Delays.{memory_delays, IsDelayPairWhere}
 use Rattle.iloc_rules.specs.Rule.{counts_by}
-use Rattle.iloc_addresses.specs.Near.{IsNear as IsNearWhere}
-use Rattle.iloc_sched.specs.Graph.Near.{IsNear, NoneBetween}
+use Rattle.iloc_sched.specs.Graph.Near.{IsNearBy, IsNearPairBy, NoneBetween}
 use Rattle.iloc_sched.specs.Steps.Graph.{Graph, IsLast}
-
--- near, by a rule of memory
-abbrev pub IsNearBy : MemoryRule → Latencies → List Op → ℕ → ℕ → ℕ → Type 0
-IsNearBy Book lat ops i j d = IsNear lat ops i j d
-IsNearBy Address lat ops i j d = IsNearWhere (by_address ops) lat ops i j d
-
--- by the rule operation j waits d cycles for operation i, and near
-pub record IsNearPairBy (rule : MemoryRule) (lat : Latencies) (ops : List Op) (i j d : ℕ) : Type 0 where
-  pub order : i < j
-  pub within : j < length ops
-  pub delay : Contains (delays_where (counts_by rule ops i j) lat (op_at ops i) (op_at ops j)) d
-  pub near : IsNearBy rule lat ops i j d
 
 -- the edges into the operations before j are all there, and some of those into j
 pub record IsPartialGraph (rule : MemoryRule) (lat : Latencies) (ops : List Op) (graph : Graph) (j : ℕ) : Type 0 where

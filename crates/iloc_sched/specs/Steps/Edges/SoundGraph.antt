@@ -14,14 +14,14 @@ use Rattle.iloc_sched.specs.Steps.Views.{graph_of}
 pub record IsByTheBook (t : Tables) : Type 0 where
   pub kinds : t.kinds.items ≡ map kind t.ops.items
   pub own : t.own.items ≡ map (latency t.latencies) t.ops.items
-  pub graph : IsGraphOf t.latencies t.ops.items (graph_of t.edges)
+  pub graph : IsGraphOf Book t.latencies t.ops.items (graph_of t.edges)
 
--- the same where those count that do by their rule; by the book, each near pair has its edge
+-- the same where those count that do by their rule, and each near pair has its edge
 pub record IsSound (t : Tables) : Type 0 where
   pub kinds : t.kinds.items ≡ map kind t.ops.items
   pub own : t.own.items ≡ map (latency t.latencies) t.ops.items
   pub graph : IsGraphWhere (counts_by t.rule t.ops.items) t.latencies t.ops.items (graph_of t.edges)
-  pub book : t.rule ≡ Book → IsGraphOf t.latencies t.ops.items (graph_of t.edges)
+  pub near : IsGraphOf t.rule t.latencies t.ops.items (graph_of t.edges)
 
 -- and the operations are those of a block
 pub record IsOfBlock (t : Tables) : Type 0 where

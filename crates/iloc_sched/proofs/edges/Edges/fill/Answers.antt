@@ -37,6 +37,6 @@ loop-j-preserved c =
 pub returns : goal.returns
 returns c =
     let at_end : c.loop-j.j ≡ length c.args.operations.now.ops.now = omega arith in
-    kept_at_end c.args.latencies.now c.args.operations.now.ops.now (graph_of c.loop-j.self)
+    kept_at_end Book c.args.latencies.now c.args.operations.now.ops.now (graph_of c.loop-j.self)
     (subst (λ n. IsPartialGraph Book c.args.latencies.now c.args.operations.now.ops.now (graph_of c.loop-j.self) n) at_end
     c.loop-j.invariant.partial)

@@ -1,5 +1,5 @@
 use Rattle.iloc_sched.proofs.Common.{◌≡◌, ◌<◌, length, sym, refl, ap, ◌∙◌, subst, arith, get_or_default, defined, Nop, kind, by_address, Address, AreSources, IsPartialGraph, graph_of}
-use Rattle.iloc_sched.proofs.KeptEdges.PartialGraphs.{kept_by_address}
+use Rattle.iloc_sched.proofs.KeptEdges.PartialGraphs.{kept_at_end}
 use Rattle.iloc_sched.proofs.edges.Edges.fill_by_address.Goals as goal
 
 pub loop-j-init : goal.loop-j-init
@@ -46,6 +46,6 @@ loop-j-preserved c =
 pub returns : goal.returns
 returns c =
     let at_end : c.loop-j.j ≡ length c.args.operations.now.ops.now = omega arith in
-    kept_by_address c.args.latencies.now c.args.operations.now.ops.now (graph_of c.loop-j.self)
+    kept_at_end Address c.args.latencies.now c.args.operations.now.ops.now (graph_of c.loop-j.self)
     (subst (λ n. IsPartialGraph Address c.args.latencies.now c.args.operations.now.ops.now (graph_of c.loop-j.self) n) at_end
     c.loop-j.invariant.partial)

@@ -13,7 +13,14 @@ loop-x-init c =
     (is_priority counts t.latencies t.ops.items) c.copy_latencies.new.found.items c.in_ok-copy_latencies.ensures))
 
 pub overflow_add-through : goal.overflow_add-through
-overflow_add-through c = grind (arith, get_or_read, priority_most_where, read_edge)
+overflow_add-through c =
+    let t = c.args.tables.now in
+    let edge = c.get-edge.result in
+    let known = read_edge t c.requires.graph.is_graph c.requires.graph.size (c.loop-x.x - 1) edge (omega arith) c.get-edge.ensures in
+    let size : length c.loop-x.found.items ≡ length t.ops.items = c.loop-x.invariant.size in
+    let read = get_or_read c.loop-x.found.items edge.to c.index.result.now (omega arith) c.index.ensures 0 in
+    let upper = c.loop-x.invariant.upper edge.to (omega arith) (omega arith) in
+    omega (arith, priority_most_where (counts_by t.rule t.ops.items) t.latencies t.ops.items edge.to (omega arith))
 
 pub loop-x-preserved : goal.loop-x-preserved
 loop-x-preserved c =

@@ -1,4 +1,4 @@
-use Rattle.iloc_sched.proofs.Common.{take, sym, ◌∙◌, arith, graph_of}
+use Rattle.iloc_sched.proofs.Common.{take, sym, ◌∙◌, arith, graph_of, Book}
 use Rattle.iloc_sched.proofs.Renamed.RenamingLoop.{nop_passed, op_taken, all_renamed}
 use Rattle.iloc_sched.proofs.KeptEdges.PartialGraphs.{kept_at_end}
 use Rattle.iloc_sched.proofs.tables.Tables.gather.Goals as goal
@@ -44,7 +44,7 @@ pub returns-clause-book : goal.returns-clause-book
 returns-clause-book c = record {
   kinds = c.loop-op.invariant.gathered.filling.kinds;
   own = c.loop-op.invariant.gathered.filling.own;
-  graph = kept_at_end c.loop-op.self.latencies c.loop-op.self.ops.items (graph_of c.loop-op.self.edges)
+  graph = kept_at_end Book c.loop-op.self.latencies c.loop-op.self.ops.items (graph_of c.loop-op.self.edges)
       c.loop-op.invariant.gathered.filling.partial;
 }
 

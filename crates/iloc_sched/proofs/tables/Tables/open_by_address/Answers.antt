@@ -1,5 +1,5 @@
-use Rattle.std.proofs.Common.{arith, refl}
-use Rattle.iloc_sched.proofs.KeptEdges.SoundGraphs.{address_is_sound}
+use Rattle.std.proofs.Common.{arith}
+use Rattle.iloc_sched.proofs.KeptEdges.SoundGraphs.{is_sound}
 use Rattle.iloc_sched.proofs.KeptEdges.ListedKinds.{listed}
 use Rattle.iloc_sched.proofs.tables.Tables.open_by_address.Goals as goal
 
@@ -7,4 +7,4 @@ pub fill_by_address-requires-clause-own : goal.fill_by_address-requires-clause-o
 fill_by_address-requires-clause-own c = grind (arith, listed)
 
 pub returns-clause-sound : goal.returns-clause-sound
-returns-clause-sound c = address_is_sound _ refl (grind arith) (grind (arith, listed)) (grind arith)
+returns-clause-sound c = is_sound _ (grind arith) (grind (arith, listed)) (grind arith)
