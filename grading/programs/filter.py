@@ -10,7 +10,7 @@ memfd_create memfd_secret shmget shmat shmdt shmctl semget semop semtimedop semc
 io_uring_setup io_uring_enter io_uring_register add_key request_key keyctl bpf perf_event_open userfaultfd ptrace
 process_vm_readv process_vm_writev pidfd_getfd kcmp sched_setaffinity sched_setscheduler sched_setparam sched_setattr
 setpriority unshare setns mount umount2 pivot_root move_mount open_tree fsopen fsconfig fsmount fspick mount_setattr
-quotactl fanotify_init open_by_handle_at name_to_handle_at syslog
+quotactl fanotify_init inotify_init inotify_init1 open_by_handle_at name_to_handle_at syslog
 """
 REFUSED = seccomp.ERRNO(errno.EPERM)
 

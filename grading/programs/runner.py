@@ -20,6 +20,7 @@ from marks import NoRows
 from programs.walls import BUILD, MOST_KEPT, RUN, Bubblewrap, NoWalls
 from words import shown
 
+VARIABLES = ["PATH=/usr/local/bin:/usr/bin:/bin", "LANG=C.UTF-8", "USER=student"]    # all that walls and programs see
 SECONDS = 60        # for reading a student's folder
 LINES = 10          # of standard error that are shown, after the first
 NEEDED = "Debian's package bubblewrap, 0.8 or later, has to be installed and allowed, or see --unconfined"
@@ -192,9 +193,12 @@ class Runner:
         """How a command in a student's folder ends, on a core of its own while others run, and the folder's name."""
         core = self.cores.get()
         try:
+            # A program could write to a file that it is handed, so it gets a pipe.
             with self.walls.start(command, task, script) as (words, how, home), \
-                    open(f"/proc/self/fd/{archive.fileno()}", "rb") as given:
-                return Run([*self.scope, "taskset", "-c", f"{core}", *words], self, most, stdin=given, **how), home
+                    open(f"/proc/self/fd/{archive.fileno()}", "rb") as packed, \
+                    subprocess.Popen(["cat"], stdin=packed, stdout=subprocess.PIPE) as piped:
+                words = [*self.scope, "taskset", "-c", f"{core}", "env", "-i", *VARIABLES, f"HOME={home}", *words]
+                return Run(words, self, most, stdin=piped.stdout, **how), home
         finally:
             self.cores.put(core)
 

@@ -2,6 +2,7 @@
 import os
 import random
 import shlex
+import shutil
 import subprocess
 import tempfile
 from contextlib import ExitStack, contextmanager
@@ -64,7 +65,7 @@ class Bubblewrap(Walls):
         shown = [word for path in seen for word in (
             ("--symlink", os.readlink(path), path) if os.path.islink(path) else ("--ro-bind", path, path))]
         hiding = covered(["/usr", *bound], hidden)
-        self.words = [*self.user, "bwrap", *shlex.split(words, comments=True), *shown, *hiding]
+        self.words = [*self.user, shutil.which("bwrap") or "bwrap", *shlex.split(words, comments=True), *shown, *hiding]
         calls = subprocess.run(["env", "/usr/bin/python3", "-I", f"{HERE}/filter.py"], capture_output=True)
         self.filter, self.warning = (b"", NO_FILTER) if calls.returncode else (calls.stdout, "")
 
@@ -95,9 +96,8 @@ class NoWalls(Walls):
             if self.user:
                 os.chown(home, self.number, self.number)
                 os.chmod(made, 0o711)
-            variables = ["PATH=/usr/local/bin:/usr/bin:/bin", "LANG=C.UTF-8", f"HOME={home}", f"TMPDIR={home}"]
             words = self.limited(0 if self.user else 4096, f"{made}/task", command, script)
-            yield [*self.user, "setpriv", "--no-new-privs", "env", "-i", *variables, *words], {"cwd": home}, home
+            yield [*self.user, "setpriv", "--no-new-privs", "env", f"TMPDIR={home}", *words], {"cwd": home}, home
         finally:        # the folder isn't walked here: `rm` follows no link, and goes to any depth
             last = ["sh", "-c", "kill -9 -1"] if self.user else ["chmod", "-R", "u+rwx", made]
             for words in [*self.user, *last], ["rm", "-rf", made]:
