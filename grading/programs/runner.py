@@ -17,10 +17,18 @@ from glob import glob
 from handins.folder import MOST_BYTES
 from judge import CannotGrade
 from marks import NoRows
-from programs.walls import BUILD, MOST_KEPT, RUN, Bubblewrap, NoWalls
+from programs.walls import Bubblewrap, NoWalls
 from words import shown
 
 VARIABLES = ["PATH=/usr/local/bin:/usr/bin:/bin", "LANG=C.UTF-8", "USER=student"]    # all that walls and programs see
+MOST_KEPT = 1 << 26         # bytes of a student's folder, and of each file in it
+MOST_WRITTEN = 1 << 24      # of a file that a program writes
+SPACE = 1 << 32             # of addresses of a process: to reserve them is free, and what is used is watched
+# Unpacks a student's folder from standard input, and runs the words after a task's path on it; or on nothing,
+# and then packs the folder.
+UNPACK = "tar xf - --no-same-owner --no-overwrite-dir 2>/dev/null; "
+RUN = f'{UNPACK}rm -rf task.iloc; cp "$0" task.iloc && exec prlimit --fsize={MOST_WRITTEN} "$@" <"$0"'
+BUILD = f'{UNPACK}prlimit --fsize={MOST_WRITTEN} "$@" </dev/null >&2 && exec tar cf - .'
 SECONDS = 60        # for reading a student's folder
 LINES = 10          # of standard error that are shown, after the first
 NEEDED = "Debian's package bubblewrap, 0.8 or later, has to be installed and allowed, or see --unconfined"
@@ -130,9 +138,9 @@ class Run:
                       f"in which it computed for {self.seconds:.1f} s.", is_starved=is_starved)
 
 
-def packed(folder):
+def pack(folder, made):
     """The same of files that have other names here, or are in archives; a folder that all are in isn't made."""
-    made, files = tempfile.TemporaryFile(), {path.split("/", 1)[1]: data for path, data in folder.unpacked().items()}
+    files = {path.split("/", 1)[1]: data for path, data in folder.unpacked().items()}
     while files and len({path.partition("/")[0] for path in files}) == 1 and all("/" in path for path in files):
         files = {path.partition("/")[2]: data for path, data in files.items()}
     for path in set(folder.paths) - set(folder.archives()):
@@ -144,21 +152,18 @@ def packed(folder):
             about.size, about.mode = len(data), 0o755
             archive.addfile(about, io.BytesIO(data))
     made.flush()
-    return made
 
 
-def archived(folder):
-    """A file with a student's folder, which `tar` reads: it follows no link, also none that appears meanwhile."""
+def archive(folder, made):
+    """Packs a student's folder into a file, by `tar`: it follows no link, also none that appears meanwhile."""
     if folder.is_packed():
-        return packed(folder)
-    made, at = tempfile.TemporaryFile(), f"/proc/self/fd/{folder.number}"
+        return pack(folder, made)
     limits = ["prlimit", f"--fsize={MOST_KEPT}", "timeout", f"{SECONDS}"]
-    done = subprocess.run([*limits, "tar", "cf", "-", "--ignore-failed-read", "-C", at, "."], stdin=subprocess.DEVNULL,
-                          stdout=made, stderr=subprocess.DEVNULL, pass_fds=[folder.number])
+    words = [*limits, "tar", "cf", "-", "--ignore-failed-read", "-C", f"/proc/self/fd/{folder.number}", "."]
+    done = subprocess.run(words, stdin=subprocess.DEVNULL, stdout=made, stderr=subprocess.DEVNULL,
+                          pass_fds=[folder.number])
     if done.returncode not in (0, 1):       # 1: something changed meanwhile
-        made.close()
         raise NoRows("refused", f"The folder has more than {MOST_KEPT >> 20} MiB, or can't be read in {SECONDS} s.")
-    return made
 
 
 def said_in(errors, home):
@@ -175,7 +180,7 @@ class Runner:
         self.asked, self.cores, self.patience = asked, queue.Queue(), 1
         for _, core in zip(range(asked.jobs), itertools.cycle(sorted(os.sched_getaffinity(0)))):
             self.cores.put(core)
-        self.walls = NoWalls(asked) if asked.unconfined else Bubblewrap(asked, hidden)
+        self.walls = NoWalls() if asked.unconfined else Bubblewrap(asked, hidden)
         self.warning, self.jobs = self.walls.warning, 1 if asked.unconfined else asked.jobs
         scope = ["systemd-run", *["--user"] * bool(os.geteuid()), "--scope", "--quiet", "--collect",
                  f"-pMemoryMax={asked.memory}M", "-pMemorySwapMax=0", f"-pTasksMax={asked.processes + 16}"]
@@ -184,20 +189,24 @@ class Runner:
             if not why:
                 return
         if asked.gradescope and not asked.unconfined and os.geteuid() == 0:
-            self.walls, self.warning = NoWalls(asked), ""       # of one student, who has no neighbour
+            self.walls, self.warning = NoWalls(), ""       # of one student, who has no neighbour
             why = self.refusal() or self.walls.reached(hidden)
         if why:
             raise CannotGrade(f"programs can't be run apart: {why}: {NEEDED}")
 
     def run(self, command, archive, task, script=RUN, most=MOST_BYTES):
         """How a command in a student's folder ends, on a core of its own while others run, and the folder's name."""
-        core = self.cores.get()
+        core, seconds, processes = self.cores.get(), self.asked.time, self.asked.processes + self.walls.others
+        # With a limit on cores that isn't 1 byte, the host may start a program of its own for one.
+        limits = ["prlimit", f"--cpu={seconds}:{seconds + 1}", f"--as={SPACE}", f"--nproc={processes}",
+                  f"--fsize={MOST_KEPT}", "--nofile=256", "--core=1", "--memlock=0", "--msgqueue=0"]
         try:
             # A program could write to a file that it is handed, so it gets a pipe.
-            with self.walls.start(command, task, script) as (words, how, home), \
+            with self.walls.start(task) as (words, how, home, given), \
                     open(f"/proc/self/fd/{archive.fileno()}", "rb") as packed, \
                     subprocess.Popen(["cat"], stdin=packed, stdout=subprocess.PIPE) as piped:
-                words = [*self.scope, "taskset", "-c", f"{core}", "env", "-i", *VARIABLES, f"HOME={home}", *words]
+                before = [*self.scope, "taskset", "-c", f"{core}", "env", "-i", *VARIABLES, f"HOME={home}", *words]
+                words = [*before, *limits, "sh", "-c", script, given, *command]
                 return Run(words, self, most, stdin=piped.stdout, **how), home
         finally:
             self.cores.put(core)
@@ -211,11 +220,12 @@ class Runner:
     @contextmanager
     def reading(self, folder):
         """A call that gives what a student's program prints of a task, nothing to say of it, and its seconds."""
-        with archived(folder) as archive, tempfile.TemporaryFile() as built:
+        with tempfile.TemporaryFile() as packed, tempfile.TemporaryFile() as built:
+            archive(folder, packed)
             if self.asked.build:
-                built.write(self.ended(self.asked.build, archive, b"", BUILD, MOST_KEPT).output)
+                built.write(self.ended(self.asked.build, packed, b"", BUILD, MOST_KEPT).output)
                 built.flush()
-            yield partial(self.printed, folder, built if self.asked.build else archive)
+            yield partial(self.printed, folder, built if self.asked.build else packed)
 
     def printed(self, folder, archive, task):
         words = [word.replace("{task}", "task.iloc") for word in self.asked.program]

@@ -10,14 +10,6 @@ from glob import glob
 from pathlib import Path
 
 HERE = os.path.dirname(os.path.realpath(__file__))
-MOST_KEPT = 1 << 26         # bytes of a student's folder, and of each file in it
-MOST_WRITTEN = 1 << 24      # of a file that a program writes
-SPACE = 1 << 32             # of addresses of a process: to reserve them is free, and what is used is watched
-# Unpacks a student's folder from standard input, and runs the words after a task's path on it; or on nothing,
-# and then packs the folder.
-UNPACK = "tar xf - --no-same-owner --no-overwrite-dir 2>/dev/null; "
-RUN = f'{UNPACK}rm -rf task.iloc; cp "$0" task.iloc && exec prlimit --fsize={MOST_WRITTEN} "$@" <"$0"'
-BUILD = f'{UNPACK}prlimit --fsize={MOST_WRITTEN} "$@" </dev/null >&2 && exec tar cf - .'
 OWN_USERS = range(61184, 65520)     # of these systemd takes numbers for services while they run
 NO_FILTER = "Programs ran without a filter of system calls, since python3-seccomp isn't installed."
 NO_WALLS = "Without walls any program may have falsified marks, and read and written what its user may."
@@ -36,28 +28,22 @@ def covered(bound, hidden):
 class Walls:
     """What all have in common. For root, who owns much of /proc, a user whom nobody else is, nor another grading."""
     sizes, warning = {}, ""     # in bytes, by path of a file system in memory; what is said beside the marks
+    others = 0                  # processes of its user that aren't the run's
 
-    def __init__(self, asked):
-        self.asked, self.number, self.user = asked, None, []
+    def __init__(self):
+        self.number, self.user = None, []
         if os.geteuid() == 0:
             self.number = next(user for user in random.sample(OWN_USERS, 99) if subprocess.call(
                 ["getent", "passwd", f"{user}"], stdout=subprocess.DEVNULL))
             user = f"{self.number}"
             self.user = ["setpriv", "--reuid", user, "--regid", user, "--clear-groups", "--inh-caps=-all"]
 
-    def limited(self, others, task, command, script):
-        """The words that run a command on a task within limits, where so many processes of its user aren't the run's.
-        With a limit on cores that isn't 1 byte, the host may start a program of its own for one."""
-        time, processes = self.asked.time, self.asked.processes + others
-        return ["prlimit", f"--cpu={time}:{time + 1}", f"--as={SPACE}", f"--nproc={processes}", f"--fsize={MOST_KEPT}",
-                "--nofile=256", "--core=1", "--memlock=0", "--msgqueue=0", "sh", "-c", script, task, *command]
-
 
 class Bubblewrap(Walls):
     """The machine of bubblewrap.words, with the student's folder and a task."""
 
     def __init__(self, asked, hidden):
-        super().__init__(asked)
+        super().__init__()
         self.sizes = {"/work": asked.memory << 20, "/tmp": 1 << 24, "/dev/shm": 1 << 22}
         bound = [folder for folder in map(os.path.realpath, asked.bind) if os.path.exists(folder)]
         words = Path(f"{HERE}/bubblewrap.words").read_text().format(*self.sizes.values())
@@ -70,8 +56,8 @@ class Bubblewrap(Walls):
         self.filter, self.warning = (b"", NO_FILTER) if calls.returncode else (calls.stdout, "")
 
     @contextmanager
-    def start(self, command, task, script):
-        """The words for a run, what else starts it, and what the student's folder is called there."""
+    def start(self, task):
+        """The words before a run, what else starts it, and what the student's folder and the task are called there."""
         with ExitStack() as stack:
             files = [stack.enter_context(tempfile.TemporaryFile()).fileno() for _ in range(3)]
             for number, data in zip(files, (b"student:x:1000:1000::/work:/bin/sh\n", task, self.filter)):
@@ -79,25 +65,26 @@ class Bubblewrap(Walls):
             passwd, given, calls = map(str, files)
             words = [*self.words, "--ro-bind-data", passwd, "/etc/passwd", "--ro-bind-data", given, "/task",
                      "--remount-ro", "/", "--chdir", "/work", *["--seccomp", calls] * bool(self.filter), "--"]
-            yield [*words, *self.limited(0, "/task", command, script)], {"cwd": "/", "pass_fds": files}, "/work"
+            yield words, {"cwd": "/", "pass_fds": files}, "/work", "/task"
 
 
 class NoWalls(Walls):
     """A folder on the disk, which goes with the run; and for root all that its user runs."""
     warning = NO_WALLS
+    others = 4096 * bool(os.geteuid())
 
     @contextmanager
-    def start(self, command, task, script):
+    def start(self, task):
         made = tempfile.mkdtemp(prefix="ilocgrade-")
-        home = f"{made}/home"
+        home, given = f"{made}/home", Path(made, "task")
         try:
             os.mkdir(home)
-            Path(f"{made}/task").write_bytes(task)
+            given.write_bytes(task)
             if self.user:
                 os.chown(home, self.number, self.number)
                 os.chmod(made, 0o711)
-            words = self.limited(0 if self.user else 4096, f"{made}/task", command, script)
-            yield [*self.user, "setpriv", "--no-new-privs", "env", f"TMPDIR={home}", *words], {"cwd": home}, home
+            words = [*self.user, "setpriv", "--no-new-privs", "env", f"TMPDIR={home}"]
+            yield words, {"cwd": home}, home, f"{given}"
         finally:        # the folder isn't walked here: `rm` follows no link, and goes to any depth
             last = ["sh", "-c", "kill -9 -1"] if self.user else ["chmod", "-R", "u+rwx", made]
             for words in [*self.user, *last], ["rm", "-rf", made]:
