@@ -29,11 +29,15 @@ class Mark:
     is_starved: bool = False    # a program was ended while it waited for the processor
     prints: bool = False        # what it should on the memory that is handed in, though it is wrong on another
     seconds: float = None       # that a program computed
-    alike: list = field(default_factory=list)       # texts that are equal for hand-ins that are alike
+    alike: dict = field(default_factory=dict)       # by how hand-ins may be alike, what is equal where they are
     points: float = 0.0
 
     def passes(self):
         return self.verdict in PASSING
+
+    def ratio(self):
+        """How many times the bound it takes."""
+        return self.cycles / max(1, self.task.least)
 
 
 @dataclass
@@ -59,11 +63,14 @@ class Student:
         return [f"{late}."] * bool(self.days) + [f"Note: {note}." for note in self.notes]
 
 
-def alike(rows, is_wrong):
-    """What is equal for those that are equal to the byte, and for wrong ones that are but for registers or blanks."""
-    names = {}
-    plain = re.sub(rb"\br\d+", lambda found: b"r%d" % names.setdefault(found[0], len(names)), rows) if is_wrong else b""
-    return [hashlib.sha256(text).hexdigest() for text in (rows, re.sub(rb"//.*|\s+", b"", plain)) if text]
+def alike(rows, verdict):
+    """By how hand-ins may be alike, what is equal where they are."""
+    passes, names = verdict in PASSING, {}
+    texts = {"equal to the byte" + ", and right" * passes: rows}
+    if not passes:
+        plain = re.sub(rb"\br\d+", lambda found: b"r%d" % names.setdefault(found[0], len(names)), rows)
+        texts["wrong in the same way, but for registers and blanks"] = re.sub(rb"//.*|\s+", b"", plain)
+    return {how: hashlib.sha256(text).hexdigest() for how, text in texts.items() if text}
 
 
 def judged(task, said, rows, required):
@@ -72,12 +79,11 @@ def judged(task, said, rows, required):
     if verdict in PASSING and not said["passes"]:
         verdict = "changed" if required == "operations" or is_other else "unlawful"
     prints = found and (required == "outcome" or not is_other) and (said["memory"] or found["kind"] == "word")
-    passes = verdict in PASSING
     lines = [reason.get("line") or rows.line_of(reason["row"]) for reason in said["reasons"] if "row" in reason]
-    told = [] if passes else [*faults(said, rows)]
+    told = [] if verdict in PASSING else [*faults(said, rows)]
     told += [f"You claim {count(said['claimed'], 'cycle')}."] * (said["claimed"] not in (None, said["cycles"]))
     return Mark(task, verdict, told, rows.notes, said["cycles"], next(iter(lines), None),
-                prints=bool(prints), alike=alike(rows.data, not passes))
+                prints=bool(prints), alike=alike(rows.data, verdict))
 
 
 def refused(task, why, rows):
@@ -85,7 +91,7 @@ def refused(task, why, rows):
     found = re.match(r"line (\d{1,9}):", why)
     line = int(found[1]) if found else None
     text = f": `{shown(rows.text_at(line), 80)}`" if line else ""
-    return Mark(task, "refused", [why + text], rows.notes, line=line, alike=alike(rows.data, False))
+    return Mark(task, "refused", [why + text], rows.notes, line=line, alike=alike(rows.data, "refused"))
 
 
 def unmarked(task, why):

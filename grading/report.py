@@ -10,8 +10,10 @@ import unicodedata
 from collections import defaultdict
 from html import escape
 from pathlib import Path
+from statistics import fmean
 from urllib.parse import quote
 
+import svg
 from language import PASSING
 from words import count, number, shown, told
 
@@ -67,90 +69,83 @@ def write_feedback(folder, student, tasks):
     (folder / "feedback.txt").write_text("\n".join(lines) + "\n", "utf-8", "replace")
 
 
+def plain(text):
+    """A text of students on a page."""
+    return escape(shown(text))
+
+
 def cell(mark, home):
     """A mark, with what is said of it below."""
-    at = f"feedback/{quote(home)}"
-    links = "".join(f'<p><a href="{at}/{quote(name)}">{escape(name)}</a></p>' for name in mark.pictures)
-    said = "".join(f"<p>{escape(line)}</p>" for line in told(mark))
+    said = [escape(line) for line in told(mark)]
+    said += [f'<a href="{home}/{quote(name)}">{escape(name)}</a>' for name in mark.pictures]
     return (f'<td class="{COLOURS.get(mark.verdict, "wrong")}"><details><summary>{number(mark.points)}</summary>'
-            f"{said}{links}</details></td>")
+            f"<p>{'</p><p>'.join(said)}</p></details></td>")
 
 
 def line_of(student):
-    home = safe_name(student.name)
-    link = f'<a href="feedback/{quote(home)}/feedback.txt">{escape(shown(student.name))}</a>'
+    home = f"feedback/{quote(safe_name(student.name))}"
     said = "".join(f"<br><small>{escape(line)}</small>" for line in student.said())
     cells = "".join(cell(mark, home) for mark in student.row)
-    return f"<tr><th>{link}{said}</th><td>{number(student.total())}</td>{cells}</tr>"
+    return (f'<tr><th><a href="{home}/feedback.txt">{plain(student.name)}</a>{said}</th>'
+            f"<td>{number(student.total())}</td>{cells}</tr>")
 
 
 def ratios(student):
     """How many times the bound each task takes, of those that pass."""
-    return [mark.cycles / max(1, mark.task.least) for mark in student.row if mark.passes()]
+    return [mark.ratio() for mark in student.row if mark.passes()]
 
 
 def line(student):
     seconds = [mark.seconds for mark in student.row if mark.seconds is not None]
-    cells = "".join(f"<td>{mark.cycles if mark.passes() else ''}</td>" for mark in student.row)
-    took = sum(ratios(student)) / len(ratios(student))
-    return (f"<tr><th>{escape(shown(student.name))}</th><td>{len(ratios(student))}</td><td>{took:.3f}</td>{cells}"
-            f"<td>{number(round(sum(seconds), 2)) if seconds else ''}</td></tr>")
+    cells = [len(ratios(student)), f"{fmean(ratios(student)):.3f}",
+             *(mark.cycles if mark.passes() else "" for mark in student.row),
+             number(round(sum(seconds), 2)) if seconds else ""]
+    return f"<tr><th>{plain(student.name)}</th>{''.join(f'<td>{cell}</td>' for cell in cells)}</tr>"
 
 
-def picture(students, tasks):
+def dots(students, tasks):
     """By task a column of points, each a student, as high as it takes times the bound."""
     each = [ratio for student in students for ratio in ratios(student)]
     least, most = min(1, *each), max(1.01, *each)
-    wide, high = EDGE + WIDE * len(tasks), HIGH + 2 * EDGE
 
     def height(ratio):
-        return round(EDGE + HIGH * (most - ratio) / (most - least), 1)
-    yield f'<svg viewBox="0 0 {wide} {high}" width="{wide}" role="img" aria-label="cycles by task and student">'
-    for ratio in (1, round(most, 2)):
-        yield f'<text x="0" y="{height(ratio)}">{number(ratio)}</text>'
+        return EDGE + HIGH * (most - ratio) / (most - least)
+    yield from (svg.text(0, height(ratio), number(ratio)) for ratio in (1, round(most, 2)))
     for at, task in enumerate(tasks):
         x = EDGE + WIDE * at + WIDE // 2
-        yield f'<text x="{x}" y="{high - 8}" text-anchor="middle">{escape(shown(task.name, 12))}</text>'
+        yield svg.text(x, HIGH + 2 * EDGE - 8, shown(task.name, 12), text_anchor="middle")
         for place, student in enumerate(students):
             mark, shift = student.row[at], (place % 9 - 4) * WIDE // 12
             if mark.passes():
-                yield (f'<circle cx="{x + shift}" cy="{height(mark.cycles / max(1, task.least))}" r="3">'
-                       f"<title>{escape(shown(student.name))}: {mark.cycles}</title></circle>")
-    yield "</svg>"
+                point = svg.mark(0, x + shift, height(mark.ratio()), svg.INK, 3)
+                yield svg.group(f"{shown(student.name)}: {mark.cycles}", point)
 
 
 def cycles(students, tasks):
     """The cycles of who passes anything, by student and task, as a table and a picture."""
-    ranked = sorted((student for student in students if ratios(student)),
-                    key=lambda student: (-len(ratios(student)), sum(ratios(student))))
+    ranked = sorted(filter(ratios, students), key=lambda student: (-len(ratios(student)), sum(ratios(student))))
     if not ranked:
         return ""
-    heads = "".join(f"<th>{escape(shown(task.name))}</th>" for task in tasks)
+    picture = svg.picture(EDGE + WIDE * len(tasks), HIGH + 2 * EDGE, "cycles by task and student", dots(ranked, tasks))
+    heads = "".join(f"<th>{plain(task.name)}</th>" for task in tasks)
     return ("<h2>Cycles</h2><p>Of what passes: how many tasks, on average how many times the bound by the book, and "
-            f"cycles; and a program's seconds of processor time.</p>{''.join(picture(ranked, tasks))}"
-            f'<div class="scroll"><table><tr><th>student</th><th>passed</th><th>bound</th>{heads}<th>seconds</th></tr>'
+            f'cycles; and a program\'s seconds of processor time.</p><div class="scroll">{picture}'
+            f"<table><tr><th>student</th><th>passed</th><th>bound</th>{heads}<th>seconds</th></tr>"
             f"{''.join(map(line, ranked))}</table></div>")
 
 
-def groups(students, tasks):
-    """By task the students whose hand-ins are equal to the byte, or wrong in the same way, and which of these."""
-    for at, task in enumerate(tasks):
-        found = defaultdict(list)
-        for student in students:
-            for kind, text in enumerate(student.row[at].alike):
-                found[kind, text].append(student)
-        seen = set()
-        for (kind, _), several in sorted(found.items(), key=lambda entry: entry[0][0]):
-            names = tuple(student.name for student in several)
-            if len(names) > 1 and names not in seen:
-                seen.add(names)
-                how = "wrong in the same way, but for registers and blanks" if kind else "equal to the byte"
-                yield task, how, several[0].row[at].passes(), names
-
-
-def alike(students, tasks):
-    lines = [f"<li>{escape(shown(task.name))}: {how}{', and right' * passes}: {escape('; '.join(map(shown, names)))}"
-             for task, how, passes, names in groups(students, tasks)]
+def alike(students):
+    """Of each task the students whose hand-ins are equal to the byte, or wrong in the same way."""
+    groups, hows = defaultdict(list), {}
+    for student in students:
+        for mark in student.row:
+            for how, text in mark.alike.items():
+                groups[mark.task.name, how, text].append(student.name)
+    for (task, how, _), names in groups.items():
+        if len(names) > 1:
+            hows.setdefault((task, *names), how)        # what is equal is wrong in the same way too
+    lines = [f"<li>{plain(task)}: {how}: {escape('; '.join(map(shown, names)))}"
+             for (task, *names), how in sorted(hows.items())]
     about = "A right schedule is often everybody's, since there are few: what is wrong in the same way says more."
     return f"<h2>Alike</h2><p>{about}</p><ul>{''.join(lines)}</ul>" if lines else ""
 
@@ -158,15 +153,14 @@ def alike(students, tasks):
 def write_report(path, students, tasks, warning):
     """A page with all marks, the best first, a warning where there is one, and what only staff should see."""
     best_first = sorted(students, key=lambda student: (-student.total(), student.name))
-    names = [escape(shown(task.name)) for task in tasks]
-    heads = "".join(f"<th>{name}<br><small>{task.ours} / {task.least}</small></th>" for name, task in zip(names, tasks))
+    heads = (f"<th>{plain(task.name)}<br><small>{task.ours} / {task.least}</small></th>" for task in tasks)
     columns = zip(*(student.row for student in best_first))
-    passed = "".join(f"<td>{sum(mark.passes() for mark in column)}</td>" for column in columns)
+    passed = (f"<td>{sum(mark.passes() for mark in column)}</td>" for column in columns)
     points = number(sum(task.points for task in tasks))
     size = f"{count(len(students), 'student')}, {count(len(tasks), 'task')}, {points} points."
     path.write_text(string.Template(PAGE.read_text("utf-8")).substitute(
-        size=size, warning=warning, heads=heads, rows="\n".join(map(line_of, best_first)), passed=passed,
-        speed=cycles(best_first, tasks), alike=alike(best_first, tasks)), "utf-8", "replace")
+        size=size, warning=warning, heads="".join(heads), rows="\n".join(map(line_of, best_first)),
+        passed="".join(passed), speed=cycles(best_first, tasks), alike=alike(best_first)), "utf-8", "replace")
 
 
 def write_results(student, asked, seconds, warning):
