@@ -12,7 +12,6 @@ import judge
 
 TABLE = os.path.join(os.path.dirname(os.path.realpath(__file__)), "options.tsv")
 OPTION = re.compile(r"--(?:load|store|mult)=(?:[1-9]|1[0-6])|--either-slot|--outputs")
-REQUIRED = {"outcome": [], "operations": ["--operations"], "lawful": ["--lawful"]}
 
 
 def checked(kind, holds, what):
@@ -31,7 +30,7 @@ KINDS = {"text": str, "time": datetime.fromisoformat, "path": Path, "words": shl
          "number": checked(float, lambda value: 0 <= value < math.inf, "not a number from 0 on"),
          "share": checked(float, lambda value: 0 <= value <= 1, "not between 0 and 1")}
 ACTIONS = {"flag": {"action": "store_true"}, "version": {"action": judge.Version, "nargs": 0},
-           "names": {"nargs": "+", "metavar": "NAME", "default": []}}
+           "names": {"nargs": "+", "metavar": "NAME"}}
 
 
 def parser(usage):
@@ -47,7 +46,7 @@ def parser(usage):
                 continue
             value, kind, default, about = row
             valued = {"type": KINDS.get(kind), "metavar": value} if value else {"choices": kind.split()}
-            again = {"action": "append", "default": []} if default == ".." else {"default": default} if default else {}
+            again = {"action": "append", "default": []} if default == ".." else {"default": default or None}
             group.add_argument(*names.split(), **ACTIONS.get(kind) or {**valued, **again}, help=about)
     made.set_defaults(jobs=len(os.sched_getaffinity(0)))
     return made
@@ -67,6 +66,6 @@ def parse(usage):
         "--merge needs --column": asked.merge and not asked.column}
     for why in (why for why, is_so in wrong.items() if is_so):
         made.error(why)
-    asked.check += REQUIRED[asked.require]
+    asked.check += [f"--{asked.require}"] * (asked.require != "outcome")
     asked.inner = getattr(asked, "in") or ""
     return asked

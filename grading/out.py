@@ -19,7 +19,7 @@ def made_anew(out, submissions):
     """A new folder, which takes the place of `out` once all is in it. Grades that were there are kept, as is said."""
     if out.resolve().is_relative_to(submissions.resolve()):
         raise CannotGrade(f"{out}: the grades must not be where students' files are")
-    for folder in out.parent.resolve(), *out.parent.resolve().parents:
+    for folder in (out.parent.resolve() / out.name).parents:
         mode = folder.stat().st_mode if folder.exists() else 0
         if mode & stat.S_IWOTH and not mode & stat.S_ISVTX:
             raise CannotGrade(f"{out}: the grades must not be below {folder}, where everybody may write")

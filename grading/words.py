@@ -1,10 +1,10 @@
 """Feedback in sentences that a student reads: those of sentences.ini, about a hand-in."""
-import configparser
-import os
 import sys
+from configparser import ConfigParser
+from pathlib import Path
 
-SENTENCES = configparser.ConfigParser(interpolation=None)
-SENTENCES.read(os.path.join(os.path.dirname(os.path.realpath(__file__)), "sentences.ini"), encoding="utf-8")
+SENTENCES = ConfigParser(interpolation=None)
+SENTENCES.read_string(Path(__file__).with_name("sentences.ini").read_text("utf-8"))
 
 
 def shown(text, most=200):
@@ -28,9 +28,10 @@ def number(value):
 def difference(said):
     found, seen = said["difference"], said["memory"]
     more = "_lacks" if found.get("got", 0) is None else "_more" if found.get("wanted", 0) is None else ""
-    words = " ".join(map(str, seen["words"] or [0])) if seen else ""
     told = SENTENCES["differences"][found["kind"] + more].format(**found)
-    return told + (f" (Seen where memory from {seen['at']} on holds {words}.)" if seen else "")
+    if not seen:
+        return told
+    return f"{told} (Seen where memory from {seen['at']} on holds {' '.join(map(str, seen['words'] or [0]))}.)"
 
 
 def reason(found, rows):
@@ -55,8 +56,8 @@ def faults(said, rows):
     if left_out:
         yield f"{count(left_out['count'], 'operation')} of the block left out, such as `{left_out['operation']}`."
     if added:
-        yield (f"{count(added['count'], 'operation')} that the block hasn't, such as `{added['operation']}` "
-               f"in row {added['row']}.")
+        few = count(added["count"], "operation")
+        yield f"{few} that the block hasn't, such as `{added['operation']}` in row {added['row']}."
     yield from filter(None, (reason(found, rows) for found in said["reasons"]))
     if said["more"]:
         yield f"And {said['more']} more."
