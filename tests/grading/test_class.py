@@ -24,7 +24,7 @@ POLICIES = {
 
 class Graded(Place):
     """A place with a class, graded by whoever runs the tests, or by a user whom these words make."""
-    user = ()
+    user, said = (), ""
 
     def rows(self, name="ada"):
         """What somebody of the class of the examples hands in."""
@@ -39,10 +39,14 @@ class Graded(Place):
     def feedback(self, name):
         return self.text(f"grades/feedback/{name}/feedback.txt").splitlines()
 
-    def grade(self, *words, tasks=BOTH, submissions="submissions"):
-        """Status and what is said; the gradebook by name."""
-        status, out, err = self.call(*self.user, "ilocgrade", tasks, submissions, "--pictures", "none", *words)
-        return status, out + err, self.book() if os.path.exists(self.path("grades")) else {}
+    def grade(self, *words, tasks=BOTH, submissions="submissions", command=("ilocgrade",), status=0):
+        """The gradebook by name, where it ends with this status; and notes what is said."""
+        ended, out, err = self.call(*self.user, *command, tasks, submissions, "--pictures", "none", *words)
+        self.said = (out + err).decode(errors="replace")
+        self.expect(f"status: {self.said}", (ended, "Traceback" in self.said), (status, False))
+        if not status:
+            with open(self.path("grades/gradebook.csv"), newline="", encoding="utf-8") as file:
+                return {line["student"]: line for line in csv.DictReader(file)}
 
     def class_of(self, tasks, step=1):
         """Hands in for these tasks, one student in so many: name, task, kind and rows of each hand-in."""
@@ -53,10 +57,6 @@ class Graded(Place):
                 self.hand_in(name, proposed(1, "B1", rows, number if number % 3 else None), f"{made.name}.rows")
                 yield name, made, kind, rows
 
-    def book(self):
-        with open(self.path("grades/gradebook.csv"), newline="", encoding="utf-8") as file:
-            return {line["student"]: line for line in csv.DictReader(file)}
-
 
 class Class(Graded):
     def test_kinds(self):
@@ -65,8 +65,8 @@ class Class(Graded):
         for name, made, kind, rows in self.class_of(classes.tasks()):
             due[name, made.name] = kind in classes.RIGHT, classes.keeps_operations(made, rows), *made.judged(rows)
         for required in "operations", "outcome":
-            status, _, book = self.grade("--require", required, tasks="tasks")
-            self.expect("status", (status, len(book)), (0, len(classes.STUDENTS)))
+            book = self.grade("--require", required, tasks="tasks")
+            self.expect("students", len(book), len(classes.STUDENTS))
             for (name, task), (is_right, keeps, passes, points) in due.items():
                 got, verdict = float(book[name][task]), book[name][f"{task} verdict"]
                 is_due, is_wrong = passes or is_right and (keeps or required == "outcome"), passes is False
@@ -76,20 +76,12 @@ class Class(Graded):
 
     def test_policies(self):
         for words, points in POLICIES.items():
-            status, _, book = self.grade(*words.split(), submissions=CLASS)
+            book = self.grade(*words.split(), submissions=CLASS)
             got = {name: float(line["total"]) for name, line in book.items() if name != "ivy"}
-            self.expect(words, (status, got), (0, {**dict.fromkeys(got, 0), **dict(zip(BEST, points))}))
-
-    def test_roster(self):
-        """Everybody of the roster is in the gradebook, with nothing handed in too, and everybody who handed in."""
-        for roster in (b"\xef\xbb\xbfStudent,Section\r\nzoe,1\r\nada,2", b"zoe\n\nada\n"):
-            self.write("roster.csv", roster)
-            status, _, book = self.grade("--roster", "roster.csv", submissions=CLASS)
-            self.expect("gradebook", (status, len(book), book["zoe"]["both verdict"], book["ada"]["total"]),
-                        (0, 11, "missing", "10"))
+            self.expect(words, got, {**dict.fromkeys(got, 0), **dict(zip(BEST, points))})
 
     def test_pages(self):
-        """A link leads to the page that charts/page makes of a hand-in's listings, which says what the feedback does."""
+        """A link leads to the page that charts/page makes of a hand-in's listings, and says what the feedback does."""
         plain = partial(re.sub, "(?s)<title>.*?</title>|<ul class=.said.*?</ul>", "")
         for words in (), ("--load=6",):
             self.call("ilocgrade", BOTH, CLASS, *(f"--check={word}" for word in words))
@@ -114,7 +106,9 @@ class Class(Graded):
                    "printf 'a: output 4\\nb: output 8\\n' > two/a.iloc; echo output 4 | tee twice/a.i > twice/a.iloc;"
                    "printf '//SIM INPUT: -r 1\\noutput 4\\n' > input/a.iloc;"
                    "mkdir -p moodle/Ann_{1,2}_assignsubmission_file; echo 'Name;ID;Grade x' > site.csv;"
-                   "printf 'name,late\\nAnn,soon 1\\n' > late.csv; printf 'ID,Grade\\n1\\n2,\\n' > short.csv")
+                   "printf 'name,late\\nAnn,soon 1\\n' > late.csv; printf 'ID,Grade\\n1\\n2,\\n' > short.csv;"
+                   "printf '\\xef\\xbb\\xbfStudent,Section\\r\\nzoe,1\\r\\nada,2' > headed.csv;"
+                   "printf 'zoe\\n\\nada\\n' > bare.csv")
         for line, status, said in rows_of(f"{TOP}/tests/grading/statuses.tsv"):
             line = line.replace("TASKS", BOTH).replace("CLASS", CLASS)
             got, out = self.shell(f"ilocgrade --pictures none {line}")

@@ -18,15 +18,15 @@ class Course(Graded):
             self.hand_in(name, self.rows(name), "other.rows")
         self.write("late.csv", "name;late\nFay;2\nben;30:00:00\nada;\n")
         words = "--late", "late.csv", "--per-day", "1.5", "--hidden", "other", "--floor", "0"
-        status, _, book = self.grade(*words, tasks="tasks")
+        book = self.grade(*words, tasks="tasks")
         fay = round(10 * (1 - 5 / 21), 2), round(20 * (1 - 5 / 21), 2)
         cells = ("both", "other", "total", "days late")
         self.expect("points", {name: tuple(line[cell] for cell in cells) for name, line in book.items()}, {
             "ada": ("10", "20", "30", ""), "ben": ("0", "0", "0", "2"),
             "fay": (f"{fay[0]}", f"{fay[1]}", f"{round(sum(fay) - 3, 2)}", "2")})
         said = self.feedback("fay")
-        self.expect("feedback", (status, said[:2], said[-1]), (
-            0, ["19.86 of 30 points", "2 days late: 3 points less."], f"other: {fay[1]} points. The task is hidden."))
+        self.expect("feedback", (said[:2], said[-1]), (
+            ["19.86 of 30 points", "2 days late: 3 points less."], f"other: {fay[1]} points. The task is hidden."))
 
     def test_partial(self):
         """Half for what is wrong but prints, by the oracle, the right words on the task's memory."""
@@ -35,7 +35,7 @@ class Course(Graded):
             differs = Entry(1, Block("B1", made.ops, rows), USUAL, made.start).differs_on(made.start, True)
             due[name, made.name] = not differs, classes.keeps_operations(made, rows)
         for required in "operations", "outcome":
-            book, halves = self.grade("--partial", "0.5", "--require", required, tasks="tasks")[2], 0
+            book, halves = self.grade("--partial", "0.5", "--require", required, tasks="tasks"), 0
             for (name, task), (prints, keeps) in due.items():
                 if book[name][f"{task} verdict"] == "differs":
                     is_half = prints and (keeps or required == "outcome")
@@ -50,12 +50,12 @@ class Course(Graded):
         before, feedback = self.text("grades/gradebook.csv").splitlines(), self.feedback("fay")
         self.hand_in("ben", self.rows())
         self.hand_in("dan", b"")
-        status, said, _ = self.grade("--only", "ben", "--policy", "pass")
+        self.grade("--only", "ben", "--policy", "pass")
         after = self.text("grades/gradebook.csv").splitlines()
-        self.expect("said", (status, said.decode().splitlines()[0]), (0, "grades.~1~ has the grades that were there"))
         self.expect("others", [*before[:2], "ben,10,10,lawful,16", *before[3:]], after)
         self.expect("feedback", self.feedback("fay"), feedback)
-        self.expect("strange", self.grade("--only", "zoe")[:2], (3, b"ilocgrade: --only: there is no student zoe\n"))
+        self.grade("--only", "zoe", status=3)
+        self.expect("strange", self.said, "ilocgrade: --only: there is no student zoe\n")
 
     def test_build(self):
         """A program is built once within the walls, from a folder or an archive, and what fails to is said."""
@@ -67,7 +67,7 @@ class Course(Graded):
                    "python3 -m zipfile -c submissions/fails/lab.zip Makefile")
         for file, data in {"Makefile": make, "rows": rows, "lib/more/x.zip": b"", "x.zip": b""}.items():
             self.hand_in("plain", data, file)       # of which the archives are none of what is handed in
-        book = self.grade("--program", "./schedule", "--build", "make")[2]
+        book = self.grade("--program", "./schedule", "--build", "make")
         self.expect("marks", [(line["both verdict"], bool(line["both seconds"])) for line in book.values()],
                     [("crashed", False), ("lawful", True), ("lawful", True)])
         self.expect("fails", "  It ended with status 2:" in self.feedback("fails"), True)

@@ -105,10 +105,10 @@ class Exports(Graded):
                 self.shell("rm -rf export grades")
                 self.export(site)
                 words = "--roster", "site.csv", "--by", site.by, "--merge", "site.csv", "--column", site.column
-                status, said, book = self.grade(*words, *site.words, submissions="export")
-                self.expect(f"status: {said}", (status, len(book)), (0, len(STUDENTS)))
+                book = self.grade(*words, *site.words, submissions="export")
+                self.expect("students", len(book), len(STUDENTS))
                 for line in "30 on the roster submitted nothing:", f"export is read by --layout {name}":
-                    self.expect(line, line in said.decode(), True)
+                    self.expect(line, line in self.said, True)
                 self.expect("merged", self.text("grades/merged.csv"), site.table(POINTS))
                 by_id = {line["id"]: line for line in book.values()}
                 for student in STUDENTS:
@@ -126,8 +126,8 @@ class Exports(Graded):
         self.write("site.csv", text)
         for by, lines in (("Name", 'Ann X;1;\r\n"Ann X";2;?\r\n'), ("id", 'Ann X;1;10\r\n"Ann X";2;10\r\n')):
             words = "--merge", "site.csv", "--by", by, "--column", 'Grade "x"'
-            status, said, _ = self.grade(*words, submissions="export")
-            self.expect(f"{by}: {said}", (status, said.count(b"Ann X is more than one")), (0, 2 * (by == "Name")))
+            self.grade(*words, submissions="export")
+            self.expect(by, self.said.count("Ann X is more than one"), 2 * (by == "Name"))
             self.expect(by, self.text("grades/merged.csv"), text[:text.index("Ann")] + lines + '=1+1;"3";"10"\r\n\r\n')
 
     def test_attempts(self):
@@ -136,7 +136,7 @@ class Exports(Graded):
             self.write(f"tasks/{name}.iloc", self.read(f"{BOTH}/both.iloc"))
         for number, name in enumerate(("lab-1.rows", "lab-1-10.rows", "lab-1-9.rows", "lab.rows")):
             self.write(f"export/annx_7_{number}_{name}", b"" if name == "lab-1-9.rows" else self.rows())
-        book = self.grade(tasks="tasks", submissions="export")[2]["annx"]
+        book = self.grade(tasks="tasks", submissions="export")["annx"]
         self.expect("points", (book["lab-1"], book["lab"], book["attempt"], book["id"]), ("10", "10", "11", "7"))
         self.expect("notes", [line for line in self.feedback("annx") if line.startswith("Note")],
                     [f"Note: lab-1.rows of attempt {k} isn't counted, but that of attempt 11." for k in (1, 10)])

@@ -1,5 +1,6 @@
 """Students' programs that break a limit or attack what is outside of their walls, graded by root and by a user."""
 import ctypes
+import json
 import os
 import re
 import shlex
@@ -37,7 +38,6 @@ class Programs(Graded):
         self.user = [] if self.is_root or os.geteuid() else TO_NOBODY
         self.addCleanup(self.shell, "rm -rf submissions")       # of any depth
         self.shell("chmod 755 .; mkdir -m 777 open" + f"; chown {NOBODY}:{NOBODY} ." * bool(self.user))
-        needs_bubblewrap(self.user)
         if self.call(*self.user, "test", "-x", TESTED.program, "-a", "-r", f"{TOP}/grading/ilocgrade")[0]:
             self.skipTest("an ordinary user can't read the repository")
 
@@ -49,10 +49,9 @@ class Programs(Graded):
             self.shell(f"cd 'submissions/{name}'; {line}")
 
     def graded(self, due, command=("ilocgrade",)):
-        """Grades, of which nothing is said but the result; whoever is lawful has all points, and nobody else any."""
-        words = *self.user, *command, BOTH, "submissions", *PROGRAM * ("--program" not in command)
-        self.expect("status", self.call(*words)[::2], (0, b""))
-        book = self.book()
+        """Grades, of which only the result is said; whoever is lawful has all points, and nobody else any."""
+        book = self.grade(*PROGRAM * ("--program" not in command), command=command)
+        self.expect("said", self.said.count("\n"), 1)
         self.shell("rm -r grades submissions")
         for name, verdict in due.items():
             got = book[name]["both verdict"]
@@ -61,6 +60,10 @@ class Programs(Graded):
 
 
 class ByRoot(Programs):
+    def setUp(self):
+        super().setUp()
+        needs_bubblewrap(self.user)
+
     def test_limits(self):
         """Who breaks a limit has no points, nobody else has less for it, and nothing is left."""
         before = set(os.listdir("/tmp"))
@@ -79,7 +82,7 @@ class ByRoot(Programs):
         apart = 6 if TESTED.is_short else 1
         for name, *_ in self.class_of(classes.tasks()[::apart], apart):
             self.script(f"submissions/{name}/schedule", '#!/bin/sh\nexec cat "$(sed -n "s,^// ,,p").rows"\n')
-        books = [self.grade(*words, tasks="tasks")[2] for words in ((), PROGRAM, (*PROGRAM, "--unconfined"))]
+        books = [self.grade(*words, tasks="tasks") for words in ((), PROGRAM, (*PROGRAM, "--unconfined"))]
         for line in (line for book in books for line in book.values()):
             for name in [name for name in line if name.endswith(" seconds")]:
                 del line[name]
@@ -140,19 +143,33 @@ class Unwalled(Programs):
         self.hand_in_program("fails", "echo $PWD/x >&2; exit 1\n")
 
     def test_nothing_runs(self):
-        self.expect("said", self.grade(*PROGRAM)[:2], (
-            3, b"ilocgrade: programs can't be run apart: bwrap: forbidden: Debian's package bubblewrap, 0.8 or later, "
-            b"has to be installed and allowed, or see --unconfined\n"))
+        self.grade(*PROGRAM, status=3)
+        self.expect("said", self.said, "ilocgrade: programs can't be run apart: bwrap: forbidden: Debian's package "
+                    "bubblewrap, 0.8 or later, has to be installed and allowed, or see --unconfined\n")
         self.expect("grades", os.path.exists(self.path("grades")), False)
 
     def test_unconfined(self):
         """Programs run all the same, and that marks may be false is said wherever there are any."""
         words = (*PROGRAM, "--unconfined")
-        status, said, book = self.grade(*words)
-        self.expect("said", (status, said.decode().splitlines()[-1]), (0, f"ilocgrade: {WARNING}"))
+        book = self.grade(*words)
+        self.expect("said", self.said.splitlines()[-1], f"ilocgrade: {WARNING}")
         self.expect("verdicts", [book[name]["both verdict"] for name in ("right", "fails")], ["lawful", "crashed"])
         self.expect("report", WARNING in self.text("grades/report.html"), True)
         self.expect("feedback", self.feedback("fails")[-2:], ["  It ended with status 1:", "    x"])
         self.call("ilocgrade", BOTH, "submissions/right", *words, "--gradescope", "results.json")
         self.expect("results", WARNING in self.text("results.json"), True)
+        self.expect("left running", self.is_running("98765"), False)
+
+    def test_in_a_container(self):
+        """For Gradescope root runs one student's program all the same, as a user who can't read what is secret."""
+        self.shell(f"cp -rL {BOTH} secret; cp {TESTED.program} secret/ilocfarm")
+        lines = f"(setsid sleep 98765 &) >&-; id -u >&2; cat {self.folder}/secret/* || cat rows\n"
+        self.hand_in_program("right", lines)
+        words = "ilocgrade", "secret", "submissions/right", *PROGRAM, "--ilocfarm", "secret/ilocfarm"
+        words += "--gradescope", "secret/results.json"
+        status, _, said = self.call(*words)
+        self.expect("not hidden", (status, b"secret can be read, which `chmod 700` prevents" in said), (3, True))
+        self.shell("chmod 700 secret submissions")
+        self.expect("status", self.call(*words), (0, b"", b""))
+        self.expect("score", json.loads(self.read("secret/results.json"))["score"], 10)
         self.expect("left running", self.is_running("98765"), False)

@@ -1,11 +1,9 @@
 """One student in Gradescope's autograder and in a GitHub workflow; and a class's report in a browser."""
 import json
-import os
 import re
 
 from grading.test_class import BOTH, CLASS, Graded
 from harness.browser import LEAST_CONTRAST, Browser, contrast
-from harness.program import TESTED
 
 BEN = f"{CLASS}/ben"
 
@@ -43,24 +41,6 @@ class Sites(Graded):
         made = self.autograder("ben", b"ilocgrade: ilocfarm is not on the PATH\n")
         self.expect("failed", (made["score"], "no fault of yours" in made["output"]), (0, True))
 
-    def test_programs_in_a_container(self):
-        """Where bubblewrap is forbidden root runs one student's program as a user who can't read what is secret."""
-        if os.geteuid():
-            self.skipTest("root is needed")
-        self.script("bin/bwrap", "#!/bin/sh\nexit 1\n")
-        self.shell(f"mkdir secret; chmod 755 .; cp -rL {BOTH} secret; cp {TESTED.program} secret/ilocfarm")
-        self.script("one/schedule",
-                    f"#!/bin/sh\n(setsid sleep 87654 &) >&-; id -u >&2; cat {self.folder}/secret/*/* || cat rows\n")
-        self.write("one/rows", self.rows())
-        words = ("ilocgrade", "secret/tasks", "one", "--program", "./schedule", "--ilocfarm", "secret/ilocfarm",
-                 "--gradescope", "secret/results.json")
-        status, _, said = self.call(*words)
-        self.expect("not hidden", (status, b"secret/tasks can be read, which `chmod 700` prevents" in said), (3, True))
-        self.shell("chmod 700 secret one")
-        self.expect("status", self.call(*words), (0, b"", b""))
-        self.expect("score", json.loads(self.read("secret/results.json"))["score"], 10)
-        self.expect("left running", self.is_running("87654"), False)
-
     def test_github(self):
         """Annotations lead to the line; students' texts are no commands of the runner."""
         status, out, err = self.call("ilocgrade", BOTH, BEN, "--github")
@@ -85,10 +65,10 @@ class Sites(Graded):
             browser.size(width, 800)
             browser.seen_on("screen", scheme)
             browser.open(self.path("grades/report.html"))
-            browser.value("document.querySelectorAll('details').forEach(it => { it.open = true; })")
+            browser.value("document.querySelectorAll('details').forEach(each => { each.open = true; })")
             self.expect("width", browser.value("document.documentElement.scrollWidth <= innerWidth"), True)
-            colours = browser.value("[...document.querySelectorAll('td, th')].map(it => "
-                                    "[getComputedStyle(it).color, getComputedStyle(it).backgroundColor].join('; '))")
+            colours = browser.value("[...document.querySelectorAll('td, th')].map(cell => getComputedStyle(cell))"
+                                    ".map(style => [style.color, style.backgroundColor].join('; '))")
             faint = [pair for pair in set(colours) if contrast(*pair.split("; ")) < LEAST_CONTRAST]
             self.expect("texts of too little contrast", faint, [])
         tree = browser.tree()
