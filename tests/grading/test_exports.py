@@ -1,6 +1,6 @@
 """A class of 120 as a course's site exports it, and its table with the points of each filled in."""
 import random
-from dataclasses import dataclass
+from types import SimpleNamespace
 
 from grading.test_class import BOTH, Graded
 
@@ -23,18 +23,10 @@ CHANCE = random.Random(1)
 STUDENTS = [One(number, CHANCE.choice(FIRST), CHANCE.choice(LAST)) for number in range(120)]    # with names in common
 
 
-@dataclass
-class Site:
-    """Formats of what a site writes about `one`; `late` is its word for who is in time and for who is late."""
-    words: tuple        # of the command, beside those for rosters and tables
-    by: str
-    column: str
-    late: tuple
-    paths: tuple        # of the rows, and of what is beside them
-    head: str           # of the table
-    line: str
-    last: str = ""
-    about: str = ""     # of a submission
+class Site(SimpleNamespace):
+    """Formats of what a site writes about `one`: paths of the rows and of what is beside them, head, line and last of
+    its table, and about a submission; `late` is its word for who is in time and for who is late."""
+    last = about = ""
 
     def format(self, text, one, **more):
         return text.format(one=one, late=self.late[one.is_late], **more)
@@ -53,14 +45,17 @@ class Site:
 SITES = {
     # Files of all in one folder; a later attempt has a number. Its table has lines that are no students.
     "canvas": Site(
-        (), "ID", "Lab 3 (4711)", ("", "LATE_"), ("{one.short}_{late}{one.id}_7700{attempt}_both{again}.rows",),
-        "Student,ID,SIS User ID,SIS Login ID,Section,Lab 3 (4711),Lab 4 (4712)\r\n"
+        words=(), by="ID", column="Lab 3 (4711)", late=("", "LATE_"),
+        paths=["{one.short}_{late}{one.id}_7700{attempt}_both{again}.rows"],
+        head="Student,ID,SIS User ID,SIS Login ID,Section,Lab 3 (4711),Lab 4 (4712)\r\n"
         "    Points Possible,,,,,10.00,(read only)\r\n",
-        '"{one.last}, {one.first}",{one.id},s{one.id},{one.user},A;1,{points},3\r\n', '"Student, Test",77,,,A,,\r\n'),
+        line='"{one.last}, {one.first}",{one.id},s{one.id},{one.user},A;1,{points},3\r\n',
+        last='"Student, Test",77,,,A,,\r\n'),
     # A folder a submission, and a file of YAML that says whose.
     "gradescope": Site(
-        DUE, "SID", "Score", ("20", "21"), ("submission_33{one.number:04}/both.rows",),
-        "First Name,Last Name,SID,Email,Score\n", "{one.first},{one.last},{one.id},{one.user}@x.edu,{points}\n",
+        words=DUE, by="SID", column="Score", late=("20", "21"), paths=["submission_33{one.number:04}/both.rows"],
+        head="First Name,Last Name,SID,Email,Score\n",
+        line="{one.first},{one.last},{one.id},{one.user}@x.edu,{points}\n",
         about="""\
 submission_33{one.number:04}:
   :submitters:
@@ -74,17 +69,17 @@ submission_33{one.number:04}:
 """),
     # A repository a student, with a folder for what is handed in.
     "github": Site(
-        (*DUE, "--late", "site.csv"), "github_username", "points_awarded", ("20", "21"),
-        ("lab3-{one.user}/rows/both.rows", "lab3-{one.user}/.git/config", "lab3-{one.user}/README.md"),
-        '"roster_identifier","github_username","submission_timestamp","points_awarded"\r\n',
-        '"{one.id}","{one.user}","2026-11-{late} 22:59:00 UTC","{points}"\r\n'),
+        words=(*DUE, "--late", "site.csv"), by="github_username", column="points_awarded", late=("20", "21"),
+        paths=["lab3-{one.user}/rows/both.rows", "lab3-{one.user}/.git/config", "lab3-{one.user}/README.md"],
+        head='"roster_identifier","github_username","submission_timestamp","points_awarded"\r\n',
+        line='"{one.id}","{one.user}","2026-11-{late} 22:59:00 UTC","{points}"\r\n'),
     # A folder a student; its table has a mark of bytes, semicolons, and words for how late.
     "moodle": Site(
-        ("--late", "site.csv"), "Identifier", "Grade", ("", " - 23 hours 59 mins late"),
-        ("{one.name}_{one.id}_assignsubmission_file/Both.ROWS",
-         "{one.name}_{one.id}_assignsubmission_onlinetext/onlinetext.html"),
-        "\ufeffIdentifier;Full name;Status;Grade;Feedback comments\r\n",
-        'Participant {one.id};{one.name};Submitted for grading{late};{points};"two\nlines"\r\n')}
+        words=("--late", "site.csv"), by="Identifier", column="Grade", late=("", " - 23 hours 59 mins late"),
+        paths=["{one.name}_{one.id}_assignsubmission_file/Both.ROWS",
+               "{one.name}_{one.id}_assignsubmission_onlinetext/onlinetext.html"],
+        head="\ufeffIdentifier;Full name;Status;Grade;Feedback comments\r\n",
+        line='Participant {one.id};{one.name};Submitted for grading{late};{points};"two\nlines"\r\n')}
 
 
 class Exports(Graded):
