@@ -75,7 +75,8 @@ class Task:
     path: Path
     words: tuple        # for the program: the words that memory starts with
     ours: int           # cycles of our schedule
-    least: int          # the bound by the book
+    least: int          # the bound
+    rule: str           # of both
     head: str           # the line that rows for it may have before them
     points: float
     is_hidden: bool     # from students, but for the points
@@ -106,8 +107,9 @@ def read_task(path, asked):
     said, = found
     if said["void"]:
         raise CannotGrade(f"{path}: the block {VOID[said['void']['kind']]}")
+    rule = "with addresses compared" if asked.disambiguate else "by the book"
     points = given(path, "POINTS", r"\d{1,6}(\.\d{1,4})?", "N")
-    return Task(path.stem, path.resolve(), words, said["ours"], said["least"], f"block 1 {said['name'] or '-'}",
+    return Task(path.stem, path.resolve(), words, said["ours"], said["least"], rule, f"block 1 {said['name'] or '-'}",
                 float(points[0]) if points else asked.points, path.stem in asked.hidden)
 
 

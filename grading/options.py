@@ -63,9 +63,10 @@ def parse(usage):
         "--only needs a class": is_one and asked.only,
         "no command is given": asked.program == [] or asked.build == [],
         "--build needs --program": asked.build and not asked.program,
-        "--merge needs --column": asked.merge and not asked.column}
+        "--merge needs --column": asked.merge and not asked.column,
+        "--disambiguate isn't for schedules by the book": asked.disambiguate and asked.require == "lawful"}
     for why in (why for why, is_so in wrong.items() if is_so):
         made.error(why)
-    asked.check += [f"--{asked.require}"] * (asked.require != "outcome")
+    asked.check += [f"--{asked.require}"] * (asked.require != "outcome") + ["--disambiguate"] * asked.disambiguate
     asked.inner = getattr(asked, "in") or ""
     return asked

@@ -25,7 +25,8 @@ class Pictures:
         given = dict(option.removeprefix("--").split("=") for option in timed)
         self.latencies = {kind: int(given.get(kind, usual)) for kind, usual in USUAL.items()}
         self.traced = ["trace", *timed, *{"--either-slot"}.intersection(asked.check)]
-        self.graph = cache(lambda path: judge.call(["graph", *timed], path.read_bytes())[1])
+        graph = ["graph", *timed, *["--disambiguate"] * asked.disambiguate]
+        self.graph = cache(lambda path: judge.call(graph, path.read_bytes())[1])
         self.turn = threading.Lock()        # one is drawn at a time, for memory's sake
 
     def draw(self, student, mark, said, rows):

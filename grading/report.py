@@ -128,8 +128,9 @@ def cycles(students, tasks):
         return ""
     picture = svg.picture(EDGE + WIDE * len(tasks), HIGH + 2 * EDGE, "cycles by task and student", dots(ranked, tasks))
     heads = "".join(f"<th>{plain(task.name)}</th>" for task in tasks)
-    return ("<h2>Cycles</h2><p>Of what passes: how many tasks, on average how many times the bound by the book, and "
-            f'cycles; and a program\'s seconds of processor time.</p><div class="scroll">{picture}'
+    return ("<h2>Cycles</h2><p>Of what passes: how many tasks, on average how many times the bound "
+            f"{tasks[0].rule}, and cycles; and a program's seconds of processor time.</p>"
+            f'<div class="scroll">{picture}'
             f"<table><tr><th>student</th><th>passed</th><th>bound</th>{heads}<th>seconds</th></tr>"
             f"{''.join(map(line, ranked))}</table></div>")
 
@@ -159,7 +160,7 @@ def write_report(path, students, tasks, warning):
     points = number(sum(task.points for task in tasks))
     size = f"{count(len(students), 'student')}, {count(len(tasks), 'task')}, {points} points."
     path.write_text(string.Template(PAGE.read_text("utf-8")).substitute(
-        size=size, warning=warning, heads="".join(heads), rows="\n".join(map(line_of, best_first)),
+        size=size, rule=tasks[0].rule, warning=warning, heads="".join(heads), rows="\n".join(map(line_of, best_first)),
         passed="".join(passed), speed=cycles(best_first, tasks), alike=alike(best_first)), "utf-8", "replace")
 
 

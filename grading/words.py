@@ -71,5 +71,5 @@ def told(mark, is_staff=True):
     head += f" {SENTENCES['verdicts'][mark.verdict]}"
     if mark.cycles is not None:
         head += (f" {count(mark.cycles, 'cycle')}; the reference takes {mark.task.ours}, "
-                 f"the bound by the book is {mark.task.least}.")
+                 f"the bound {mark.task.rule} is {mark.task.least}.")
     return [head, *mark.lines, *(f"Note: {note}" for note in mark.notes)]

@@ -19,7 +19,7 @@ POLICIES = {
     "--policy best": (9.38, 10, 7.14), "--per-cycle 1": (10, 10, 5), "--per-cycle 0.5 --points 4": (4, 4, 2),
     "--per-cycle 2 --floor 0": (10, 10, 0), "--floor 1": (10, 10, 10), "--points 0": (0, 0, 0),
     "--require lawful": (10, 0, 7.62), "--require outcome": (10, 10, 7.62), "--penalty 3": (10, 10, 7.62),
-    "--check=--store=4": (9.38, 10, 7.14)}
+    "--check=--store=4": (9.38, 10, 7.14), "--disambiguate": (9.38, 10, 7.14)}     # dan's beat the bound by the book
 
 
 class Graded(Place):
@@ -79,6 +79,9 @@ class Class(Graded):
             book = self.grade(*words.split(), submissions=CLASS)
             got = {name: float(line["total"]) for name, line in book.items() if name != "ivy"}
             self.expect(words, got, {**dict.fromkeys(got, 0), **dict(zip(BEST, points))})
+            for page in "report.html", "feedback/dan/feedback.txt":
+                is_said = "the bound with addresses compared" in self.text(f"grades/{page}")
+                self.expect(f"{page}: addresses are compared", is_said, words == "--disambiguate")
 
     def test_pages(self):
         """A link leads to the page that charts/page makes of a hand-in's listings, and says what the feedback does."""
