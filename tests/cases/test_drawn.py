@@ -12,7 +12,7 @@ from oracle.operations import text_of, words_for
 from oracle.printed import entry, outputs
 from oracle.reader import read
 from oracle.ready import ready_lines
-from oracle.scheduler import ORDERS, Schedule
+from oracle.scheduler import ORDERS, Schedule, all_count
 from oracle.trace import trace
 
 WORDS = [3, 4_294_967_295, 8, 70, 5, 1_000_000]
@@ -38,11 +38,11 @@ LEAST = [
 ]
 
 
-def listing(command, blocks, latencies, by="chain"):
-    """What the command lists, by an order or by a list of numbers for each block."""
+def listing(command, blocks, latencies, by="chain", rule=all_count):
+    """What the command lists, by an order or by a list of numbers for each block, and by a rule of what counts."""
     lines, total = [], 0
     for k, ops in enumerate(blocks, 1):
-        schedule = Schedule(ops, latencies, by if by in ORDERS else by[k - 1])
+        schedule = Schedule(ops, latencies, by if by in ORDERS else by[k - 1], rule)
         head, cycles = f"block {k} B{k}", schedule.cycles()
         others = {"explain": lambda: [head, *schedule.lines()], "graph": lambda: cluster(k, f"B{k}", schedule),
                   "cycles": lambda: [head, *ready_lines(schedule), schedule.summary()],
@@ -55,11 +55,11 @@ def listing(command, blocks, latencies, by="chain"):
     return "\n".join(map(str, [*lines, *ending, ""])).encode()
 
 
-def best_of_orders(blocks, latencies):
+def best_of_orders(blocks, latencies, rule=all_count):
     """What `optimize` lists without a search."""
     lines, total = [], 0
     for k, ops in enumerate(blocks, 1):
-        best = min((Schedule(ops, latencies, by) for by in ORDERS), key=Schedule.cycles)
+        best = min((Schedule(ops, latencies, by, rule) for by in ORDERS), key=Schedule.cycles)
         cycles, least = best.cycles(), best.least()
         lines += [f"block {k} B{k}", *map(row_text, best.rows), f"cycles {cycles}"]
         lines.append(f"// bound {least}{' optimal' if cycles == least else ''}")
@@ -67,24 +67,24 @@ def best_of_orders(blocks, latencies):
     return "\n".join([*lines, f"total {total}", ""]).encode()
 
 
-def compared(blocks, latencies, sought=None):
+def compared(blocks, latencies, sought=None, rule=all_count):
     """Of each block `least`, with the bound and the best cycles if they were sought, and the cycles by each order."""
-    schedules = [[Schedule(ops, latencies, by) for by in ORDERS] for ops in blocks]
+    schedules = [[Schedule(ops, latencies, by, rule) for by in ORDERS] for ops in blocks]
     return [[row[0].least(), *limits, *(schedule.cycles() for schedule in row)]
             for row, limits in zip(schedules, sought or [()] * len(blocks), strict=True)]
 
 
-def unsearched(blocks, latencies):
+def unsearched(blocks, latencies, rule=all_count):
     """What is known without a search: `least`, and the best of the orders."""
-    return [(row[0], min(row[1:])) for row in compared(blocks, latencies)]
+    return [(row[0], min(row[1:])) for row in compared(blocks, latencies, None, rule)]
 
 
 def columns(numbers, names=ORDERS):
     return "".join(f" {name} {number}" for name, number in zip(names, numbers))
 
 
-def comparison(blocks, latencies, sought=None):
-    return comparison_of(compared(blocks, latencies, sought), COMPARED_TO[bool(sought)], ORDERS)
+def comparison(blocks, latencies, sought=None, rule=all_count):
+    return comparison_of(compared(blocks, latencies, sought, rule), COMPARED_TO[bool(sought)], ORDERS)
 
 
 def comparison_of(rows, limits, orders):
@@ -98,8 +98,8 @@ def comparison_of(rows, limits, orders):
     return "\n".join([*lines, ""]).encode()
 
 
-def comparison_table(blocks, latencies, sought=None):
-    return table_of((*COMPARED_TO[bool(sought)], *ORDERS), compared(blocks, latencies, sought))
+def comparison_table(blocks, latencies, sought=None, rule=all_count):
+    return table_of((*COMPARED_TO[bool(sought)], *ORDERS), compared(blocks, latencies, sought, rule))
 
 
 def table_of(head, rows):

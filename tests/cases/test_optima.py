@@ -1,19 +1,21 @@
-"""`optimize`, `compare --nodes` and `check --nodes`: beside an exact search, beside `check`, and on blocks that are
-hard to search or aren't searched."""
+"""`optimize`, `compare --nodes` and `check --nodes`, by the book and with addresses compared: beside an exact search,
+beside `check`, and on blocks that are hard to search or aren't searched."""
 import json
 import random
 import re
 import time
 
+from cases.test_disambiguate import OPTION, takes
 from cases.test_drawn import comparison, comparison_table, unsearched
 from harness.program import TESTED, ending, unlike
 from harness.suite import Check, table
 from language import LONGEST_LATENCY, MOST_OPERATIONS, USUAL
-from oracle.drawn import lab_block
+from oracle.apart import by_address
+from oracle.drawn import aliasing_block, lab_block
 from oracle.operations import Op, text_of, words_for
 from oracle.optimum import fewest, odd_latencies, small_block
 from oracle.reader import read
-from oracle.scheduler import ORDERS, Schedule
+from oracle.scheduler import ORDERS, Schedule, all_count
 
 ENTRY = re.compile(rb"^cycles ([0-9]+)\n// bound ([0-9]+)( optimal)?$", re.MULTILINE)
 TOGETHER = 20       # blocks of a run
@@ -34,54 +36,64 @@ def found_in(end, blocks):
     return found
 
 
-def unlawful(end, blocks, latencies):
-    """What `check` has against a listing, where anything is."""
-    status, out, err = ending(["check", "--lawful", *words_for(latencies)], text_of(blocks) + end[1])
+def unlawful(end, blocks, latencies, rule=all_count):
+    """What `check` has against a listing, where anything is; where addresses are compared, which delay isn't kept."""
+    given = text_of(blocks) + end[1]
+    if rule is not all_count:
+        broken = (Schedule(block.ops, latencies, rule=rule).broken_by(block.rows) for block in read(given))
+        yield from (f"{end[1]}: {delay}" for delay in broken if delay)
+        return
+    status, out, err = ending(["check", "--lawful", *words_for(latencies)], given)
     if status:
         yield f"check ends with status {status}: {out[-200:]} {err}"
 
 
-def exact(count):
+def options_of(rule):
+    return [] if rule is all_count else [OPTION]
+
+
+def exact(count, rule):
     """No bound is above the fewest cycles, and no schedule takes fewer; with ample nodes both meet."""
     chance = random.Random("optima")
     for _ in range(0, count, TOGETHER):
         latencies, nodes = odd_latencies(chance), chance.choice([0, 1, 5, 1000])
         blocks = [small_block(chance) for _ in range(TOGETHER)]
-        end = listing_of(blocks, latencies, nodes)
+        end = listing_of(blocks, latencies, nodes, *options_of(rule))
         for ops, (cycles, bound, optimal) in zip(blocks, found_in(end, blocks)):
-            least = fewest(Schedule(ops, latencies))
+            least = fewest(Schedule(ops, latencies, rule=rule))
             if not bound <= least <= cycles or optimal != (bound == cycles) or nodes == 1000 and not optimal:
                 yield f"{[*map(str, ops)]}, {latencies}, {nodes} nodes: {cycles}, bound {bound}, of {least}"
-        yield from unlawful(end, blocks, latencies)
+        yield from unlawful(end, blocks, latencies, rule)
 
 
-def compared(blocks, latencies, sought, words):
+def compared(blocks, latencies, sought, words, rule=all_count):
     """Where `compare` lists anything but these bounds and best cycles beside the orders', in lines or in a table."""
-    for due, form in ((comparison(blocks, latencies, sought), []),
-                      (comparison_table(blocks, latencies, sought), ["--csv"])):
-        got = ending(["compare", *words, *words_for(latencies), *form], text_of(blocks))
+    for due, form in ((comparison(blocks, latencies, sought, rule), []),
+                      (comparison_table(blocks, latencies, sought, rule), ["--csv"])):
+        got = ending(["compare", *words, *options_of(rule), *words_for(latencies), *form], text_of(blocks))
         yield from unlike(f"{text_of(blocks)}, {words}, {latencies}", got, (0, due, b""))
 
 
-def exact_beside_orders(count):
+def exact_beside_orders(count, rule):
     """With ample nodes `compare` lists the fewest cycles as bound and best, and counts the orders that reach them."""
     chance = random.Random("compared optima")
     for _ in range(0, count, TOGETHER):
         latencies = odd_latencies(chance)
         blocks = [small_block(chance) for _ in range(TOGETHER)]
-        sought = [(fewest(Schedule(ops, latencies)),) * 2 for ops in blocks]
-        yield from compared(blocks, latencies, sought, ["--nodes", "1000"])
+        sought = [(fewest(Schedule(ops, latencies, rule=rule)),) * 2 for ops in blocks]
+        yield from compared(blocks, latencies, sought, ["--nodes", "1000"], rule)
 
 
-def as_optimized(count):
+def as_optimized(count, rule):
     """`compare` lists the bounds and the cycles of `optimize` with as many nodes, whatever the workers."""
     for seed in range(count):
         chance = random.Random(f"as optimized {seed}")
         latencies, nodes = chance.choice([USUAL, SLOWEST, odd_latencies(chance)]), chance.choice([0, 1, 10, 1000])
         blocks = [lab_block(chance) for _ in range(TOGETHER)] + [hard_block(chance.randrange(10, 60))]
-        sought = [(bound, cycles) for cycles, bound, _ in found_in(listing_of(blocks, latencies, nodes), blocks)]
+        end = listing_of(blocks, latencies, nodes, *options_of(rule))
+        sought = [(bound, cycles) for cycles, bound, _ in found_in(end, blocks)]
         for workers in range(1, 9):
-            yield from compared(blocks, latencies, sought, ["--nodes", str(nodes), "--workers", str(workers)])
+            yield from compared(blocks, latencies, sought, ["--nodes", str(nodes), "--workers", str(workers)], rule)
 
 
 def checked(count):
@@ -98,6 +110,22 @@ def checked(count):
         for due, form in ((verdicts(found), []), (verdict_objects(found, read(given)), ["--json"])):
             got = ending(["check", "--lawful", *words, *form], given)
             yield from unlike(f"{given}, {latencies}", got, (0, due, b""))
+
+
+def checked_by_address(count):
+    """With addresses compared ours, the best, the bound and the least are by that rule, whatever the verdict."""
+    chance = random.Random("checked by address")
+    for _ in range(0, count, TOGETHER):
+        latencies = odd_latencies(chance)
+        blocks = [small_block(chance) for _ in range(TOGETHER)]
+        schedules = [Schedule(ops, latencies, rule=by_address) for ops in blocks]
+        due = [[schedule.cycles(), *[fewest(schedule)] * 2, schedule.least()] for schedule in schedules]
+        given = text_of(blocks) + listing_of(blocks, latencies, 1000, OPTION)[1]
+        out = ending(["check", OPTION, "--json", "--nodes", "1000", *words_for(latencies)], given)[1]
+        got = [[entry[name] for name in ("ours", "best", "bound", "least")]
+               for entry in map(json.loads, out.splitlines())]
+        if got != due:
+            yield f"{given}, {latencies}: {got} in place of {due}"
 
 
 def numbers_of(ours, best, bound, least):
@@ -119,18 +147,18 @@ def verdict_objects(found, blocks):
     return "".join(json.dumps(row, separators=(",", ":")) + "\n" for row in rows).encode()
 
 
-def lawful(count):
-    """Each schedule of longer blocks is by the book, and takes no more cycles than one by any order."""
+def lawful(count, rule):
+    """Each schedule of longer blocks keeps all delays, and takes no more cycles than one by any order."""
     for seed in range(count):
         chance = random.Random(f"lawful {seed}")
         latencies = chance.choice([USUAL, SLOWEST, odd_latencies(chance)])
-        blocks = [lab_block(chance) for _ in range(TOGETHER)]
-        end = listing_of(blocks, latencies, chance.choice([0, 10, 1000]))
+        blocks = [chance.choice((lab_block, aliasing_block))(chance) for _ in range(TOGETHER)]
+        end = listing_of(blocks, latencies, chance.choice([0, 10, 1000]), *options_of(rule))
         for ops, (cycles, bound, _) in zip(blocks, found_in(end, blocks)):
-            by_orders = [Schedule(ops, latencies, by) for by in ORDERS]
+            by_orders = [Schedule(ops, latencies, by, rule) for by in ORDERS]
             if cycles > min(schedule.cycles() for schedule in by_orders) or bound < by_orders[0].least():
                 yield f"{[*map(str, ops)]}, {latencies}: {cycles}, bound {bound}"
-        yield from unlawful(end, blocks, latencies)
+        yield from unlawful(end, blocks, latencies, rule)
 
 
 def repeated(opcode, numbers, count):
@@ -220,11 +248,17 @@ def by_workers():
 
 
 def optimum_checks():
-    yield Check("optima/exact", exact, 300 if TESTED.is_short else 3000)
-    yield Check("optima/exact_beside_orders", exact_beside_orders, 100 if TESTED.is_short else 1000)
-    yield Check("optima/checked", checked, 100 if TESTED.is_short else 1000)
-    yield Check("optima/as_optimized", as_optimized, 3 if TESTED.is_short else 20)
-    yield Check("optima/lawful", lawful, 5 if TESTED.is_short else 50)
+    less = 10 if TESTED.is_short else 1
+    for rule in (all_count, by_address):
+        if takes("optimize") or rule is all_count:
+            yield Check(f"optima/exact/{rule.__name__}", exact, 3000 // less, rule)
+            yield Check(f"optima/lawful/{rule.__name__}", lawful, 50 // less, rule)
+        if takes("compare") or rule is all_count:
+            yield Check(f"optima/exact_beside_orders/{rule.__name__}", exact_beside_orders, 1000 // less, rule)
+            yield Check(f"optima/as_optimized/{rule.__name__}", as_optimized, 20 // less, rule)
+    yield Check("optima/checked", checked, 1000 // less)
+    if takes("check"):
+        yield Check("optima/checked_by_address", checked_by_address, 1000 // less)
     for check in (known, by_one_node, long_ones, longest, by_workers):
         yield Check(f"optima/{check.__name__}", check)
 

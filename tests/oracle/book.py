@@ -5,6 +5,7 @@ import operator
 import re
 from collections import Counter
 
+from oracle.machine import issued_in
 from oracle.scheduler import memory_delays
 
 ISSUE = r"row (\d+): ([^:]*)"
@@ -29,10 +30,6 @@ def sources_in_rows(issued, latencies):
         yield [max(((at + other.latency(latencies), k) for k, (at, other) in enumerate(issued)
                     if register in other.defined and at + other.latency(latencies) <= cycle), default=(0, None))[1]
                for register in op.used]
-
-
-def issued_in(rows):
-    return [(cycle, op) for cycle, row in enumerate(rows) for op in row if op]
 
 
 def shapes(ops, sources):
@@ -110,7 +107,7 @@ class Reasons:
 
     def __init__(self, block, rows, latencies):
         self.ops = [op for op in block if op.opcode != "nop"]
-        self.issued = [(cycle, op) for cycle, row in enumerate(rows) for op in row if op]
+        self.issued = issued_in(rows)
         self.given, self.read = [*sources_in_block(self.ops)], [*sources_in_rows(self.issued, latencies)]
         self.due = [cycle + op.latency(latencies) for cycle, op in self.issued]
         self.left_out = lacking(self.ops, [op for _, op in self.issued])

@@ -10,15 +10,37 @@ MARKED = f' [color="{CHAIN}", penwidth=2];'
 
 def nearest_pairs(schedule):
     """Of each two operations the longest delay, unless it is one by memory or outputs and an operation between takes
-    the first one's place: an output an output's, a store any other's."""
+    the first one's place for the second."""
     longest = {}
     for i, j, d in schedule.pairs:
         longest[i, j] = max(d, longest.get((i, j), 0))
     for (i, j), d in sorted(longest.items(), key=lambda entry: (entry[0][1], entry[0][0])):
-        taker = "output" if schedule.ops[i].kind == "output" else "store"
-        uses = set(schedule.ops[i].defined) & set(schedule.ops[j].used)
-        if uses or not any(op.kind == taker for op in schedule.ops[i + 1:j]):
+        uses = any(register in schedule.ops[j].used for register in schedule.ops[i].defined)
+        if uses or not any(takes_over(schedule, i, k, j) for k in range(i + 1, j)):
             yield i, j, d
+
+
+def takes_over(schedule, i, k, j):
+    """By the book an output takes an output's place, a store any other's. By addresses an output takes an output's for
+    an output, and a store any other's if it counts with both."""
+    first, kind, second = (schedule.ops[n].kind for n in (i, k, j))
+    if schedule.is_by_the_book:
+        return kind == ("output" if first == "output" else "store")
+    if first == second == "output":
+        return kind == "output"
+    return kind == "store" and schedule.count(i, k) and schedule.count(k, j)
+
+
+def unimplied(edges, pairs):
+    """Edges that are no pair, and pairs from one operation to another without as long a chain of edges."""
+    yield from {*edges} - {*pairs}
+    forward = sorted(edges, key=lambda edge: edge[1])
+    for i in {first for first, _, _ in pairs}:
+        far = {i: 0}
+        for a, b, d in forward:
+            if a in far:
+                far[b] = max(far.get(b, 0), far[a] + d)
+        yield from ((first, j, d) for first, j, d in pairs if first == i and far.get(j, 0) < d)
 
 
 def cluster(number, name, schedule):

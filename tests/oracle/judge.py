@@ -16,7 +16,7 @@ from oracle import book
 from oracle.machine import Fault, Machine, bad_row, bad_row_text, cycles, difference, memories, row_text, words_from
 from oracle.operations import text_of, words_for
 from oracle.reader import NoBlocks, Refused, read
-from oracle.scheduler import Schedule
+from oracle.scheduler import Schedule, all_count
 
 AT = 1024
 # Each verdict that a run doesn't settle is tried on so many memories.
@@ -51,9 +51,9 @@ def judged_by(program, cases, *words):
 
 
 @cache
-def explained(lines, latencies):
+def explained(lines, latencies, rule):
     """The cycles of our schedule of a block, and the least ones."""
-    ours = Schedule(read(lines.encode())[0].ops if lines else [], dict(latencies))
+    ours = Schedule(read(lines.encode())[0].ops if lines else [], dict(latencies), rule=rule)
     return ours.cycles(), ours.least()
 
 
@@ -75,12 +75,12 @@ def operations_of(ops):
 
 
 class Entry:
-    """What is right of one entry of the listing, with `--outputs` or without."""
+    """What is right of one entry of the listing, with `--outputs` or without, ours being by this rule."""
 
-    def __init__(self, number, block, latencies, start, outputs=False):
+    def __init__(self, number, block, latencies, start, outputs=False, rule=all_count):
         self.number, self.block, self.latencies, self.outputs = number, block, latencies, outputs
         self.cycles = cycles(block.rows, latencies)
-        self.ours, self.least = explained("\n".join(map(str, block.ops)), tuple(latencies.items()))
+        self.ours, self.least = explained("\n".join(map(str, block.ops)), tuple(latencies.items()), rule)
         self.bad = bad_row(block.rows)
         self.is_lawful = self.bad is None and book.is_by_the_book(block.ops, block.rows, latencies)
         self.void = why_void(block.ops, start, outputs)
@@ -162,11 +162,11 @@ class Entry:
             yield f"{detail!r} has a 0 at an end"
 
 
-def entries_of(given, latencies, start, outputs=False):
+def entries_of(given, latencies, start, outputs=False, rule=all_count):
     blocks = read(given)
     if not blocks:
         raise NoBlocks("no blocks")
-    return [Entry(k, block, latencies, start, outputs) for k, block in enumerate(blocks, 1)]
+    return [Entry(k, block, latencies, start, outputs, rule) for k, block in enumerate(blocks, 1)]
 
 
 def total(entries):
@@ -179,11 +179,11 @@ def status_of(verdicts, lawful=False):
     return 0 if set(verdicts) <= ({"lawful"} if lawful else PASSING) else NOT_SAME
 
 
-def wrong_ending(ending, given, latencies, words=(), is_right=False, outputs=False):
+def wrong_ending(ending, given, latencies, words=(), is_right=False, outputs=False, rule=all_count):
     """What is wrong with how a run of `check` ended."""
     status, out, err = ending
     try:
-        entries = entries_of(given, latencies, words_from(AT, words), outputs)
+        entries = entries_of(given, latencies, words_from(AT, words), outputs, rule)
     except Refused as why:
         if ending != (1, b"", f"ilocfarm: {why}\n".encode()):
             yield f"{told(ending)} in place of {why}"

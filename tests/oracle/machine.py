@@ -119,8 +119,13 @@ def first_output(got, wanted):
             return f"output {k + 1}: {one} for {other}"
 
 
+def issued_in(rows):
+    """The operations of rows, each with its cycle, in order of issue."""
+    return [(cycle, op) for cycle, row in enumerate(rows) for op in row if op]
+
+
 def cycles(rows, latencies):
-    return max([0, *(cycle + op.latency(latencies) for cycle, row in enumerate(rows) for op in filter(None, row))])
+    return max([0, *(cycle + op.latency(latencies) for cycle, op in issued_in(rows))])
 
 
 def keeps_units(row):

@@ -1,7 +1,8 @@
 """Whether rows are a schedule of a block by the book, by trying pairing after pairing: the operations of the block get,
 one after the other, each of those of the rows that differs in registers alone. Nothing is known of a pairing before it
 is tried, so this is for tiny blocks."""
-from oracle.book import issued_in, label, sources_in_block, sources_in_rows
+from oracle.book import label, sources_in_block, sources_in_rows
+from oracle.machine import issued_in
 from oracle.scheduler import memory_delays
 
 

@@ -1,7 +1,7 @@
 """Delays, the one greedy schedule of a block with its reasons, and the lower bound: worked out anew, over all pairs."""
 from itertools import takewhile
 
-from oracle.machine import cycles, keeps_units
+from oracle.machine import bad_row, cycles, issued_in, keeps_units
 from oracle.operations import Op
 
 SHARES = (({"load", "store"}, 1), ({"mult"}, 1), ({"output"}, 1), (None, 2))    # kinds, and how many a row can hold
@@ -37,19 +37,21 @@ def memory_delays(first, second, latencies, count=True):
 
 
 def delays(first, second, latencies, count=True):
-    uses = set(first.defined) & set(second.used)
+    uses = any(register in second.used for register in first.defined)
     return memory_delays(first, second, latencies, count) | ({first.latency(latencies)} if uses else set())
+
+
+def any_two(i, j):
+    return True
 
 
 def all_count(ops):
     """By the book any two operations count by memory."""
-    return lambda i, j: True
+    return any_two
 
 
-def pairs_of(ops, latencies, rule=all_count):
-    """Two operations' numbers and the cycles from one to the other, for each delay; by a rule of what counts by
-    memory."""
-    count = rule(ops)
+def pairs_of(ops, latencies, count=any_two):
+    """Two operations' numbers and the cycles from one to the other, for each delay, where these count by memory."""
     both = ((i, j) for j in range(len(ops)) for i in range(j))
     return [(i, j, d) for i, j in both for d in delays(ops[i], ops[j], latencies, count(i, j))]
 
@@ -71,7 +73,8 @@ class Schedule:
         self.latencies = latencies
         self.originals = [op for op in ops if op.opcode != "nop"]
         self.ops = renamed(self.originals)
-        self.pairs = pairs_of(self.ops, latencies, rule)
+        self.is_by_the_book, self.count = rule is all_count, rule(self.ops)
+        self.pairs = pairs_of(self.ops, latencies, self.count)
         self.before = befores_of(self.ops, self.pairs)
         self.priorities = [op.latency(latencies) for op in self.ops]
         for i, j, d in sorted(self.pairs, reverse=True):
@@ -91,9 +94,10 @@ class Schedule:
             for i, j, _ in sorted(self.pairs, reverse=True):
                 after[i] |= {j} | after[j]
             return [*map(len, after)]
+        if by == "successors":
+            return [len({j for k, j, _ in self.pairs if k == i}) for i in range(len(self.ops))]
         return {"chain": self.priorities, "order": [0] * len(self.ops),
-                "latency": [op.latency(self.latencies) for op in self.ops],
-                "successors": [len({j for k, j, _ in self.pairs if k == i}) for i in range(len(self.ops))]}[by]
+                "latency": [op.latency(self.latencies) for op in self.ops]}[by]
 
     def ready(self, j):
         return max([0, *(self.places[i][0] + d for i, d in self.before[j])])
@@ -181,7 +185,24 @@ class Schedule:
         return cycles(self.rows, self.latencies)
 
     def least(self):
-        return least_of(self.ops, self.pairs, self.latencies)
+        """By addresses not all loads after a store wait for it, so that they don't lengthen its tail."""
+        tails = tails_of(self.ops, self.pairs, self.latencies) if self.is_by_the_book else self.priorities
+        return least_of(self.ops, self.pairs, tails)
+
+    def broken_by(self, rows):
+        """What rows of these operations break: a rule of the units or a delay, or that each is issued once; or None."""
+        numbers, at = {}, {}
+        for j, op in enumerate(self.ops):
+            numbers.setdefault(str(op), []).append(j)
+        for cycle, op in issued_in(rows):
+            if not numbers.get(str(op)):
+                return f"{op} in row {cycle}"
+            at[numbers[str(op)].pop(0)] = cycle
+        late = (f"{j} {at[j] - at[i]} cycles after {i}, not {d}" for i, j, d in self.pairs if at[j] < at[i] + d)
+        bad = bad_row(rows)
+        if len(at) < len(self.ops):
+            return "an operation is left out"
+        return next(late, None) if bad is None else f"row {bad}"
 
     def summary(self):
         cycles, least = self.cycles(), self.least()
@@ -223,10 +244,9 @@ def tails_of(ops, pairs, latencies):
     return tails
 
 
-def least_of(ops, pairs, latencies):
+def least_of(ops, pairs, tails):
     """The greatest of what the operations of a share need, and of what those need that start later than its first."""
-    starts, tails = starts_of(ops, pairs), tails_of(ops, pairs, latencies)
-    bounds = [0]
+    starts, bounds = starts_of(ops, pairs), [0]
     for kinds, width in SHARES:
         shared = [i for i, op in enumerate(ops) if not kinds or op.kind in kinds]
         lowest = min((starts[i] for i in shared), default=0)
