@@ -1,44 +1,68 @@
 -- What is found of a block by each heuristic.
-use Rattle.std.proofs.Common.{◌≡◌, ◌==◌, ◌<◌, ◌≤◌, ℕ, Bool, true, false, List, [], ◌∷◌, ◌++◌, ◌+◌, take, get_or, append_assoc, append-nil, inl, inr, None, Option, Some, length, refl, sym, ap, ap₂, subst, ◌∙◌, arith}
+use Rattle.std.proofs.Common.{◌≡◌, ◌==◌, ◌<◌, ◌≤◌, ℕ, Bool, true, false, List, [], ◌∷◌, ◌++◌, ◌+◌, ◌*◌, take, get_or, append_assoc, append-nil, inl, inr, None, Option, Some, length, refl, sym, ap, ap₂, subst, ◌∙◌, arith}
 use Rattle.std.proofs.lemmas.Bool.{and_parts, cases_lt, eqb-true}
 use Rattle.std.proofs.lemmas.List.{ext_get_or, get_or-set_other, get_or-set_same, get_or_default, take_more}
 use Rattle.std.proofs.lemmas.Grind.{flat_map-append}
+use Rattle.std.proofs.lemmas.List.Sums.{count_by-le-length, length-filter}
 use Rattle.std.specs.List.{list_all, range_with_len}
 use Rattle.iloc_rules.specs.Steps.Members.{In}
 use Rattle.iloc_rules.proofs.Basics.Members.{in_range_from}
-use Rattle.std.specs.Prelude.{codes, slice_index, slice_set}
+use Rattle.std.specs.Prelude.{codes, slice_index, slice_set, sum_by}
 use Rattle.iloc_ops.specs.Limits.{MAX_OPS}
 use Rattle.iloc_ops.specs.declared.file.Block.{Block}
 use Rattle.iloc_ops.specs.declared.op.Op.{Op}
 use Rattle.iloc_timed.specs.declared.latencies.Latencies.{Latencies}
 use Rattle.iloc_timed.specs.Schedule.{Table}
-use Rattle.iloc_rules.specs.Heuristics.{priorities_by}
+use Rattle.iloc_rules.specs.declared.memory_rule.MemoryRule.{MemoryRule}
 use Rattle.iloc_rules.specs.Heuristics.Listed.{heuristics}
-use Rattle.iloc_rules.specs.Least.{least}
+use Rattle.iloc_rules.specs.Delays.{Counts}
+use Rattle.iloc_rules.specs.Greedy.{IsGreedyWhere}
+use Rattle.iloc_rules.specs.Renaming.{renamed}
+use Rattle.iloc_rules.specs.Rule.{counts_by, priorities_under}
+use Rattle.iloc_rules.specs.declared.delay_pairs.TheConstants.{LONGEST_DELAY}
+use Rattle.iloc_rules.proofs.Bounds.BusyCycles.{busy_bound_where}
+use Rattle.iloc_rules.proofs.Renamed.MentionedSources.{length-renamed_by}
+use Rattle.iloc_timed.specs.Latency.{latency}
+use Rattle.iloc_bound.specs.Bound.{least_under}
 use Rattle.iloc_rules.specs.declared.heuristic.Heuristic.{Heuristic}
 use Rattle.iloc_rules.specs.declared.heuristic.Heuristic.TheVariants.{Chain}
-use Rattle.iloc_bound.proofs.LeastBound.{least_bound}
+use Rattle.iloc_bound.proofs.LeastBound.{ruled_least_bound}
 use Rattle.iloc_block_commands.specs.Compare.{AreCounts, IsComparedCycles, IsOwnCount, column, columns, compare_ending, cycles_by, fewest, optimal, place, sums_line, tally_line}
 use Rattle.iloc_listing.specs.Listing.{cycles_of}
 use Rattle.iloc_listing.specs.Limits.{most_cycles}
-use Rattle.iloc_listing.specs.Schedules.{IsCount, IsCountBy}
-use Rattle.iloc_listing.proofs.Schedules.{cycles_few_by}
+use Rattle.iloc_listing.specs.Schedules.{IsCountUnder}
+use Rattle.iloc_listing.proofs.Schedules.{latencies_at_most}
 use Rattle.iloc_block_commands.specs.declared.compare.ComparedCycles.{ComparedCycles}
 
+-- renaming adds no operation
+renamed_fits : (block : List Op) → length (renamed block) ≤ length block
+renamed_fits block = grind (arith, length-renamed_by, length-filter, count_by-le-length)
+
+-- a greedy schedule takes few cycles, whichever pairs count
+cycles_few_where : (counts : Counts) (prios : List ℕ) (lat : Latencies) (block : List Op) (s : Table)
+    → IsGreedyWhere counts prios lat block s.ops s.rows → length block ≤ MAX_OPS → cycles_of lat s ≤ most_cycles
+cycles_few_where counts prios lat block s greedy short =
+    let busy : cycles_of lat s ≤ sum_by (latency lat) s.ops = busy_bound_where counts prios lat block s.ops s.rows greedy in
+    let most : sum_by (latency lat) s.ops ≤ LONGEST_DELAY * length s.ops = latencies_at_most lat s.ops in
+    let longest : length s.ops ≤ length block = rw greedy.lawful.names (renamed_fits block) in
+    omega arith
+
 -- the bound is small, since some schedule takes as many cycles
-pub bound_small : (heuristic : Heuristic) (lat : Latencies) (b : Block) (n : ℕ) → IsCount heuristic lat b n
-    → length b.ops ≤ MAX_OPS → least lat b.ops ≤ most_cycles
-bound_small heuristic lat b n count short =
+pub bound_small : (rule : MemoryRule) (heuristic : Heuristic) (lat : Latencies) (b : Block) (n : ℕ)
+    → IsCountUnder rule (priorities_under rule heuristic lat) lat b n → length b.ops ≤ MAX_OPS
+    → least_under rule lat b.ops ≤ most_cycles
+bound_small rule heuristic lat b n count short =
     let s : Table = count.schedule in
-    let bound : least lat b.ops ≤ cycles_of lat s = least_bound lat b.ops s.ops s.rows count.greedy.greedy.lawful in
+    let bound : least_under rule lat b.ops ≤ cycles_of lat s =
+    ruled_least_bound rule lat b.ops s.ops s.rows count.greedy.greedy.lawful in
     let few : cycles_of lat s ≤ most_cycles =
-    cycles_few_by (priorities_by heuristic lat s.ops) lat b.ops s count.greedy.greedy short in
+    cycles_few_where (counts_by rule s.ops) (priorities_under rule heuristic lat s.ops) lat b.ops s count.greedy.greedy short in
     omega arith
 
 -- the cycles by priorities are one number
-one_count : (prios : List Op → List ℕ) (lat : Latencies) (b : Block) (n m : ℕ) → IsCountBy prios lat b n
-    → IsCountBy prios lat b m → n ≡ m
-one_count prios lat b n m is is' =
+one_count : (rule : MemoryRule) (prios : List Op → List ℕ) (lat : Latencies) (b : Block) (n m : ℕ)
+    → IsCountUnder rule prios lat b n → IsCountUnder rule prios lat b m → n ≡ m
+one_count rule prios lat b n m is is' =
     is.counted ∙ (ap (cycles_of lat) (is'.greedy.only is.schedule is.greedy.greedy) ∙ sym is'.counted)
 
 -- Places
@@ -108,13 +132,13 @@ totals_pushed csv nodes own named found text summed tallied whole plain same p q
     rw (plain, sym same) all
 
 -- one count more
-pub counts_more : (lat : Latencies) (b : Block) (cycles : List ℕ) (n m : ℕ) (d : Heuristic) → length cycles ≡ length heuristics
+pub counts_more : (rule : MemoryRule) (lat : Latencies) (b : Block) (cycles : List ℕ) (n m : ℕ) (d : Heuristic) → length cycles ≡ length heuristics
     → n < length heuristics
-    → ((i : ℕ) → i < n → IsCount (get_or heuristics i Chain) lat b (slice_index cycles i))
-    → IsCount (get_or heuristics n d) lat b m
-    → (i : ℕ) → i < n + 1 → IsCount (get_or heuristics i Chain) lat b (slice_index (slice_set cycles n m) i)
-counts_more lat b cycles n m d size within each count i below =
-    let P : ℕ → Heuristic → Type 0 = λ c h. IsCount h lat b c in
+    → ((i : ℕ) → i < n → IsCountUnder rule (priorities_under rule (get_or heuristics i Chain) lat) lat b (slice_index cycles i))
+    → IsCountUnder rule (priorities_under rule (get_or heuristics n d) lat) lat b m
+    → (i : ℕ) → i < n + 1 → IsCountUnder rule (priorities_under rule (get_or heuristics i Chain) lat) lat b (slice_index (slice_set cycles n m) i)
+counts_more rule lat b cycles n m d size within each count i below =
+    let P : ℕ → Heuristic → Type 0 = λ c h. IsCountUnder rule (priorities_under rule h lat) lat b c in
     elim (cases_lt i n) [
       | inl before ↦
           subst (λ c. P c (get_or heuristics i Chain)) (sym (get_or-set_other cycles n i m 0 (λ same. omega (arith, same, before))))
@@ -127,39 +151,39 @@ counts_more lat b cycles n m d size within each count i below =
     ]
 
 -- the counts by all of them
-pub all_counted : (lat : Latencies) (b : Block) (cycles : List ℕ) → length cycles ≡ length heuristics
-    → ((i : ℕ) → i < length heuristics → IsCount (get_or heuristics i Chain) lat b (slice_index cycles i))
-    → AreCounts lat b cycles
-all_counted lat b cycles size each = record {
+pub all_counted : (rule : MemoryRule) (lat : Latencies) (b : Block) (cycles : List ℕ) → length cycles ≡ length heuristics
+    → ((i : ℕ) → i < length heuristics → IsCountUnder rule (priorities_under rule (get_or heuristics i Chain) lat) lat b (slice_index cycles i))
+    → AreCounts rule lat b cycles
+all_counted rule lat b cycles size each = record {
   all = size;
-  each = λ heuristic. subst (λ h. IsCount h lat b (slice_index cycles (place heuristic))) (at_place heuristic)
+  each = λ heuristic. subst (λ h. IsCountUnder rule (priorities_under rule h lat) lat b (slice_index cycles (place heuristic))) (at_place heuristic)
       (each (place heuristic) (place_within heuristic));
 }
 
 -- there is one list of them
-one_list : (lat : Latencies) (b : Block) (xs ys : List ℕ) → AreCounts lat b xs → AreCounts lat b ys → xs ≡ ys
-one_list lat b xs ys is is' =
+one_list : (rule : MemoryRule) (lat : Latencies) (b : Block) (xs ys : List ℕ) → AreCounts rule lat b xs → AreCounts rule lat b ys → xs ≡ ys
+one_list rule lat b xs ys is is' =
     ext_get_or 0 xs ys (is.all ∙ sym is'.all) (λ i below.
     let h : Heuristic = get_or heuristics i Chain in
     let at : place h ≡ i = place_of i (omega (arith, is.all)) in
     ap (slice_index xs) (sym at)
-    ∙ one_count (priorities_by h lat) lat b (slice_index xs (place h)) (slice_index ys (place h)) (is.each h) (is'.each h)
+    ∙ one_count rule (priorities_under rule h lat) lat b (slice_index xs (place h)) (slice_index ys (place h)) (is.each h) (is'.each h)
     ∙ ap (slice_index ys) at)
 
 -- and one number by priorities of its own
-one_own : (lat : Latencies) (numbers : Option (List ℕ)) (b : Block) (c c' : Option ℕ) → IsOwnCount lat numbers b c
-    → IsOwnCount lat numbers b c' → c ≡ c'
-one_own lat None b c c' is is' = is ∙ sym is'
-one_own lat (Some numbers) b None c' is is' = absurd is
-one_own lat (Some numbers) b (Some n) None is is' = absurd is'
-one_own lat (Some numbers) b (Some n) (Some m) is is' = ap (λ x. Some x) (one_count (λ _. numbers) lat b n m is is')
+one_own : (rule : MemoryRule) (lat : Latencies) (numbers : Option (List ℕ)) (b : Block) (c c' : Option ℕ) → IsOwnCount rule lat numbers b c
+    → IsOwnCount rule lat numbers b c' → c ≡ c'
+one_own rule lat None b c c' is is' = is ∙ sym is'
+one_own rule lat (Some numbers) b None c' is is' = absurd is
+one_own rule lat (Some numbers) b (Some n) None is is' = absurd is'
+one_own rule lat (Some numbers) b (Some n) (Some m) is is' = ap (λ x. Some x) (one_count rule (λ _. numbers) lat b n m is is')
 
 -- there is one comparison of a block without a search
-pub one_comparison : (lat : Latencies) (numbers : Option (List ℕ)) (b : Block) (c c' : ComparedCycles)
-    → IsComparedCycles lat None numbers b c → IsComparedCycles lat None numbers b c' → c ≡ c'
-one_comparison lat numbers b c c' is is' =
+pub one_comparison : (rule : MemoryRule) (lat : Latencies) (numbers : Option (List ℕ)) (b : Block) (c c' : ComparedCycles)
+    → IsComparedCycles rule lat None numbers b c → IsComparedCycles rule lat None numbers b c' → c ≡ c'
+one_comparison rule lat numbers b c c' is is' =
     let bounds : c.least ≡ c'.least = is.bound ∙ sym is'.bound in
     let none : c.sought ≡ c'.sought = is.sought ∙ sym is'.sought in
-    let all : c.cycles ≡ c'.cycles = one_list lat b c.cycles c'.cycles is.counts is'.counts in
-    let mine : c.own ≡ c'.own = one_own lat numbers b c.own c'.own is.own is'.own in
+    let all : c.cycles ≡ c'.cycles = one_list rule lat b c.cycles c'.cycles is.counts is'.counts in
+    let mine : c.own ≡ c'.own = one_own rule lat numbers b c.own c'.own is.own is'.own in
     λ i. record { least = bounds i; sought = none i; cycles = all i; own = mine i }

@@ -26,7 +26,7 @@ use Rattle.iloc_driver.specs.Command.{initial_memory}
 use Rattle.iloc_block_commands.specs.Schedule.{IsScheduleEntry}
 use Rattle.iloc_block_commands.specs.Simulate.{IsSimulateEntry}
 use Rattle.iloc_driver.specs.Priorities.{Own, own_of}
-use Rattle.iloc_listing.specs.Schedules.{IsCount, IsCountBy, IsCountUnder, IsGreedyAs, ranks_under}
+use Rattle.iloc_listing.specs.Schedules.{IsCountUnder, ranks_under}
 use Rattle.iloc_driver.specs.Work.{by_own}
 use Rattle.iloc_rules.specs.declared.memory_rule.MemoryRule.{MemoryRule}
 use Rattle.iloc_rules.specs.declared.memory_rule.MemoryRule.TheVariants.{Book}
@@ -99,10 +99,11 @@ schedule_is request own k b s greedy entry cycles listed counted = record {
 }
 
 -- and what was made of the best one that was found
-pub optimum_is : (lat : Latencies) (k : ℕ) (b : Block) (best : Optimum) → IsOptimumOf lat b.ops best → (entry : List ℕ) (cycles : ℕ)
+pub optimum_is : (rule : MemoryRule) (lat : Latencies) (k : ℕ) (b : Block) (best : Optimum) → IsOptimumOf rule lat b.ops best
+    → (entry : List ℕ) (cycles : ℕ)
     → entry ≡ schedule_entry lat k b.name best.schedule ++ bound_comment (Some best.bound) (cycles_of lat best.schedule)
-    → cycles ≡ cycles_of lat best.schedule → IsOptimizeEntry lat k b entry cycles
-optimum_is lat k b best found entry cycles listed counted = grind arith
+    → cycles ≡ cycles_of lat best.schedule → IsOptimizeEntry rule lat k b entry cycles
+optimum_is rule lat k b best found entry cycles listed counted = grind arith
 
 -- the cycles that were found are those of the greedy schedule
 pub is_count_under : (rule : MemoryRule) (prios : List Op → List ℕ) (lat : Latencies) (b : Block) (s : Table)
@@ -113,14 +114,6 @@ is_count_under rule prios lat b s greedy cycles counted = record {
   greedy = the_greedy_under rule prios lat b s greedy;
   counted = counted;
 }
-
-pub is_count_by : (prios : List Op → List ℕ) (lat : Latencies) (b : Block) (s : Table)
-    → IsGreedyBy (prios s.ops) lat b.ops s.ops s.rows → (cycles : ℕ) → cycles ≡ cycles_of lat s → IsCountBy prios lat b cycles
-is_count_by prios lat b s greedy cycles counted = is_count_under Book prios lat b s greedy cycles counted
-
-pub is_count : (heuristic : Heuristic) (lat : Latencies) (b : Block) (s : Table) → IsGreedyAs heuristic lat b.ops s
-    → (cycles : ℕ) → cycles ≡ cycles_of lat s → IsCount heuristic lat b cycles
-is_count heuristic lat b s greedy cycles counted = is_count_by (priorities_by heuristic lat) lat b s greedy cycles counted
 
 -- what a loop has appended that went over all blocks
 pub gone_over : {X : Type 0} (entry : ℕ → Option (List ℕ) → X → List ℕ) (opening text : List ℕ) (i : ℕ)
@@ -152,11 +145,11 @@ counted_listing request own blocks found text are whole =
 
 -- and of what was compared
 pub compared_listing : (request : Request) (own : Own) (blocks : List Block) (found : List ComparedCycles) (text : List ℕ)
-    → AreListed (by_own (λ own k b c. IsComparedCycles request.latencies request.nodes own b c) own) blocks found
+    → AreListed (by_own (λ own k b c. IsComparedCycles (memory_rule request) request.latencies request.nodes own b c) own) blocks found
     → text ≡ (opening_for request ++ entries (compare_line (has request.flags Csv)) 1 blocks found) ++ ending_for request found
     → IsCompareListing request own blocks text
 compared_listing request own blocks found text are whole =
     lined_listing (λ k. IsCompareEntry request (own_of own k) k)
-    (λ k. IsComparedCycles request.latencies request.nodes (own_of own k)) (compare_line (has request.flags Csv))
+    (λ k. IsComparedCycles (memory_rule request) request.latencies request.nodes (own_of own k)) (compare_line (has request.flags Csv))
     (λ k b c compares. record { compares = compares; listed = refl }) (opening_for request) (ending_for request) blocks found
     text are whole

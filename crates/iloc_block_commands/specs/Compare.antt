@@ -1,5 +1,5 @@
--- `compare` lists the bound on each block's cycles, and the cycles of its schedules by each heuristic and by its own priorities, if
--- it has some.
+-- `compare` lists by the request's rule of memory the bound on each block's cycles, and the cycles of its schedules by each
+-- heuristic and by its own priorities, if it has some.
 use Rattle.std.specs.Prelude.{ℕ, ◌≡◌, ◌==◌, ◌&&◌, nat_le, Bool, true, false, if◌then◌else◌, is_some, List, [], ◌++◌, slice_index, sum_by, length, MatchOption, Option, Some, None, codes}
 use Rattle.std.specs.List.{flat_map, list_all, position_or_len}
 use Rattle.std.specs.Str.{bytes_eq}
@@ -7,7 +7,9 @@ use Rattle.std.specs.Option.{option_map_or}
 use Rattle.std.specs.Fmt.{decimal}
 use Rattle.iloc_ops.specs.declared.file.Block.{Block}
 use Rattle.iloc_timed.specs.declared.latencies.Latencies.{Latencies}
-use Rattle.iloc_rules.specs.Least.{least}
+use Rattle.iloc_rules.specs.declared.memory_rule.MemoryRule.{MemoryRule}
+use Rattle.iloc_rules.specs.Rule.{priorities_under}
+use Rattle.iloc_bound.specs.Bound.{least_under}
 use Rattle.iloc_rules.specs.declared.heuristic.Heuristic.{Heuristic}
 use Rattle.iloc_rules.specs.declared.heuristic.Heuristic.TheVariants.{Chain}
 use Rattle.iloc_rules.specs.declared.sought.Sought.{Sought}
@@ -16,10 +18,11 @@ use Rattle.iloc_args.specs.Priority.{priority_word}
 use Rattle.iloc_args.specs.Flags.{has}
 use Rattle.iloc_args.specs.declared.flag.Flag.TheVariants.{Csv}
 use Rattle.iloc_args.specs.declared.request.Request.{Request}
+use Rattle.iloc_args.specs.Rule.{memory_rule}
 use Rattle.iloc_block_commands.specs.declared.compare.ComparedCycles.{ComparedCycles}
 use Rattle.iloc_driver.specs.Entries.{IsListingAfter}
 use Rattle.iloc_listing.specs.Listing.{entries, field, head_as, opening_as}
-use Rattle.iloc_listing.specs.Schedules.{IsCount, IsCountBy}
+use Rattle.iloc_listing.specs.Schedules.{IsCountUnder}
 use Rattle.iloc_driver.specs.Command.{Command, shared_by}
 use Rattle.iloc_driver.specs.Priorities.{Own, own_of}
 use Rattle.iloc_optimum.specs.Optimum.{IsSoughtIf}
@@ -32,24 +35,25 @@ place heuristic = position_or_len (λ h. bytes_eq (priority_word h) (priority_wo
 abbrev pub cycles_by : Heuristic → ComparedCycles → ℕ
 cycles_by heuristic c = slice_index c.cycles (place heuristic)
 
--- how many cycles the block's schedules take, by each heuristic
-pub record AreCounts (lat : Latencies) (b : Block) (cycles : List ℕ) : Type 0 where
+-- how many cycles the block's schedules take by a rule of memory, by each heuristic
+pub record AreCounts (rule : MemoryRule) (lat : Latencies) (b : Block) (cycles : List ℕ) : Type 0 where
   pub all : length cycles ≡ length heuristics
-  pub each : (heuristic : Heuristic) → IsCount heuristic lat b (slice_index cycles (place heuristic))
+  pub each : (heuristic : Heuristic)
+      → IsCountUnder rule (priorities_under rule heuristic lat) lat b (slice_index cycles (place heuristic))
 
 -- how many the block's schedule takes by its own priorities, if it has some
-abbrev pub IsOwnCount : Latencies → Option (List ℕ) → Block → Option ℕ → Type 0
-IsOwnCount lat None b count = count ≡ None
-IsOwnCount lat (Some numbers) b count = MatchOption count ⊥ (IsCountBy (λ _. numbers) lat b)
+abbrev pub IsOwnCount : MemoryRule → Latencies → Option (List ℕ) → Block → Option ℕ → Type 0
+IsOwnCount rule lat None b count = count ≡ None
+IsOwnCount rule lat (Some numbers) b count = MatchOption count ⊥ (IsCountUnder rule (λ _. numbers) lat b)
 
--- the bound on the block's cycles, what is found of them where the request has nodes, and those of its schedules, also by these
--- priorities of its own if it has some
-pub record IsComparedCycles (lat : Latencies) (nodes : Option ℕ) (numbers : Option (List ℕ)) (b : Block) (c : ComparedCycles)
-    : Type 0 where
-  pub bound : c.least ≡ least lat b.ops
-  pub sought : IsSoughtIf nodes lat b.ops c.sought
-  pub counts : AreCounts lat b c.cycles
-  pub own : IsOwnCount lat numbers b c.own
+-- by a rule of memory the bound on the block's cycles, what is found of them where the request has nodes, and those of its
+-- schedules, also by these priorities of its own if it has some
+pub record IsComparedCycles (rule : MemoryRule) (lat : Latencies) (nodes : Option ℕ) (numbers : Option (List ℕ)) (b : Block)
+    (c : ComparedCycles) : Type 0 where
+  pub bound : c.least ≡ least_under rule lat b.ops
+  pub sought : IsSoughtIf nodes rule lat b.ops c.sought
+  pub counts : AreCounts rule lat b c.cycles
+  pub own : IsOwnCount rule lat numbers b c.own
 
 -- the bound that is known: what a search proves, or else `least`
 abbrev pub bound_of : ComparedCycles → ℕ
@@ -67,7 +71,7 @@ is_fewest cycles c = list_all (nat_le cycles) c.cycles && option_map_or (nat_le 
 abbrev pub fewest : ℕ → ComparedCycles → ℕ
 fewest cycles c = if is_fewest cycles c then 1 else 0
 
--- 1 for a block where one takes as many as the bound: then no lawful schedule takes fewer
+-- 1 for a block where one takes as many as the bound: then no schedule that is lawful by the rule takes fewer
 abbrev pub optimal : ℕ → ComparedCycles → ℕ
 optimal cycles c = if cycles == bound_of c then 1 else 0
 
@@ -110,7 +114,7 @@ compare_line csv k name c =
 -- the entry of block k: its comparison, which is found
 pub record IsCompareEntry (request : Request) (own : Option (List ℕ)) (k : ℕ) (b : Block) (entry : List ℕ)
     (found : ComparedCycles) : Type 0 where
-  pub compares : IsComparedCycles request.latencies request.nodes own b found
+  pub compares : IsComparedCycles (memory_rule request) request.latencies request.nodes own b found
   pub listed : entry ≡ compare_line (has request.flags Csv) k b.name found
 
 -- the words for the heuristics, each after a comma
@@ -190,5 +194,5 @@ listing_of_compared request blocks found =
 -- workers hand back all that is compared
 abbrev pub compare_command : Command
 compare_command =
-    shared_by (λ request own k b c. IsComparedCycles request.latencies request.nodes own b c) (cycles_by Chain) listing_of_compared
-    IsCompareListing
+    shared_by (λ request own k b c. IsComparedCycles (memory_rule request) request.latencies request.nodes own b c)
+    (cycles_by Chain) listing_of_compared IsCompareListing

@@ -5,12 +5,14 @@ ghost use Rattle.std.specs.Option.{option_copied};
 ghost use Rattle.iloc_ops.specs.Limits.{MAX_BLOCKS};
 ghost use Rattle.iloc_ops.specs.declared.file.Block.{Block as block_value};
 ghost use Rattle.iloc_timed.specs.declared.latencies.Latencies.{Latencies as latencies_value};
+ghost use Rattle.iloc_rules.specs.declared.memory_rule.MemoryRule.{MemoryRule as rule_value};
+ghost use Rattle.iloc_rules.specs.Rule.{priorities_under};
 ghost use Rattle.iloc_sched.specs.Graph.GraphOf.{of_block};
 ghost use Rattle.iloc_rules.specs.Heuristics.Listed.{heuristics};
 ghost use Rattle.iloc_rules.specs.declared.heuristic.Heuristic.{Heuristic as heuristic_value};
 ghost use Rattle.iloc_block_commands.specs.Compare as compare;
 ghost use Rattle.iloc_block_commands.specs.Compare.{AreCounts, IsOwnCount};
-ghost use Rattle.iloc_listing.specs.Schedules.{IsCount, IsCountBy};
+ghost use Rattle.iloc_listing.specs.Schedules.{IsCountUnder};
 ghost use Rattle.iloc_block_commands.specs.Steps.Tallies.{added, counted};
 
 use iloc_args::{Flag, Request, priority_name};
@@ -26,7 +28,7 @@ use std::alloc::Global;
 /// The bound on a block's cycles, and the cycles of its schedules by each heuristic and by its own priorities.
 #[derive(Clone, Copy, Drop)]
 pub struct ComparedCycles {
-    /// How many cycles a lawful schedule takes at least.
+    /// How many cycles a schedule takes at least that is lawful by the rule of memory.
     pub least: u32,
     /// What a search finds of them, if there is one.
     pub sought: Option<Sought>,
@@ -411,8 +413,9 @@ pub struct CompareLister {
 
 /// How many cycles the schedule of this graph's block by this heuristic takes.
 fn count(scheduler: &mut Scheduler, graph: &Graph, heuristic: Heuristic) -> Result<u32, NoMemory>
-    ensures { IfOk result (λ cycles. (lat : latencies_value) (block : block_value) → graph.now ≡ of_block lat block.ops
-        → IsCount heuristic lat block cycles) }
+    ensures { IfOk result (λ cycles. (rule : rule_value) (lat : latencies_value) (block : block_value)
+        → graph.now ≡ of_block rule lat block.ops
+        → IsCountUnder rule (priorities_under rule heuristic lat) lat block cycles) }
 {
     let schedule = scheduler.lend_as(graph, heuristic)?;
     let cycles = count_of(&schedule, graph.latencies());
@@ -422,8 +425,8 @@ fn count(scheduler: &mut Scheduler, graph: &Graph, heuristic: Heuristic) -> Resu
 
 /// How many cycles the schedules of this graph's block take, by each heuristic.
 fn counts(scheduler: &mut Scheduler, graph: &Graph) -> Result<[u32; HEURISTIC_COUNT], NoMemory>
-    ensures { IfOk result (λ cycles. (lat : latencies_value) (block : block_value) → graph.now ≡ of_block lat block.ops
-        → AreCounts lat block cycles) }
+    ensures { IfOk result (λ cycles. (rule : rule_value) (lat : latencies_value) (block : block_value)
+        → graph.now ≡ of_block rule lat block.ops → AreCounts rule lat block cycles) }
 {
     let mut cycles = [0; HEURISTIC_COUNT];
     for (place, heuristic) in HEURISTICS.iter().enumerate() {
@@ -435,8 +438,8 @@ fn counts(scheduler: &mut Scheduler, graph: &Graph) -> Result<[u32; HEURISTIC_CO
 /// How many cycles the schedule of this graph's block by these numbers takes.
 fn count_by(scheduler: &mut Scheduler, graph: &Graph, numbers: &[u32]) -> Result<u32, NoMemory>
     requires { length numbers.now ≡ length graph.now.ops }
-    ensures { IfOk result (λ cycles. (lat : latencies_value) (block : block_value) → graph.now ≡ of_block lat block.ops
-        → IsCountBy (λ _. numbers.now) lat block cycles) }
+    ensures { IfOk result (λ cycles. (rule : rule_value) (lat : latencies_value) (block : block_value)
+        → graph.now ≡ of_block rule lat block.ops → IsCountUnder rule (λ _. numbers.now) lat block cycles) }
 {
     let schedule = scheduler.lend(graph, numbers)?;
     let cycles = count_of(&schedule, graph.latencies());
@@ -451,8 +454,8 @@ fn own_count(
     own: Option<&[u32]>,
 ) -> Result<Option<u32>, NoMemory>
     requires { IfSome (option_copied own) (λ numbers. length numbers ≡ length graph.now.ops) }
-    ensures { IfOk result (λ count. (lat : latencies_value) (block : block_value) → graph.now ≡ of_block lat block.ops
-        → IsOwnCount lat (option_copied own.entry) block count) }
+    ensures { IfOk result (λ count. (rule : rule_value) (lat : latencies_value) (block : block_value)
+        → graph.now ≡ of_block rule lat block.ops → IsOwnCount rule lat (option_copied own.entry) block count) }
 {
     match own {
         Some(numbers) => Ok(Some(count_by(scheduler, graph, numbers)?)),
@@ -461,6 +464,7 @@ fn own_count(
 }
 
 impl FarmedLister for CompareLister {
+    ghost use Rattle.iloc_args.specs.Rule.{memory_rule};
     ghost use Rattle.iloc_rules.specs.declared.heuristic.Heuristic.TheVariants.{Chain};
     ghost use Rattle.iloc_block_commands.specs.Compare.{IsCompareListing, IsComparedCycles, cycles_by, listing_of_compared};
     ghost use Rattle.iloc_driver.specs.Entries.{AreListed};
@@ -469,7 +473,8 @@ impl FarmedLister for CompareLister {
 
     type Answer = ComparedCycles;
 
-    ghost answers = { λ request own _ block found. IsComparedCycles request.latencies request.nodes own block found };
+    ghost answers = { λ request own _ block found.
+        IsComparedCycles (memory_rule request) request.latencies request.nodes own block found };
 
     ghost cycles_in = { λ found. cycles_by Chain found };
 
@@ -493,7 +498,8 @@ impl FarmedLister for CompareLister {
         _number: usize,
         block: &Block,
     ) -> Result<ComparedCycles, NoMemory> {
-        self.graph.refill(block, &request.latencies)?;
+        self.graph
+            .refill(request.memory_rule(), block, &request.latencies)?;
         let least = least_of(alloc, &self.graph)?;
         let sought = self.optimizer.seek_if(block, &self.graph, request.nodes)?;
         let cycles = counts(&mut self.scheduler, &self.graph)?;
@@ -520,7 +526,8 @@ impl FarmedLister for CompareLister {
         requires many { length found.items ≡ length blocks }
         ensures made { IfOk result (λ text. text ≡ listing_of_compared request.now blocks found.items) }
         ensures right { IfOk result (λ text. (own : Own)
-            → AreListed (by_own (λ own _ block each. IsComparedCycles request.now.latencies request.now.nodes own block each) own)
+            → AreListed (by_own (λ own _ block each.
+            IsComparedCycles (memory_rule request.now) request.now.latencies request.now.nodes own block each) own)
             blocks found.items → IsCompareListing request.now own blocks text) }
     {
         let csv = request.flags.has(Flag::Csv);

@@ -19,6 +19,7 @@ pub struct OptimizeLister {
 }
 
 impl FarmedLister for OptimizeLister {
+    ghost use Rattle.iloc_args.specs.Rule.{memory_rule};
     ghost use Rattle.iloc_block_commands.specs.Optimize.{IsOptimizeEntry, IsOptimizeListing};
     ghost use Rattle.iloc_listing.specs.Listing.{listing_of_entries};
     ghost use Rattle.iloc_driver.specs.Entries.{AreListed};
@@ -27,7 +28,8 @@ impl FarmedLister for OptimizeLister {
 
     type Answer = ScheduleEntry;
 
-    ghost answers = { λ request _ k block entry. IsOptimizeEntry request.latencies k block entry.text entry.cycles };
+    ghost answers = { λ request _ k block entry.
+        IsOptimizeEntry (memory_rule request) request.latencies k block entry.text entry.cycles };
 
     ghost cycles_in = { λ entry. entry.cycles };
 
@@ -53,7 +55,7 @@ impl FarmedLister for OptimizeLister {
     ) -> Result<ScheduleEntry, NoMemory> {
         let latencies = &request.latencies;
         let nodes = request.nodes.unwrap_or(0);
-        self.graph.refill(block, latencies)?;
+        self.graph.refill(request.memory_rule(), block, latencies)?;
         let optimum = self.optimizer.optimize(block, &self.graph, nodes)?;
         let bound = Some(optimum.bound);
         let entry = self
@@ -77,7 +79,8 @@ impl FarmedLister for OptimizeLister {
         requires many { length entries.items ≡ length blocks }
         ensures made { IfOk result (λ text. text ≡ listing_of_entries entries.items) }
         ensures right { IfOk result (λ text. (own : Own)
-            → AreListed (by_own (λ _ k block entry. IsOptimizeEntry _request.now.latencies k block entry.text entry.cycles) own)
+            → AreListed (by_own (λ _ k block entry.
+            IsOptimizeEntry (memory_rule _request.now) _request.now.latencies k block entry.text entry.cycles) own)
             blocks entries.items → IsOptimizeListing _request.now own blocks text) }
     {
         drop(blocks);

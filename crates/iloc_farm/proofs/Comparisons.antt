@@ -4,8 +4,8 @@ use Rattle.std.proofs.lemmas.Bool.{eqb-true}
 use Rattle.std.specs.Option.{option_map_or}
 use Rattle.iloc_ops.specs.declared.file.Block.{Block}
 use Rattle.iloc_timed.specs.declared.latencies.Latencies.{Latencies}
-use Rattle.iloc_rules.specs.Least.{least}
-use Rattle.iloc_bound.proofs.LeastBound.{least_bound}
+use Rattle.iloc_bound.proofs.LeastBound.{ruled_least_bound}
+use Rattle.iloc_rules.specs.declared.memory_rule.MemoryRule.{MemoryRule}
 use Rattle.iloc_rules.specs.declared.sought.Sought.{Sought}
 use Rattle.iloc_optimum.specs.Bound.{IsBound}
 use Rattle.iloc_block_commands.specs.Compare.{IsComparedCycles, bound_of, optimal}
@@ -15,16 +15,16 @@ use Rattle.iloc_listing.specs.Listing.{cycles_of}
 use Rattle.iloc_block_commands.specs.declared.compare.ComparedCycles.{ComparedCycles}
 
 -- the bound that is known holds
-bound_holds : (lat : Latencies) (nodes : Option ℕ) (numbers : Option (List ℕ)) (b : Block) (c : ComparedCycles)
-    → IsComparedCycles lat nodes numbers b c → IsBound lat b.ops (bound_of c)
-bound_holds lat nodes numbers b c is = go nodes c.sought is.sought
+bound_holds : (rule : MemoryRule) (lat : Latencies) (nodes : Option ℕ) (numbers : Option (List ℕ)) (b : Block) (c : ComparedCycles)
+    → IsComparedCycles rule lat nodes numbers b c → IsBound rule lat b.ops (bound_of c)
+bound_holds rule lat nodes numbers b c is = go nodes c.sought is.sought
   where
-    go : (nodes : Option ℕ) (sought : Option Sought) → IsSoughtIf nodes lat b.ops sought
-        → IsBound lat b.ops (option_map_or (λ (s : Sought). s.bound) sought c.least)
-    go None None none = subst (IsBound lat b.ops) (sym is.bound) (least_bound lat b.ops)
+    go : (nodes : Option ℕ) (sought : Option Sought) → IsSoughtIf nodes rule lat b.ops sought
+        → IsBound rule lat b.ops (option_map_or (λ (s : Sought). s.bound) sought c.least)
+    go None None none = subst (IsBound rule lat b.ops) (sym is.bound) (ruled_least_bound rule lat b.ops)
     go None (Some s) none = absurd cc
     go (Some n) None none = absurd none
-    go (Some n) (Some s) seeks = subst (IsBound lat b.ops) (sym seeks.bound) seeks.found.bound
+    go (Some n) (Some s) seeks = subst (IsBound rule lat b.ops) (sym seeks.bound) seeks.found.bound
 
 -- what counts as 1 holds
 is_one : (b : Bool) (n : ℕ) → n ≡ 1 → n ≡ (if b then 1 else 0) → b ≡ true
@@ -33,12 +33,12 @@ is_one false n one is = absurd (omega (arith, one, is))
 
 -- a schedule that is counted as optimal is
 pub counted_optima : CountedOptimaAreOptimal
-counted_optima lat nodes numbers b c is prios cycles count counted s greedy =
+counted_optima rule lat nodes numbers b c is prios cycles count counted s greedy =
     let reached : cycles ≡ bound_of c =
     eqb-true cycles (bound_of c) (is_one (cycles == bound_of c) (optimal cycles c) counted refl) in
     let same : s ≡ count.schedule = count.greedy.only s greedy in
     let reaches : bound_of c ≡ cycles_of lat s = sym reached ∙ (count.counted ∙ ap (cycles_of lat) (sym same)) in
     record {
       lawful = greedy.lawful;
-      fewest = subst (IsBound lat b.ops) reaches (bound_holds lat nodes numbers b c is);
+      fewest = subst (IsBound rule lat b.ops) reaches (bound_holds rule lat nodes numbers b c is);
     }

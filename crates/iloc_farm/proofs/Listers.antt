@@ -54,6 +54,9 @@ one_said true prios rule lat bound block s text text' said said' = said ∙ sym 
 one_said false prios rule lat bound block s text text' said said' =
     one_explanation prios rule lat bound block s.ops s.rows s.ops text text' said said'
 
+pub rule_same : (r q : Request) → AskAlike r q → memory_rule r ≡ memory_rule q
+rule_same r q alike = λ i. if has (alike.flags i) Disambiguate then Address else Book
+
 module _ (r q : Request) (alike : AskAlike r q) (k : ℕ) (b : Block) where
   run_same : (e e' : List ℕ) (f f' : Unit {0}) → IsRunEntry r k b e f → IsRunEntry q k b e' f' → (e ≡ e') × (f ≡ f')
   run_same e e' f f' is is' = grind (arith, one_memory, one_shown, transport)
@@ -81,9 +84,6 @@ module _ (r q : Request) (alike : AskAlike r q) (k : ℕ) (b : Block) where
       → IsTheGreedyBy (ranks q.priority q.latencies own) q.latencies b s' → s ≡ s'
   same_ranked own s s' is is' = same_ruled Book Book refl own s s' is is'
 
-  rule_same : memory_rule r ≡ memory_rule q
-  rule_same = λ i. if has (alike.flags i) Disambiguate then Address else Book
-
   cycles_same : (s s' : Table) (c c' : ℕ) → s ≡ s' → c ≡ cycles_of r.latencies s → c' ≡ cycles_of q.latencies s' → c ≡ c'
   cycles_same s s' c c' same is is' =
       is ∙ (ap (λ lat. cycles_of lat s) alike.latencies ∙ (ap (cycles_of q.latencies) same ∙ sym is'))
@@ -92,7 +92,7 @@ module _ (r q : Request) (alike : AskAlike r q) (k : ℕ) (b : Block) where
       → IsScheduleEntry q own k b e' c' → (e ≡ e') × (c ≡ c')
   schedule_same own e e' c c' is is' =
       let same : is.schedule ≡ is'.schedule =
-      same_ruled (memory_rule r) (memory_rule q) rule_same own is.schedule is'.schedule is.greedy is'.greedy in (
+      same_ruled (memory_rule r) (memory_rule q) (rule_same r q alike) own is.schedule is'.schedule is.greedy is'.greedy in (
         is.listed ∙ (ap₂ (λ lat s. schedule_entry lat k b.name s) alike.latencies same ∙ sym is'.listed),
         cycles_same is.schedule is'.schedule c c' same is.counted is'.counted,
       )
@@ -101,7 +101,7 @@ module _ (r q : Request) (alike : AskAlike r q) (k : ℕ) (b : Block) where
       → (e ≡ e') × (c ≡ c')
   count_same own e e' c c' is is' =
       let same : is.schedule ≡ is'.schedule =
-      same_ruled (memory_rule r) (memory_rule q) rule_same own is.schedule is'.schedule is.greedy is'.greedy in
+      same_ruled (memory_rule r) (memory_rule q) (rule_same r q alike) own is.schedule is'.schedule is.greedy is'.greedy in
       let as_many : cycles_of r.latencies is.schedule ≡ cycles_of q.latencies is'.schedule =
       cycles_same is.schedule is'.schedule _ _ same refl refl in (
         is.listed ∙ (ap₂ (λ flags n. count_line (has flags Csv) k b.name n) alike.flags as_many ∙ sym is'.listed),
@@ -112,9 +112,9 @@ module _ (r q : Request) (alike : AskAlike r q) (k : ℕ) (b : Block) where
       → IsCompareEntry q own k b e' c' → (e ≡ e') × (c ≡ c')
   compare_same own settled e e' c c' is is' =
       let none : q.nodes ≡ None = sym alike.nodes ∙ settled in
-      let same : c ≡ c' = one_comparison q.latencies own b c c'
-      (transport (λ i. IsComparedCycles (alike.latencies i) (settled i) own b c) is.compares)
-      (transport (λ i. IsComparedCycles q.latencies (none i) own b c') is'.compares) in
+      let same : c ≡ c' = one_comparison (memory_rule q) q.latencies own b c c'
+      (transport (λ i. IsComparedCycles (rule_same r q alike i) (alike.latencies i) (settled i) own b c) is.compares)
+      (transport (λ i. IsComparedCycles (memory_rule q) q.latencies (none i) own b c') is'.compares) in
       (is.listed ∙ (ap₂ (λ flags x. compare_line (has flags Csv) k b.name x) alike.flags same ∙ sym is'.listed), same)
 
   explain_same : (own : Option (List ℕ)) (e e' : List ℕ) (c c' : ℕ) → IsExplainEntry r own k b e c

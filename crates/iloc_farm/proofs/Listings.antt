@@ -27,7 +27,7 @@ use Rattle.iloc_driver.specs.Run.Apart.{Held}
 use Rattle.iloc_driver.specs.Run.{IsListingFor, ListsAs, takes_rows}
 use Rattle.iloc_driver.specs.declared.commands.Finding.{Finding}
 use Rattle.iloc_driver.proofs.Entries.{listing_after_also}
-use Rattle.iloc_farm.proofs.Listers.{of_one_task, one_memory}
+use Rattle.iloc_farm.proofs.Listers.{of_one_task, one_memory, rule_same}
 use Rattle.iloc_listing.proofs.Schedules.{greedy_long, total_small}
 
 pub ignore_workers : ListingsIgnoreWorkers
@@ -60,7 +60,7 @@ optima_ignore_workers r q alike task.Schedule seeks own blocks text lists = absu
 optima_ignore_workers r q alike task.Counts seeks own blocks text lists = absurd cc
 optima_ignore_workers r q alike task.Compare seeks own blocks text lists = compared_alike r q alike own blocks text lists
 optima_ignore_workers r q alike task.Optimize seeks own blocks text lists =
-    transport (λ i. IsListingOf (IsOptimizeEntry (alike.latencies i)) total_of_all blocks text) lists
+    transport (λ i. IsListingOf (IsOptimizeEntry (rule_same r q alike i) (alike.latencies i)) total_of_all blocks text) lists
 optima_ignore_workers r q alike task.Explain seeks own blocks text lists = absurd cc
 optima_ignore_workers r q alike task.Check seeks own blocks text lists = absurd cc
 optima_ignore_workers r q alike task.Graph seeks own blocks text lists = absurd cc

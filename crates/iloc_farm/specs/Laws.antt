@@ -11,9 +11,11 @@ use Rattle.iloc_timed.specs.declared.latencies.Latencies.{Latencies}
 use Rattle.iloc_timed.specs.declared.row.Row.{Row}
 use Rattle.iloc_timed.specs.Cycles.{cycles}
 use Rattle.iloc_timed.specs.Schedule.{Table}
-use Rattle.iloc_rules.specs.Greedy.{IsGreedyBy}
+use Rattle.iloc_rules.specs.Greedy.{IsGreedyWhere}
 use Rattle.iloc_rules.specs.Least.{least}
+use Rattle.iloc_rules.specs.Rule.{counts_by}
 use Rattle.iloc_rules.specs.declared.heuristic.Heuristic.{Heuristic}
+use Rattle.iloc_rules.specs.declared.memory_rule.MemoryRule.{MemoryRule}
 use Rattle.iloc_optimum.specs.Bound.{IsOptimal}
 use Rattle.iloc_rows.specs.declared.proposal.Proposed.{Proposed}
 use Rattle.iloc_validation.specs.ByTheBook.{IsByTheBook}
@@ -40,7 +42,7 @@ use Rattle.iloc_listing.specs.Listing.{total_cycles}
 use Rattle.iloc_driver.specs.Priorities.{Own}
 use Rattle.iloc_driver.specs.Program.{Args, AskFor, Ends}
 use Rattle.iloc_driver.specs.Run.{IsListing, IsListingFor, ListsFrom, takes_rows}
-use Rattle.iloc_listing.specs.Schedules.{AreGreedyAs, IsCountBy}
+use Rattle.iloc_listing.specs.Schedules.{AreGreedyAs, IsCountUnder}
 
 -- the requests ask for the same, but maybe of other workers
 pub record AskAlike (r q : Request) : Type 0 where
@@ -75,18 +77,20 @@ OptimaIgnoreWorkers = (r q : Request) → AskAlike r q → (t : Task) → search
     → (own : Own) (blocks : List Block) (text : List ℕ)
     → IsListingFor command_of t r own blocks text → IsListingFor command_of t q own blocks text
 
--- a schedule that is listed with a bound which its cycles reach is optimal among the lawful ones of its block
+-- by any rule of memory, a schedule that is listed with a bound which its cycles reach is optimal among those of its block that are
+-- lawful by the rule
 abbrev pub ListedOptimaAreOptimal : Type 0
-ListedOptimaAreOptimal = (lat : Latencies) (k : ℕ) (b : Block) (entry : List ℕ) (cycles : ℕ)
-    → (is : IsOptimizeEntry lat k b entry cycles) → cycles ≡ is.best.bound
-    → IsOptimal lat b.ops is.best.schedule.ops is.best.schedule.rows
+ListedOptimaAreOptimal = (rule : MemoryRule) (lat : Latencies) (k : ℕ) (b : Block) (entry : List ℕ) (cycles : ℕ)
+    → (is : IsOptimizeEntry rule lat k b entry cycles) → cycles ≡ is.best.bound
+    → IsOptimal rule lat b.ops is.best.schedule.ops is.best.schedule.rows
 
--- a schedule, greedy by whatever priorities, that is counted as optimal beside a comparison of its block is so among the lawful ones
+-- so is one, greedy by whatever priorities, that is counted as optimal beside a comparison of its block
 abbrev pub CountedOptimaAreOptimal : Type 0
-CountedOptimaAreOptimal = (lat : Latencies) (nodes : Option ℕ) (numbers : Option (List ℕ)) (b : Block) (c : ComparedCycles)
-    → IsComparedCycles lat nodes numbers b c → (prios : List Op → List ℕ) (cycles : ℕ) → IsCountBy prios lat b cycles
-    → optimal cycles c ≡ 1 → (s : Table) → IsGreedyBy (prios s.ops) lat b.ops s.ops s.rows
-    → IsOptimal lat b.ops s.ops s.rows
+CountedOptimaAreOptimal = (rule : MemoryRule) (lat : Latencies) (nodes : Option ℕ) (numbers : Option (List ℕ)) (b : Block)
+    (c : ComparedCycles) → IsComparedCycles rule lat nodes numbers b c → (prios : List Op → List ℕ) (cycles : ℕ)
+    → IsCountUnder rule prios lat b cycles → optimal cycles c ≡ 1
+    → (s : Table) → IsGreedyWhere (counts_by rule s.ops) (prios s.ops) lat b.ops s.ops s.rows
+    → IsOptimal rule lat b.ops s.ops s.rows
 
 -- what is listed of blocks as what comes of their schedules is what is listed as what comes of them, where it isn't asked at
 -- which place they fault

@@ -17,14 +17,15 @@ pub fn optima_ignore_workers()
 
 /// Where `optimize` says `optimal`, it is so.
 ///
-/// Promise: a schedule that is listed with a bound which its cycles reach is optimal among the lawful ones of its block.
+/// Promise: a schedule that is listed with a bound which its cycles reach is optimal among those of its block that are lawful by
+/// the rule of memory.
 pub fn listed_optima_are_optimal()
     ensures { ListedOptimaAreOptimal }
 {}
 
 /// Where `compare` counts a schedule as optimal, it is so.
 ///
-/// Promise: a greedy schedule that is counted so is optimal among the lawful ones of its block.
+/// Promise: a greedy schedule that is counted so is optimal among those of its block that are lawful by the rule of memory.
 pub fn counted_optima_are_optimal()
     ensures { CountedOptimaAreOptimal }
 {}

@@ -1,7 +1,8 @@
 use Rattle.std.proofs.Common.{◌≤◌, ap, arith, subst, ◌∙◌}
 use Rattle.std.specs.Prelude.{option_copied}
-use Rattle.iloc_sched.specs.Graph.GraphOf.{GraphOf}
-use Rattle.iloc_rules.specs.Least.{least, least_of}
+use Rattle.iloc_sched.specs.Graph.GraphOf.{GraphOf, of_block}
+use Rattle.iloc_bound.specs.Bound.{least_of_under, least_under}
+use Rattle.iloc_args.specs.Rule.{memory_rule}
 use Rattle.iloc_rules.specs.declared.heuristic.Heuristic.TheVariants.{Chain}
 use Rattle.iloc_optimum.specs.Optimum.{IsSoughtIf}
 use Rattle.iloc_listing.specs.Limits.{most_cycles}
@@ -18,22 +19,25 @@ own_count-requires c =
 
 pub overflow_cast-result : goal.overflow_cast-result
 overflow_cast-result c =
+    let rule = c.memory_rule.result in
     let lat = c.args.request.now.latencies in
     let block = c.args.block.now in
     let graph = c.in_ok-refill.ensures.graph in
-    let small : least lat block.ops ≤ most_cycles =
-    bound_small Chain lat block _ ((c.in_ok-cycles.ensures lat block graph).each Chain) c.requires.short in
-    rw (c.in_ok-least.ensures ∙ ap (λ (g : GraphOf). least_of g.latencies g.ops) graph) (omega (arith, small))
+    let small : least_under rule lat block.ops ≤ most_cycles =
+    bound_small rule Chain lat block _ ((c.in_ok-cycles.ensures rule lat block graph).each Chain) c.requires.short in
+    rw (c.in_ok-least.ensures ∙ ap (λ (g : GraphOf). least_of_under g.rule g.latencies g.ops) graph) (omega (arith, small))
 
 pub returns : goal.returns
 returns c =
-    let lat = c.args.request.now.latencies in
+    let request = c.args.request.now in
+    let rule = memory_rule request in
+    let lat = request.latencies in
     let block = c.args.block.now in
-    let graph = c.in_ok-refill.ensures.graph in
+    let graph = c.in_ok-refill.ensures.graph ∙ ap (λ rule. of_block rule lat block.ops) c.memory_rule.ensures in
     record {
-      bound = c.in_ok-least.ensures ∙ ap (λ (g : GraphOf). least_of g.latencies g.ops) graph;
-      sought = subst (λ (g : GraphOf). IsSoughtIf c.args.request.now.nodes g.latencies block.ops c.in_ok-sought.sought) graph
+      bound = c.in_ok-least.ensures ∙ ap (λ (g : GraphOf). least_of_under g.rule g.latencies g.ops) graph;
+      sought = subst (λ (g : GraphOf). IsSoughtIf request.nodes g.rule g.latencies block.ops c.in_ok-sought.sought) graph
           c.in_ok-sought.ensures;
-      counts = c.in_ok-cycles.ensures lat block graph;
-      own = c.in_ok-own.ensures lat block graph;
+      counts = c.in_ok-cycles.ensures rule lat block graph;
+      own = c.in_ok-own.ensures rule lat block graph;
     }

@@ -1,6 +1,7 @@
-use Rattle.std.proofs.Common.{ap, subst}
-use Rattle.iloc_sched.specs.Graph.GraphOf.{GraphOf}
+use Rattle.std.proofs.Common.{ap, subst, ◌∙◌}
+use Rattle.iloc_sched.specs.Graph.GraphOf.{GraphOf, of_block}
 use Rattle.iloc_optimum.specs.Optimum.{IsOptimumOf}
+use Rattle.iloc_args.specs.Rule.{memory_rule}
 use Rattle.iloc_block_commands.proofs.Listers.{optimum_is}
 use Rattle.iloc_block_commands.proofs.optimize.OptimizeListerFarmedLister.answer.Goals as goal
 
@@ -10,7 +11,9 @@ optimize-requires c = ap (λ (g : GraphOf). g.ops) c.in_ok-refill.ensures.graph
 pub returns : goal.returns
 returns c =
     let block = c.args.block.now in
-    let found = subst (λ (g : GraphOf). IsOptimumOf g.latencies block.ops c.in_ok-optimum.optimum) c.in_ok-refill.ensures.graph
+    let request = c.args.request.now in
+    let graph = c.in_ok-refill.ensures.graph ∙ ap (λ rule. of_block rule request.latencies block.ops) c.memory_rule.ensures in
+    let found = subst (λ (g : GraphOf). IsOptimumOf g.rule g.latencies block.ops c.in_ok-optimum.optimum) graph
     c.in_ok-optimum.ensures in
-    optimum_is c.args.request.now.latencies c.args.number block c.in_ok-optimum.optimum found c.in_ok-entry.entry.text
+    optimum_is (memory_rule request) request.latencies c.args.number block c.in_ok-optimum.optimum found c.in_ok-entry.entry.text
     c.in_ok-entry.entry.cycles c.in_ok-entry.ensures.text c.in_ok-entry.ensures.cycles

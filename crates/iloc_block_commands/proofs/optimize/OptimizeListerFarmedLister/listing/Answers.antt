@@ -1,4 +1,5 @@
 use Rattle.std.proofs.lemmas.Result.{IfOk-weaker}
+use Rattle.iloc_args.specs.Rule.{memory_rule}
 use Rattle.iloc_block_commands.specs.Optimize.{IsOptimizeEntry}
 use Rattle.iloc_listing.specs.Listing.{total_of_all}
 use Rattle.iloc_driver.proofs.Entries.{made_listing}
@@ -13,5 +14,5 @@ returns-clause-made c = c.with_total.ensures
 pub returns-clause-right : goal.returns-clause-right
 returns-clause-right c =
     IfOk-weaker c.with_total.result _ _
-    (λ text is. λ own are. made_listing (IsOptimizeEntry c.args._request.now.latencies) (λ e. e.text) (λ e. e.cycles) total_of_all
+    (λ text is. λ own are. made_listing (IsOptimizeEntry (memory_rule c.args._request.now) c.args._request.now.latencies) (λ e. e.text) (λ e. e.cycles) total_of_all
     c.args.blocks c.args.entries.items text are is) c.with_total.ensures
