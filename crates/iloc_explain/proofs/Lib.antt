@@ -5,7 +5,6 @@ pub mod ChainLengths
 pub mod CountedPairs
 pub mod Links
 pub mod ReadyCycles
-pub mod KeptPairs
 pub mod Waits
 pub mod OneReadyCycle
 pub mod Stretches

@@ -22,3 +22,4 @@ pub use counted::Counted;
 pub use cycle_lines::push_ready_list;
 pub use listing::push_explanation;
 pub use measures::Measures;
+pub use waited::has_delay;

@@ -54,8 +54,8 @@ fn puts_delay_where(
     uses_result(first, second) && latency(first, latencies) == delay
 }
 
-/// Whether operation i puts this delay on operation j.
-pub(crate) fn has_delay(
+/// Promise: Whether operation i puts this delay on operation j, which comes later, by the rule of memory.
+pub fn has_delay(
     ops: &[Op],
     latencies: &Latencies,
     counted: &Counted,
