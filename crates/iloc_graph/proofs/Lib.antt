@@ -1,4 +1,3 @@
-pub mod ByTheBook
 pub mod Lists
 pub mod Pairs
 pub mod Waiting

@@ -7,9 +7,9 @@ use Rattle.iloc_ops.specs.declared.op.Op.{Op}
 use Rattle.iloc_meaning.specs.Trace.{op_at}
 use Rattle.iloc_timed.specs.declared.latencies.Latencies.{Latencies}
 use Rattle.iloc_rules.specs.declared.memory_rule.MemoryRule.{MemoryRule}
-use Rattle.iloc_rules.specs.declared.memory_rule.MemoryRule.TheVariants.{Book}
-use Rattle.iloc_rules.specs.Delays.{delays}
-use Rattle.iloc_sched.specs.Graph.Near.{IsNearPair}
+use Rattle.iloc_rules.specs.Delays.{delays_where}
+use Rattle.iloc_rules.specs.Rule.{counts_by}
+use Rattle.iloc_sched.specs.Graph.Near.{IsNearPairBy}
 use Rattle.iloc_sched.specs.declared.edges.Edge.{Edge}
 use Rattle.iloc_rules.specs.Steps.Members.{In}
 use Rattle.iloc_rules.proofs.Basics.Members.{contains_from, from_filter, from_map, from_range, in_at, in_filter, in_from, in_map, in_range_from}
@@ -18,46 +18,46 @@ use Rattle.iloc_rules.proofs.Basics.Rising.{rises_range, rises_same}
 use Rattle.iloc_graph.specs.Nearest.{is_nearest, sources}
 use Rattle.iloc_graph.specs.Steps.InOrder.{IsInOrder}
 use Rattle.iloc_graph.proofs.Lists.{rises_from}
-use Rattle.iloc_graph.proofs.Waiting.{delayed, nearest}
+use Rattle.iloc_graph.proofs.Waiting.{delayed, near_by, near_under, nearest}
 
-module _ (lat : Latencies) (ops : List Op) (j : ℕ) (there : j < length ops) (edges : List Edge)
-    (each : All (λ (e : Edge). (e.to ≡ j) × IsNearPair lat ops e.from j e.delay) edges)
-    (all : (i d : ℕ) → IsNearPair lat ops i j d → Any (λ (e : Edge). (e.from ≡ i) × (d ≤ e.delay)) edges) where
+module _ (rule : MemoryRule) (lat : Latencies) (ops : List Op) (j : ℕ) (there : j < length ops) (edges : List Edge)
+    (each : All (λ (e : Edge). (e.to ≡ j) × IsNearPairBy rule lat ops e.from j e.delay) edges)
+    (all : (i d : ℕ) → IsNearPairBy rule lat ops i j d → Any (λ (e : Edge). (e.from ≡ i) × (d ≤ e.delay)) edges) where
   abbrev froms : List ℕ
   froms = map (λ (e : Edge). e.from) edges
 
-  nearest_from : (i : ℕ) → Contains froms i → (i < j) × (is_nearest Book ops j i ≡ true)
+  nearest_from : (i : ℕ) → Contains froms i → (i < j) × (is_nearest rule ops j i ≡ true)
   nearest_from i held =
       let found = from_map (λ (e : Edge). e.from) edges i (in_from froms i held) in
       let at = contains_from edges found.0 found.1 in
-      let near : IsNearPair lat ops found.0.from j found.0.delay =
-      subst (λ (e : Edge). IsNearPair lat ops e.from j e.delay) at.2 (each at.0 found.0 at.1).1 in
-      subst (λ k. (k < j) × (is_nearest Book ops j k ≡ true)) found.2
-      (near.order, nearest Book lat ops found.0.from j found.0.delay near.near)
+      let near : IsNearPairBy rule lat ops found.0.from j found.0.delay =
+      subst (λ (e : Edge). IsNearPairBy rule lat ops e.from j e.delay) at.2 (each at.0 found.0 at.1).1 in
+      subst (λ k. (k < j) × (is_nearest rule ops j k ≡ true)) found.2
+      (near.order, nearest rule lat ops found.0.from j found.0.delay (near_under rule lat ops found.0.from j found.0.delay near.near))
 
-  nearest_into : (i : ℕ) → i < j → is_nearest Book ops j i ≡ true → In froms i
+  nearest_into : (i : ℕ) → i < j → is_nearest rule ops j i ≡ true → In froms i
   nearest_into i before is =
-      let delay = delayed Book lat ops i j is in
-      let near : IsNearPair lat ops i j delay.0 = record {
+      let delay = delayed rule lat ops i j is in
+      let near : IsNearPairBy rule lat ops i j delay.0 = record {
         order = before;
         within = there;
-        delay = contains_from (delays lat (op_at ops i) (op_at ops j)) delay.0 delay.1;
-        near = delay.2;
+        delay = contains_from (delays_where (counts_by rule ops i j) lat (op_at ops i) (op_at ops j)) delay.0 delay.1;
+        near = near_by rule lat ops i j delay.0 delay.2;
       } in
       let found = all i delay.0 near in
       subst (In froms) found.4.0
       (in_map (λ (e : Edge). e.from) edges found.1 (in_from edges found.1 (found.0, found.2, found.3)))
 
-  pub sources_are : (sorted : List ℕ) → IsInOrder froms sorted → sorted ≡ sources Book ops j
+  pub sources_are : (sorted : List ℕ) → IsInOrder froms sorted → sorted ≡ sources rule ops j
   sources_are sorted order =
-      rises_same sorted (sources Book ops j) (rises_from sorted (AllPairs-from_increasing sorted order.rises))
-      (ordered_filter (λ (x y : ℕ). x < y) (is_nearest Book ops j) (range_with_len 0 j) (rises_range 0 j))
+      rises_same sorted (sources rule ops j) (rises_from sorted (AllPairs-from_increasing sorted order.rises))
+      (ordered_filter (λ (x y : ℕ). x < y) (is_nearest rule ops j) (range_with_len 0 j) (rises_range 0 j))
       (λ i held.
       let h = nearest_from i (order.from i (contains_from sorted i held)) in
       let before : i < j = h.0 in
-      in_filter (is_nearest Book ops j) (range_with_len 0 j) i (in_range_from 0 j i (omega arith) (omega arith)) h.1)
+      in_filter (is_nearest rule ops j) (range_with_len 0 j) i (in_range_from 0 j i (omega arith) (omega arith)) h.1)
       (λ i held.
-      let h = from_filter (is_nearest Book ops j) (range_with_len 0 j) i held in
+      let h = from_filter (is_nearest rule ops j) (range_with_len 0 j) i held in
       let before : (0 ≤ i) × (i < 0 + j) = from_range 0 j i h.0 in
       in_from sorted i (order.all i (contains_from froms i (nearest_into i (omega arith) h.1))))
 

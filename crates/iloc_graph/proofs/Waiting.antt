@@ -23,6 +23,7 @@ use Rattle.iloc_rules.proofs.Basics.Maxima.{fold_max_each, fold_max_reached}
 use Rattle.iloc_rules.proofs.Basics.Members.{any_at, contains_from, from_append, from_filter, from_map, from_range, in_filter, in_from, in_left, in_map, in_range_from, in_right}
 use Rattle.iloc_rules.proofs.DelayPairs.DelayBounds.{delay_at_least_where, from_when, in_when}
 use Rattle.iloc_addresses.proofs.FarPairs as by_addresses
+use Rattle.iloc_sched.specs.Graph.Near.{IsNearBy}
 use Rattle.iloc_sched.proofs.KeptEdges.FarPairs as by_the_book
 use Rattle.iloc_graph.specs.Laws.{NearestPairsImplyAll, WaitsForNearest}
 use Rattle.iloc_graph.specs.Nearest.{is_nearest, is_ordered, is_taken_over, longest_delay, nearest_pairs, nearest_to, pair_of, sources, takes_over_by}
@@ -40,6 +41,17 @@ pub near_or_by_way : (rule : MemoryRule) (lat : Latencies) (ops : List Op) (i j 
     → IsNearUnder rule lat ops i j d ⊎ GoesBy (counts_by rule ops) lat ops i j d
 near_or_by_way Book lat ops i j d pair = by_the_book.near_or_by_way lat ops i j d pair
 near_or_by_way Address lat ops i j d pair = by_addresses.near_or_by_way (by_address ops) lat ops i j d pair
+
+-- that is the scheduler's, word for word
+pub near_under : (rule : MemoryRule) (lat : Latencies) (ops : List Op) (i j d : ℕ) → IsNearBy rule lat ops i j d
+    → IsNearUnder rule lat ops i j d
+near_under Book lat ops i j d near = near
+near_under Address lat ops i j d near = near
+
+pub near_by : (rule : MemoryRule) (lat : Latencies) (ops : List Op) (i j d : ℕ) → IsNearUnder rule lat ops i j d
+    → IsNearBy rule lat ops i j d
+near_by Book lat ops i j d near = near
+near_by Address lat ops i j d near = near
 
 -- a delay by memory or outputs is between operations of which one comes after the other
 ordered : (counts : Bool) (lat : Latencies) (i j : Op) (d : ℕ) → Contains (memory_delays_where counts lat i j) d

@@ -3,16 +3,14 @@ ghost use Rattle.std.specs.Prelude.{◌≡◌, ◌++◌, List, ℕ, length, OnOk
 ghost use Rattle.std.specs.Fmt.{decimal};
 ghost use Rattle.std.specs.List.{flat_map};
 ghost use Rattle.std.specs.Option.{option_copied};
-ghost use Rattle.iloc_rules.specs.declared.memory_rule.MemoryRule.TheVariants.{Book};
 ghost use Rattle.iloc_rules.specs.Renaming.{renamed, without_nops};
-ghost use Rattle.iloc_rules.specs.declared.memory_rule.MemoryRule.TheVariants.{Book};
 ghost use Rattle.iloc_graph.specs.Listing as listed;
 ghost use Rattle.iloc_graph.specs.Listing.{IsCluster};
 
 use crate::nearest::nearest_pairs;
 use iloc_explain::{Counted, longest_chain};
 use iloc_ops::{Block, Name, NoMemory, Op, push_number, push_op};
-use iloc_rules::{MemoryRule, Pair};
+use iloc_rules::Pair;
 use iloc_sched::Graph;
 use iloc_timed::Kind;
 use std::alloc::Global;
@@ -229,7 +227,7 @@ fn push_chain(text: &mut Vec<u8>, number: usize, chain: &[usize]) -> Result<(), 
     }
 }
 
-/// Appends what draws the block of this graph, whose number is counted from 1: a cluster with a node for each operation, an edge for
+/// Appends what draws the block of this graph by its rule of memory, whose number is counted from 1: a cluster with a node for each operation, an edge for
 /// each nearest pair, labelled with its delay, and a longest chain of delays, which is marked. Where an allocation fails a
 /// part of it may follow the text.
 ///
@@ -241,17 +239,16 @@ pub fn push_cluster(
     block: &Block,
     graph: &Graph,
 ) -> Result<(), NoMemory>
-    requires graph { graph.now.ops ≡ renamed block.now.ops }
-    requires book { graph.now.rule ≡ Book }
+    requires { graph.now.ops ≡ renamed block.now.ops }
     ensures { OnOk result ((cluster : List ℕ)
-        × IsCluster Book graph.now.latencies number block.now.name block.now.ops cluster
+        × IsCluster graph.now.rule graph.now.latencies number block.now.name block.now.ops cluster
         × (text.new.items ≡ text.old.items ++ cluster)) }
 {
     let mut chains = Vec::new(alloc);
     graph.chains(&mut chains)?;
-    let pairs = nearest_pairs(alloc, graph)?;
     let (ops, latencies) = (graph.ops(), graph.latencies());
-    let counted = Counted::of(alloc, ops, MemoryRule::Book)?;
+    let counted = Counted::of(alloc, ops, graph.rule())?;
+    let pairs = nearest_pairs(alloc, graph, &counted)?;
     let chain = longest_chain(alloc, ops, latencies, &counted, &chains)?;
     push_head(text, number, block.name.as_ref())?;
     push_operations(text, number, block.ops.as_slice(), &chains)?;

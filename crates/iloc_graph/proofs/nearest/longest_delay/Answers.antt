@@ -1,18 +1,71 @@
-use Rattle.std.proofs.lemmas.Grind.{common_steps}
-use Rattle.std.proofs.Common.{fold, max, ◌≡◌, ℕ, ◌≤◌, List, arith}
-use Rattle.std.proofs.lemmas.List.{take_all}
-use Rattle.iloc_rules.specs.Pairs.{rising}
-use Rattle.iloc_rules.specs.Steps.Members.{In}
+use Rattle.std.proofs.Common.{◌≡◌, ℕ, ◌≤◌, Bool, List, ap, inl, inr, sym, subst, ◌∙◌, arith}
+use Rattle.std.specs.Prelude.{Contains}
+use Rattle.std.proofs.lemmas.Bool.{false≢true}
+use Rattle.std.proofs.lemmas.List.{get_or_default}
+use Rattle.iloc_ops.specs.declared.op.Op.{Op}
+use Rattle.iloc_ops.specs.declared.op.Op.TheVariants.{Nop}
+use Rattle.iloc_timed.specs.declared.latencies.Latencies.{Latencies}
+use Rattle.iloc_timed.specs.Latency.{latency}
+use Rattle.iloc_rules.specs.Delays.{delays_where}
 use Rattle.iloc_rules.proofs.Basics.Maxima.{fold_max_each, fold_max_reached}
-use Rattle.iloc_rules.proofs.DelayPairs.RisingDelays.{from_rising, in_rising}
+use Rattle.iloc_rules.proofs.Basics.Members.{contains_from, in_from}
+use Rattle.iloc_rules.proofs.DelayPairs.DelayBounds.{delay_at_most_where, delay_is_where}
+use Rattle.iloc_graph.specs.Nearest.{longest_delay}
 use Rattle.iloc_graph.proofs.nearest.longest_delay.Goals as goal
 
--- The longest of delays in order is the longest of them.
-longest_most : (xs ys : List ℕ) → ((z : ℕ) → In xs z → In ys z) → fold max 0 xs ≤ fold max 0 ys
-longest_most xs ys to = grind (arith, fold_max_reached, fold_max_each)
+-- A delay is the latency of the first or a cycle, so the longest is the latency where that is one of them.
+module _ (counts : Bool) (lat : Latencies) (a b : Op) where
+  abbrev all : List ℕ
+  all = delays_where counts lat a b
 
-longest_rising : (ds : List ℕ) → fold max 0 (rising ds) ≡ fold max 0 ds
-longest_rising ds = grind (arith, longest_most, from_rising, in_rising)
+  abbrev longest : ℕ
+  longest = longest_delay counts lat a b
 
-pub returns : goal.returns
-returns c = grind (arith, take_all, longest_rising, common_steps)
+  longest_own : Contains all (latency lat a) → latency lat a ≡ longest
+  longest_own there =
+      let most : latency lat a ≤ longest = fold_max_each 0 all (latency lat a) (in_from all (latency lat a) there) in
+      elim (fold_max_reached 0 all) [
+        | inl none ↦ let zero : longest ≡ 0 = none in omega arith
+        | inr reached ↦
+            let few : longest ≤ latency lat a = delay_at_most_where counts lat a b longest (contains_from all longest reached) in
+            omega arith
+      ]
+
+  longest_cycle : (Contains all (latency lat a) → ⊥) → Contains all 1 → 1 ≡ longest
+  longest_cycle without there =
+      let most : 1 ≤ longest = fold_max_each 0 all 1 (in_from all 1 there) in
+      elim (fold_max_reached 0 all) [
+        | inl none ↦ let zero : longest ≡ 0 = none in absurd (omega arith)
+        | inr reached ↦ elim (delay_is_where counts lat a b longest (contains_from all longest reached)) [
+            | inl own ↦ absurd (without (subst (Contains all) (sym own) (contains_from all longest reached)))
+            | inr a_cycle ↦ a_cycle
+          ]
+      ]
+  longest_none : (Contains all (latency lat a) → ⊥) → (Contains all 1 → ⊥) → 0 ≡ longest
+  longest_none without none_of_one = elim (fold_max_reached 0 all) [
+    | inl none ↦ sym none
+    | inr reached ↦ elim (delay_is_where counts lat a b longest (contains_from all longest reached)) [
+        | inl own ↦ absurd (without (subst (Contains all) (sym own) (contains_from all longest reached)))
+        | inr a_cycle ↦ absurd (none_of_one (subst (Contains all) (sym a_cycle) (contains_from all longest reached)))
+      ]
+  ]
+
+pub returns-then-has_delay : goal.returns-then-has_delay
+returns-then-has_delay c =
+    let lat = c.args.latencies.now in
+    let own = c.latency-own.ensures.latency ∙ ap (latency lat) (get_or_default c.args.ops.now c.args.i _ Nop c.requires.first) in
+    own ∙ longest_own _ lat _ _ (rw own at c.has_delay.ensures.0 c.if-has_delay.true)
+
+pub returns-then-has_delay-2 : goal.returns-then-has_delay-2
+returns-then-has_delay-2 c =
+    let lat = c.args.latencies.now in
+    let own = c.latency-own.ensures.latency ∙ ap (latency lat) (get_or_default c.args.ops.now c.args.i _ Nop c.requires.first) in
+    longest_cycle _ lat _ _ (λ there. false≢true (sym c.if-has_delay.false ∙ c.has_delay.ensures.1 (rw own there)))
+    (c.has_delay-else-has_delay.ensures.0 c.if-has_delay-2.true)
+
+pub returns-else-has_delay-2 : goal.returns-else-has_delay-2
+returns-else-has_delay-2 c =
+    let lat = c.args.latencies.now in
+    let own = c.latency-own.ensures.latency ∙ ap (latency lat) (get_or_default c.args.ops.now c.args.i _ Nop c.requires.first) in
+    longest_none _ lat _ _ (λ there. false≢true (sym c.if-has_delay.false ∙ c.has_delay.ensures.1 (rw own there)))
+    (λ there. false≢true (sym c.if-has_delay-2.false ∙ c.has_delay-else-has_delay.ensures.1 there))

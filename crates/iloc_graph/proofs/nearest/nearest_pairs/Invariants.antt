@@ -1,9 +1,8 @@
 use Rattle.std.specs.Prelude.{◌≡◌}
 use Rattle.std.specs.List.{flat_map, range_with_len}
-use Rattle.iloc_rules.specs.declared.memory_rule.MemoryRule.TheVariants.{Book}
 use Rattle.iloc_graph.specs.Nearest.{nearest_to}
 use Rattle.iloc_graph.proofs.nearest.nearest_pairs.Given as goal
 
 abbrev pub invariant-loop-second : goal.invariant-loop-second
 invariant-loop-second l =
-    l.pairs.items ≡ flat_map (nearest_to Book l.graph.latencies l.graph.ops) (range_with_len 0 l.second)
+    l.pairs.items ≡ flat_map (nearest_to l.graph.rule l.graph.latencies l.graph.ops) (range_with_len 0 l.second)

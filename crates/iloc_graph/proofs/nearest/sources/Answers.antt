@@ -28,8 +28,8 @@ returns c =
     let edges = c.edges_into-edge-items.result.now in
     let listed : c.loop-edge.found.items ≡ map (λ (e : Edge). e.from) edges =
     c.loop-edge.invariant ∙ ap (map (λ (e : Edge). e.from)) (take_all _ _ c.loop-edge-test.false) in
-    sources_are c.args.graph.now.latencies c.args.graph.now.ops c.args.j c.requires.there edges
-    (c.edges_into-edge-items.ensures.near c.requires.book) (c.edges_into-edge-items.ensures.all c.requires.book) c.dedup.new.self.items
+    sources_are c.args.graph.now.rule c.args.graph.now.latencies c.args.graph.now.ops c.args.j c.requires edges
+    c.edges_into-edge-items.ensures.near c.edges_into-edge-items.ensures.all c.dedup.new.self.items
     (subst (λ xs. IsInOrder xs c.dedup.new.self.items) listed
     (in_order _ _ _ c.sort_unstable.ensures.permutation c.sort_unstable.ensures.sorted
     (dedup_is eqb _ _ c.dedup.ensures.filtered)))
