@@ -31,10 +31,10 @@ use Rattle.iloc_farm.specs.Laws.{AskAlike, SimulatingListsRuns, searches}
 use Rattle.iloc_listing.specs.Listing.{block_head, count_line, cycles_of, opening_as, outcome_entry, schedule_entry, total_of_all, words_or_fault}
 use Rattle.iloc_driver.specs.Run.{IsListingFor}
 use Rattle.iloc_driver.specs.Priorities.{Own, own_of}
-use Rattle.iloc_listing.specs.Schedules.{IsTheGreedy, IsTheGreedyBy, IsTheGreedyUnder, ranks, ranks_under}
+use Rattle.iloc_listing.specs.Schedules.{IsTheGreedy, IsTheGreedyUnder, ranks_under}
 use Rattle.iloc_rules.specs.declared.memory_rule.MemoryRule.{MemoryRule}
 use Rattle.iloc_rules.specs.declared.memory_rule.MemoryRule.TheVariants.{Book, Address}
-use Rattle.iloc_rules.specs.Least.{least}
+use Rattle.iloc_bound.specs.Bound.{least_under}
 use Rattle.iloc_rules.specs.Rule.{counts_by}
 use Rattle.iloc_rules.specs.Greedy.{IsGreedyWhere}
 use Rattle.iloc_args.specs.Rule.{memory_rule}
@@ -79,11 +79,6 @@ module _ (r q : Request) (alike : AskAlike r q) (k : ℕ) (b : Block) where
       is'.only s (transport (λ i. IsGreedyWhere (counts_by (same i) s.ops)
       (ranks_under (same i) (alike.priority i) (alike.latencies i) own s.ops) (alike.latencies i) b.ops s.ops s.rows) is.greedy)
 
-  same_ranked : (own : Option (List ℕ)) (s s' : Table)
-      → IsTheGreedyBy (ranks r.priority r.latencies own) r.latencies b s
-      → IsTheGreedyBy (ranks q.priority q.latencies own) q.latencies b s' → s ≡ s'
-  same_ranked own s s' is is' = same_ruled Book Book refl own s s' is is'
-
   cycles_same : (s s' : Table) (c c' : ℕ) → s ≡ s' → c ≡ cycles_of r.latencies s → c' ≡ cycles_of q.latencies s' → c ≡ c'
   cycles_same s s' c c' same is is' =
       is ∙ (ap (λ lat. cycles_of lat s) alike.latencies ∙ (ap (cycles_of q.latencies) same ∙ sym is'))
@@ -120,12 +115,15 @@ module _ (r q : Request) (alike : AskAlike r q) (k : ℕ) (b : Block) where
   explain_same : (own : Option (List ℕ)) (e e' : List ℕ) (c c' : ℕ) → IsExplainEntry r own k b e c
       → IsExplainEntry q own k b e' c' → (e ≡ e') × (c ≡ c')
   explain_same own e e' c c' is is' =
-      let same = same_ranked own is.schedule is'.schedule is.greedy is'.greedy in
+      let same : is.schedule ≡ is'.schedule =
+      same_ruled (memory_rule r) (memory_rule q) (rule_same r q alike) own is.schedule is'.schedule is.greedy is'.greedy in
       let text : is.text ≡ is'.text =
-      one_said (has q.flags Cycles) (ranks q.priority q.latencies own is'.schedule.ops) Book q.latencies (least q.latencies b.ops) b.ops is'.schedule
-      is.text is'.text
-      (transport (λ i. IsSaid (has (alike.flags i) Cycles) (ranks (alike.priority i) (alike.latencies i) own (same i).ops) Book
-      (alike.latencies i) (least (alike.latencies i) b.ops) b.ops (same i) is.text) is.said) is'.said in (
+      one_said (has q.flags Cycles) (ranks_under (memory_rule q) q.priority q.latencies own is'.schedule.ops) (memory_rule q) q.latencies
+      (least_under (memory_rule q) q.latencies b.ops) b.ops is'.schedule is.text is'.text
+      (transport (λ i. IsSaid (has (alike.flags i) Cycles)
+      (ranks_under (rule_same r q alike i) (alike.priority i) (alike.latencies i) own (same i).ops) (rule_same r q alike i)
+      (alike.latencies i) (least_under (rule_same r q alike i) (alike.latencies i) b.ops) b.ops (same i) is.text) is.said)
+      is'.said in (
         is.listed ∙ (ap (λ t. block_head k b.name ++ codes "\n" ++ t) text ∙ sym is'.listed),
         cycles_same is.schedule is'.schedule c c' same is.counted is'.counted,
       )
@@ -137,8 +135,8 @@ module _ (r q : Request) (alike : AskAlike r q) (k : ℕ) (b : Block) where
   graph_same : (e e' : List ℕ) (f f' : Unit {0}) → IsGraphEntry r k b e f → IsGraphEntry q k b e' f'
       → (e ≡ e') × (f ≡ f')
   graph_same e e' f f' is is' =
-      let same : is.cluster ≡ is'.cluster = one_cluster Book q.latencies k b.name b.ops is.cluster is'.cluster
-      (transport (λ i. IsCluster Book (alike.latencies i) k b.name b.ops is.cluster) is.draws) is'.draws in
+      let same : is.cluster ≡ is'.cluster = one_cluster (memory_rule q) q.latencies k b.name b.ops is.cluster is'.cluster
+      (transport (λ i. IsCluster (rule_same r q alike i) (alike.latencies i) k b.name b.ops is.cluster) is.draws) is'.draws in
       (is.listed ∙ (ap (λ c. opening_at k ++ c) same ∙ sym is'.listed), refl)
 
 -- a comparison without a search has no nodes

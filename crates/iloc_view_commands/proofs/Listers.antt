@@ -8,13 +8,13 @@ use Rattle.iloc_timed.specs.Schedule.{Table}
 use Rattle.iloc_timed.specs.declared.latencies.Latencies.{Latencies}
 use Rattle.iloc_rules.specs.declared.heuristic.Heuristic.{Heuristic}
 use Rattle.iloc_rules.specs.declared.memory_rule.MemoryRule.{MemoryRule}
-use Rattle.iloc_rules.specs.declared.memory_rule.MemoryRule.TheVariants.{Book}
-use Rattle.iloc_rules.specs.Least.{least, least_of}
-use Rattle.iloc_rules.specs.Greedy.{IsGreedyBy}
+use Rattle.iloc_rules.specs.Greedy.{IsGreedyWhere}
 use Rattle.iloc_rules.specs.Renaming.{numbering, renamed, without_nops}
-use Rattle.iloc_rules.proofs.PriorityValues.Named.{length-priorities_by}
+use Rattle.iloc_rules.specs.Rule.{counts_by, priorities_under}
+use Rattle.iloc_rules.proofs.PriorityValues.Named.{length-priorities_by_where, ruled_priorities}
 use Rattle.iloc_rules.proofs.Renamed.MentionedSources.{length-renamed_by}
 use Rattle.iloc_sched.specs.Graph.GraphOf.{GraphOf, of_block}
+use Rattle.iloc_bound.specs.Bound.{least_of_under, least_under}
 use Rattle.iloc_explain.specs.Measures.{AreMeasures}
 use Rattle.iloc_explain.specs.declared.measures.Measures.{Measures}
 use Rattle.iloc_graph.specs.Listing.{IsCluster}
@@ -23,20 +23,21 @@ use Rattle.iloc_trace.specs.Listing.{trace_lines}
 use Rattle.iloc_args.specs.Flags.{has}
 use Rattle.iloc_args.specs.declared.flag.Flag.TheVariants.{Cycles}
 use Rattle.iloc_args.specs.declared.request.Request.{Request}
+use Rattle.iloc_args.specs.Rule.{memory_rule}
 use Rattle.iloc_view_commands.specs.Explain.{IsExplainEntry, IsSaid}
 use Rattle.iloc_view_commands.specs.Graph.{IsGraphEntry, opening_at}
 use Rattle.iloc_driver.specs.Command.{initial_memory}
 use Rattle.iloc_view_commands.specs.Trace.{IsTraceEntry}
 use Rattle.iloc_listing.specs.Listing.{block_head, cycles_of}
-use Rattle.iloc_listing.specs.Schedules.{IsGreedyAs, ranks}
+use Rattle.iloc_listing.specs.Schedules.{IsGreedyAs, ranks_under}
 use Rattle.iloc_driver.specs.Entries.{Adds}
-use Rattle.iloc_listing.proofs.Schedules.{the_greedy, the_greedy_by}
+use Rattle.iloc_listing.proofs.Schedules.{the_greedy, the_greedy_under}
 use Rattle.iloc_driver.proofs.Entries.{parts_joined}
 
 -- what a call has appended is the entry, by the name and the words or cycles that it was handed
 
 module _ (request : Request) (k : ℕ) (b : Block) (text more : List ℕ) (name : Option (List ℕ)) (named : name ≡ b.name) where
-  pub graph_listed : (cluster : List ℕ) → IsCluster Book request.latencies k b.name b.ops cluster
+  pub graph_listed : (cluster : List ℕ) → IsCluster (memory_rule request) request.latencies k b.name b.ops cluster
       → more ≡ (text ++ opening_at k) ++ cluster → Adds (IsGraphEntry request k b) text more tt
   graph_listed cluster draws added = grind (arith, append_assoc)
 
@@ -61,26 +62,26 @@ module _ (request : Request) (k : ℕ) (b : Block) (text more : List ℕ) (name 
               ∙ parts_joined text (block_head k b.name) (codes "\n") lines)));
         }
 
--- the bound of a graph by the book
-pub least_by_the_book : (rule : MemoryRule) (lat : Latencies) (ops : List Op) → rule ≡ Book
-    → least_of_under rule lat ops ≡ least_of lat ops
-least_by_the_book rule lat ops book = ap (λ r. least_of_under r lat ops) book
+-- each operation has its number by a heuristic and a rule
+pub length_ruled : (rule : MemoryRule) (heuristic : Heuristic) (lat : Latencies) (ops : List Op)
+    → length (priorities_under rule heuristic lat ops) ≡ length ops
+length_ruled rule heuristic lat ops =
+    ap length (sym (ruled_priorities rule heuristic lat ops)) ∙ length-priorities_by_where (counts_by rule ops) heuristic lat ops
 
 -- each operation of the graph has a number
-pub each_ranked : (heuristic : Heuristic) (own : Option (List ℕ)) (lat : Latencies) (b : Block) (g : GraphOf) (found : List ℕ)
-    → g ≡ of_block Book lat b.ops → IfSome own (λ numbers. length numbers ≡ length (without_nops b.ops))
-    → found ≡ ranks heuristic g.latencies own g.ops → length found ≡ length g.ops
-each_ranked heuristic None lat b g found is each ranked =
-    ap length ranked ∙ length-priorities_by heuristic g.latencies g.ops
-each_ranked heuristic (Some numbers) lat b g found is each ranked =
+pub each_ranked : (heuristic : Heuristic) (own : Option (List ℕ)) (b : Block) (g : GraphOf) (found : List ℕ)
+    → g.ops ≡ renamed b.ops → IfSome own (λ numbers. length numbers ≡ length (without_nops b.ops))
+    → found ≡ ranks_under g.rule heuristic g.latencies own g.ops → length found ≡ length g.ops
+each_ranked heuristic None b g found is each ranked = ap length ranked ∙ length_ruled g.rule heuristic g.latencies g.ops
+each_ranked heuristic (Some numbers) b g found is each ranked =
     ap length ranked
-    ∙ (each ∙ (sym (length-renamed_by (without_nops b.ops) (numbering (without_nops b.ops)))
-    ∙ ap (λ (x : GraphOf). length x.ops) (sym is)))
+    ∙ (each ∙ (sym (length-renamed_by (without_nops b.ops) (numbering (without_nops b.ops))) ∙ ap length (sym is)))
 
 -- what was measured of the graph is so of the schedule
-pub measured_too : (lat : Latencies) (b : Block) (s : Table) (g : GraphOf) (m : Measures) → g ≡ of_block Book lat b.ops
+pub measured_too : (rule : MemoryRule) (lat : Latencies) (b : Block) (s : Table) (g : GraphOf) (m : Measures)
+    → g ≡ of_block rule lat b.ops
     → s.ops ≡ renamed b.ops → AreMeasures g.latencies g.ops m → AreMeasures lat s.ops m
-measured_too lat b s g m is names are =
+measured_too rule lat b s g m is names are =
     let ops : g.ops ≡ s.ops = ap (λ (x : GraphOf). x.ops) is ∙ sym names in
     let same : g.latencies ≡ lat = ap (λ (x : GraphOf). x.latencies) is in
     transport (λ i. AreMeasures (same i) (ops i) m) are
@@ -95,24 +96,29 @@ entry_grown start head line whole said k b name empty opened named ended grown =
 
 -- what was said of the schedule that is greedy by the numbers found is the entry
 pub explain_is : (request : Request) (own : Option (List ℕ)) (k : ℕ) (b : Block) (s : Table) (g : GraphOf) (found said : List ℕ)
-    (rule : MemoryRule) (bound : ℕ) → g ≡ of_block request.latencies b.ops
-    → found ≡ ranks request.priority g.latencies own g.ops → rule ≡ Book → bound ≡ least_of g.latencies g.ops
-    → IsGreedyBy found request.latencies b.ops s.ops s.rows
+    (rule : MemoryRule) (bound : ℕ) → g ≡ of_block (memory_rule request) request.latencies b.ops
+    → found ≡ ranks_under g.rule request.priority g.latencies own g.ops → rule ≡ g.rule
+    → bound ≡ least_of_under g.rule g.latencies g.ops
+    → IsGreedyWhere (counts_by (memory_rule request) s.ops) found request.latencies b.ops s.ops s.rows
     → IsSaid (has request.flags Cycles) found rule request.latencies bound b.ops s said
     → (entry : List ℕ) (cycles : ℕ) → entry ≡ block_head k b.name ++ codes "\n" ++ said
     → cycles ≡ cycles_of request.latencies s → IsExplainEntry request own k b entry cycles
-explain_is request own k b s g found said rule bound is ranked book least_is greedy says entry cycles listed counted =
-    let ops : g.ops ≡ s.ops = ap (λ (x : GraphOf). x.ops) is ∙ sym greedy.lawful.names in
-    let by : found ≡ ranks request.priority request.latencies own s.ops =
-    ranked ∙ ap₂ (λ lat ops. ranks request.priority lat own ops) (ap (λ (x : GraphOf). x.latencies) is) ops in
-    let bounds : bound ≡ least request.latencies b.ops =
-    least_is ∙ ap₂ least_of (ap (λ (x : GraphOf). x.latencies) is) (ap (λ (x : GraphOf). x.ops) is) in
-    let P : List ℕ → Type 0 = λ prios. IsGreedyBy prios request.latencies b.ops s.ops s.rows in
+explain_is request own k b s g found said rule bound is ranked ruled least_is greedy says entry cycles listed counted =
+    let as_asked : MemoryRule = memory_rule request in
+    let names : renamed b.ops ≡ s.ops = sym greedy.lawful.names in
+    let by : found ≡ ranks_under as_asked request.priority request.latencies own s.ops =
+    ranked ∙ (ap (λ (x : GraphOf). ranks_under x.rule request.priority x.latencies own x.ops) is
+    ∙ ap (ranks_under as_asked request.priority request.latencies own) names) in
+    let bounds : bound ≡ least_under as_asked request.latencies b.ops =
+    least_is ∙ ap (λ (x : GraphOf). least_of_under x.rule x.latencies x.ops) is in
+    let asked : rule ≡ as_asked = ruled ∙ ap (λ (x : GraphOf). x.rule) is in
+    let P : List ℕ → Type 0 = λ prios. IsGreedyWhere (counts_by as_asked s.ops) prios request.latencies b.ops s.ops s.rows in
     record {
       schedule = s;
-      greedy = the_greedy_by (ranks request.priority request.latencies own) request.latencies b s (subst P by greedy);
+      greedy = the_greedy_under as_asked (ranks_under as_asked request.priority request.latencies own) request.latencies b s
+          (subst P by greedy);
       text = said;
-      said = transport (λ i. IsSaid (has request.flags Cycles) (by i) (book i) request.latencies (bounds i) b.ops s said) says;
+      said = transport (λ i. IsSaid (has request.flags Cycles) (by i) (asked i) request.latencies (bounds i) b.ops s said) says;
       listed = listed;
       counted = counted;
     }

@@ -5,18 +5,18 @@ use Rattle.iloc_ops.specs.declared.op.Op.{Op}
 use Rattle.iloc_timed.specs.Schedule.{Table}
 use Rattle.iloc_timed.specs.declared.latencies.Latencies.{Latencies}
 use Rattle.iloc_rules.specs.declared.memory_rule.MemoryRule.{MemoryRule}
-use Rattle.iloc_rules.specs.declared.memory_rule.MemoryRule.TheVariants.{Book}
-use Rattle.iloc_rules.specs.Least.{least}
+use Rattle.iloc_bound.specs.Bound.{least_under}
 use Rattle.iloc_explain.specs.CycleLines.{ready_listing}
 use Rattle.iloc_explain.specs.Listing.{IsExplanation}
 use Rattle.iloc_args.specs.Flags.{has}
 use Rattle.iloc_args.specs.declared.flag.Flag.TheVariants.{Cycles}
 use Rattle.iloc_args.specs.declared.request.Request.{Request}
+use Rattle.iloc_args.specs.Rule.{memory_rule}
 use Rattle.iloc_driver.specs.Command.{Command, shared_by}
 use Rattle.iloc_driver.specs.Entries.{IsListingOf}
 use Rattle.iloc_listing.specs.Listing.{block_head, cycles_of, listing_of_entries, total_of_all}
 use Rattle.iloc_driver.specs.Priorities.{Own, own_of}
-use Rattle.iloc_listing.specs.Schedules.{IsTheGreedyBy, ranks}
+use Rattle.iloc_listing.specs.Schedules.{IsTheGreedyUnder, ranks_under}
 use Rattle.iloc_listing.specs.declared.text.ScheduleEntry.{ScheduleEntry}
 
 -- what is said of a schedule of a block by a rule of memory that these priorities rank, with a lower bound of its cycles: its
@@ -25,15 +25,17 @@ abbrev pub IsSaid : Bool → List ℕ → MemoryRule → Latencies → ℕ → L
 IsSaid true prios rule lat bound block s text = text ≡ ready_listing prios rule lat bound s.ops s.rows
 IsSaid false prios rule lat bound block s text = IsExplanation prios rule lat bound block s.ops s.rows s.ops text
 
--- The entry of block k: its number and its name, and what is said of its schedule, greedy by its own priorities if it has some or
--- else as the request ranks, whose cycles are found.
+-- The entry of block k: its number and its name, and what is said of its schedule by the request's rule of memory, greedy by its
+-- own priorities if it has some or else as the request ranks, whose cycles are found.
 pub record IsExplainEntry (request : Request) (own : Option (List ℕ)) (k : ℕ) (b : Block) (entry : List ℕ) (cycles : ℕ)
     : Type 0 where
   pub schedule : Table
-  pub greedy : IsTheGreedyBy (ranks request.priority request.latencies own) request.latencies b schedule
+  pub greedy : IsTheGreedyUnder (memory_rule request) (ranks_under (memory_rule request) request.priority request.latencies own)
+      request.latencies b schedule
   pub text : List ℕ
-  pub said : IsSaid (has request.flags Cycles) (ranks request.priority request.latencies own schedule.ops) Book request.latencies
-      (least request.latencies b.ops) b.ops schedule text
+  pub said : IsSaid (has request.flags Cycles)
+      (ranks_under (memory_rule request) request.priority request.latencies own schedule.ops) (memory_rule request)
+      request.latencies (least_under (memory_rule request) request.latencies b.ops) b.ops schedule text
   pub listed : entry ≡ block_head k b.name ++ codes "\n" ++ text
   pub counted : cycles ≡ cycles_of request.latencies schedule
 

@@ -1,14 +1,13 @@
 //! `explain`: why blocks' schedules take their cycles.
 ghost use Rattle.std.specs.Prelude.{ℕ, ◌≡◌, ◌≤◌, ◌++◌, List, length, option_copied, IfOk, OnOk};
 ghost use Rattle.iloc_ops.specs.Limits.{MAX_BLOCKS};
-ghost use Rattle.iloc_rules.specs.declared.memory_rule.MemoryRule.TheVariants.{Book};
-ghost use Rattle.iloc_rules.specs.Heuristics.{priorities_by};
-ghost use Rattle.iloc_rules.specs.Least.{least, least_of};
 ghost use Rattle.iloc_rules.specs.Renaming.{renamed};
+ghost use Rattle.iloc_rules.specs.Rule.{priorities_under};
+ghost use Rattle.iloc_bound.specs.Bound.{least_of_under, least_under};
 ghost use Rattle.iloc_explain.specs.Listing.{IsExplanation};
 ghost use Rattle.iloc_explain.specs.Measures.{AreMeasures, ImplyAll};
 ghost use Rattle.iloc_explain.specs.Waiting.{WaitsForAll};
-ghost use Rattle.iloc_listing.specs.Schedules.{ranks as all_ranks};
+ghost use Rattle.iloc_listing.specs.Schedules.{ranks_under};
 ghost use Rattle.iloc_view_commands.specs.Explain.{IsSaid};
 
 use iloc_args::{Flag, Request};
@@ -17,21 +16,20 @@ use iloc_driver::FarmedLister;
 use iloc_explain::{Counted, Measures, push_explanation, push_ready_list};
 use iloc_listing::{EntryMaker, Listing, ScheduleEntry, count_of, push_block_head, with_total};
 use iloc_ops::{Block, Blocks, NoMemory, Op};
-use iloc_rules::{Heuristic, MemoryRule, Pair};
+use iloc_rules::{Heuristic, Pair};
 use iloc_sched::{Graph, Scheduler};
 use iloc_timed::{Latencies, Schedule};
 use std::alloc::Global;
 
-/// The numbers that rank the operations of a graph: these, if it has some of its own, or else those of a heuristic.
+/// The numbers that rank the operations of a graph: these, if it has some of its own, or else those of a heuristic by its rule.
 fn ranks_of(
     alloc: Global,
     graph: &Graph,
     own: Option<&[u32]>,
     heuristic: Heuristic,
 ) -> Result<Vec<u32>, NoMemory>
-    requires { graph.now.rule ≡ Book }
-    ensures { IfOk result (λ ranks.
-        ranks.items ≡ all_ranks heuristic graph.now.latencies (option_copied own.entry) graph.now.ops) }
+    ensures { IfOk result (λ ranks. ranks.items
+        ≡ ranks_under graph.now.rule heuristic graph.now.latencies (option_copied own.entry) graph.now.ops) }
 {
     let mut ranks = Vec::new(alloc);
     match own {
@@ -43,7 +41,7 @@ fn ranks_of(
 
 /// The delay pairs that a graph keeps, from which all follow.
 fn kept_pairs(alloc: Global, graph: &Graph) -> Result<Vec<Pair>, NoMemory>
-    ensures { IfOk result (λ pairs. ImplyAll Book graph.now.latencies graph.now.ops pairs.items) }
+    ensures { IfOk result (λ pairs. ImplyAll graph.now.rule graph.now.latencies graph.now.ops pairs.items) }
 {
     let mut pairs = Vec::new(alloc);
     for edge in graph.edges() {
@@ -58,14 +56,13 @@ fn kept_pairs(alloc: Global, graph: &Graph) -> Result<Vec<Pair>, NoMemory>
 
 /// What an explanation needs to know of the operations of a graph, which are ranked by these numbers.
 fn measure(alloc: Global, graph: &Graph, ranks: Vec<u32>) -> Result<Measures, NoMemory>
-    requires book { graph.now.rule ≡ Book }
-    requires ranked { length ranks.items ≡ length graph.now.ops }
+    requires { length ranks.items ≡ length graph.now.ops }
     ensures ranks { IfOk result (λ measures. measures.ranks.items ≡ ranks.items) }
-    ensures rule { IfOk result (λ measures. measures.counted.rule ≡ Book) }
-    ensures least { IfOk result (λ measures. measures.least ≡ least_of graph.now.latencies graph.now.ops) }
+    ensures rule { IfOk result (λ measures. measures.counted.rule ≡ graph.now.rule) }
+    ensures least { IfOk result (λ measures. measures.least ≡ least_of_under graph.now.rule graph.now.latencies graph.now.ops) }
     ensures measures { IfOk result (AreMeasures graph.now.latencies graph.now.ops) }
 {
-    let counted = Counted::of(alloc, graph.ops(), MemoryRule::Book)?;
+    let counted = Counted::of(alloc, graph.ops(), graph.rule())?;
     let pairs = kept_pairs(alloc, graph)?;
     let mut chains = Vec::new(alloc);
     graph.chains(&mut chains)?;
@@ -83,7 +80,7 @@ fn measure(alloc: Global, graph: &Graph, ranks: Vec<u32>) -> Result<Measures, No
 }
 
 /// Appends what explains a schedule of the block of this graph, whose operations are the block's renamed ones, ranked by a
-/// heuristic, and which waits for all delays by the book. The lines show each operation as it is `issued`.
+/// heuristic, and which waits for all delays by the graph's rule. The lines show each operation as it is `issued`.
 ///
 /// Promise: What is appended is a text that explains the schedule.
 pub fn explain_by_graph(
@@ -96,13 +93,13 @@ pub fn explain_by_graph(
     heuristic: Heuristic,
 ) -> Result<(), NoMemory>
     requires graph { graph.now.ops ≡ renamed block.now.ops }
-    requires book { graph.now.rule ≡ Book }
     requires names { schedule.now.ops ≡ renamed block.now.ops }
-    requires waits { WaitsForAll Book graph.now.latencies schedule.now.ops schedule.now.rows }
+    requires waits { WaitsForAll graph.now.rule graph.now.latencies schedule.now.ops schedule.now.rows }
     requires issued { length issued.now ≡ length schedule.now.ops }
     ensures { OnOk result ((entry : List ℕ)
-        × IsExplanation (priorities_by heuristic graph.now.latencies graph.now.ops) Book graph.now.latencies
-        (least graph.now.latencies block.now.ops) block.now.ops schedule.now.ops schedule.now.rows issued.now entry
+        × IsExplanation (priorities_under graph.now.rule heuristic graph.now.latencies graph.now.ops) graph.now.rule
+        graph.now.latencies (least_under graph.now.rule graph.now.latencies block.now.ops) block.now.ops schedule.now.ops
+        schedule.now.rows issued.now entry
         × (text.new.items ≡ text.old.items ++ entry)) }
 {
     let ranks = ranks_of(alloc, graph, None, heuristic)?;
@@ -181,7 +178,7 @@ impl FarmedLister for ExplainLister {
         block: &Block,
     ) -> Result<ScheduleEntry, NoMemory> {
         let latencies = &request.latencies;
-        self.graph.refill(MemoryRule::Book, block, latencies)?;
+        self.graph.refill(request.memory_rule(), block, latencies)?;
         let ranks = ranks_of(alloc, &self.graph, own, request.priority)?;
         let measures = measure(alloc, &self.graph, ranks)?;
         let schedule = self.scheduler.lend(&self.graph, &measures.ranks)?;

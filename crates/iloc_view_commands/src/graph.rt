@@ -6,7 +6,6 @@ use iloc_args::Request;
 use iloc_driver::Lister;
 use iloc_graph::{push_closing, push_cluster, push_opening};
 use iloc_ops::{Block, NoMemory};
-use iloc_rules::MemoryRule;
 use iloc_sched::Graph;
 use std::alloc::Global;
 
@@ -54,7 +53,7 @@ impl Lister for GraphLister {
         text: &mut Vec<u8>,
     ) -> Result<(), NoMemory> {
         self.graph
-            .refill(MemoryRule::Book, block, &request.latencies)?;
+            .refill(request.memory_rule(), block, &request.latencies)?;
         push_opening_at(text, number)?;
         push_cluster(alloc, text, number, block, &self.graph)
     }

@@ -1,14 +1,14 @@
 use Rattle.std.proofs.Common.{ap, ap₂, length, subst, sym, ◌∙◌}
 use Rattle.std.proofs.lemmas.Result.{on_ok_weaker}
-use Rattle.iloc_rules.specs.Least.{least_of}
-use Rattle.iloc_rules.proofs.PriorityValues.Named.{length-priorities_by}
+use Rattle.iloc_bound.specs.Bound.{least_of_under}
 use Rattle.iloc_explain.specs.Measures.{AreMeasures}
+use Rattle.iloc_view_commands.proofs.Listers.{length_ruled}
 use Rattle.iloc_view_commands.proofs.explain.explain_by_graph.Goals as goal
 
-pub measure-requires-clause-ranked : goal.measure-requires-clause-ranked
-measure-requires-clause-ranked c =
+pub measure-requires : goal.measure-requires
+measure-requires c =
     let graph = c.args.graph.now in
-    ap length c.in_ok-ranks.ensures ∙ length-priorities_by c.args.heuristic graph.latencies graph.ops
+    ap length c.in_ok-ranks.ensures ∙ length_ruled graph.rule c.args.heuristic graph.latencies graph.ops
 
 pub push_explanation-requires-clause-measured : goal.push_explanation-requires-clause-measured
 push_explanation-requires-clause-measured c =
@@ -23,7 +23,7 @@ push_explanation-requires-clause-waits c = rw (c.latencies-latencies.ensures, c.
 pub returns : goal.returns
 returns c =
     let by = c.in_ok-measures.ensures.ranks ∙ c.in_ok-ranks.ensures in
-    let bound = c.in_ok-measures.ensures.least ∙ ap (least_of c.args.graph.now.latencies) c.requires.graph in
+    let bound = c.in_ok-measures.ensures.least ∙ ap (least_of_under c.args.graph.now.rule c.args.graph.now.latencies) c.requires.graph in
     on_ok_weaker c.push_explanation.result (λ told. (
       told.0,
       rw (c.latencies-latencies.ensures, by, c.in_ok-measures.ensures.rule, bound) at told.1,

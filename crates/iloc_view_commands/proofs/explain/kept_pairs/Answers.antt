@@ -1,6 +1,5 @@
 use Rattle.std.proofs.Common.{map, ap, subst, sym, ◌∙◌}
 use Rattle.std.proofs.lemmas.List.{take_all}
-use Rattle.iloc_rules.specs.declared.memory_rule.MemoryRule.TheVariants.{Book}
 use Rattle.iloc_explain.specs.Measures.{ImplyAll}
 use Rattle.iloc_view_commands.proofs.KeptEdges.{edges_imply, pair_of}
 use Rattle.iloc_view_commands.proofs.explain.kept_pairs.Goals as goal
@@ -10,5 +9,5 @@ returns c =
     let edges = c.edges-edge-items.result.now in
     let graph = c.args.graph.now in
     let listed = c.loop-edge.invariant ∙ ap (map pair_of) (take_all _ _ c.loop-edge-test.false) in
-    subst (ImplyAll Book graph.latencies graph.ops) (sym listed)
-    (edges_imply graph.latencies graph.ops edges c.edges-edge-items.ensures.each c.edges-edge-items.ensures.all)
+    subst (ImplyAll graph.rule graph.latencies graph.ops) (sym listed)
+    (edges_imply graph.rule graph.latencies graph.ops edges c.edges-edge-items.ensures.each c.edges-edge-items.ensures.all)

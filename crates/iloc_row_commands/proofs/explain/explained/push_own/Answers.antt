@@ -7,14 +7,11 @@ use Rattle.iloc_row_commands.proofs.explain.explained.push_own.Goals as goal
 pub explain_by_graph-requires-clause-graph : goal.explain_by_graph-requires-clause-graph
 explain_by_graph-requires-clause-graph c = ap (λ (g : GraphOf). g.ops) c.args.known.now.drawn
 
-pub explain_by_graph-requires-clause-book : goal.explain_by_graph-requires-clause-book
-explain_by_graph-requires-clause-book c = ap (λ (g : GraphOf). g.rule) c.args.known.now.drawn
-
 pub explain_by_graph-requires-clause-waits : goal.explain_by_graph-requires-clause-waits
 explain_by_graph-requires-clause-waits c =
     let timed : c.args.known.now.graph.now.latencies ≡ c.args.known.now.latencies.now =
     ap (λ (g : GraphOf). g.latencies) c.args.known.now.drawn in
-    rw timed c.requires.waits
+    rw (timed, ap (λ (g : GraphOf). g.rule) c.args.known.now.drawn) c.requires.waits
 
 pub departure_of-requires : goal.departure_of-requires
 departure_of-requires c = c.requires.names ∙ sym c.args.known.now.greedy.lawful.names
@@ -27,11 +24,12 @@ returns c =
     let same : own.schedule.ops ≡ known.ours.now.ops = c.requires.names ∙ sym known.greedy.lawful.names in
     let drawn : known.graph.now.ops ≡ own.schedule.ops = ap (λ (g : GraphOf). g.ops) known.drawn ∙ sym c.requires.names in
     let timed : known.graph.now.latencies ≡ lat = ap (λ (g : GraphOf). g.latencies) known.drawn in
+    let ruled = ap (λ (g : GraphOf). g.rule) known.drawn in
     let prios = priorities_by known.heuristic lat own.schedule.ops in
     let told = c.in_ok-explain_by_graph.ensures in
     let left = c.departure_of.ensures prios lat known.block.now.ops (rw same known.greedy) in
     on_ok_weaker c.push_departure.result (λ pushed. (
       told.0,
-      rw (drawn, timed, c.deref.ensures.value) at told.1,
+      rw (drawn, timed, ruled, c.deref.ensures.value) at told.1,
       rw (left, told.2, c.deref-2.ensures.value) at pushed,
     )) c.push_departure.ensures

@@ -1,41 +1,30 @@
-use Rattle.std.proofs.Common.{ap, length, ◌∙◌}
+use Rattle.std.proofs.Common.{◌≡◌, ap, length, ◌∙◌}
 use Rattle.std.specs.Prelude.{option_copied}
-use Rattle.iloc_rules.specs.declared.memory_rule.MemoryRule.TheVariants.{Book}
-use Rattle.iloc_sched.specs.Graph.GraphOf.{GraphOf}
+use Rattle.iloc_sched.specs.Graph.GraphOf.{GraphOf, of_block}
+use Rattle.iloc_args.specs.Rule.{memory_rule}
 use Rattle.iloc_view_commands.proofs.Listers.{each_ranked, entry_grown, explain_is, measured_too}
 use Rattle.iloc_view_commands.proofs.explain.ExplainListerFarmedLister.answer.Goals as goal
 
-pub ranks_of-requires : goal.ranks_of-requires
-ranks_of-requires c = ap (λ (g : GraphOf). g.rule) c.in_ok-refill.ensures.graph
-
-pub measure-requires-clause-book : goal.measure-requires-clause-book
-measure-requires-clause-book c = ap (λ (g : GraphOf). g.rule) c.in_ok-refill.ensures.graph
-
-pub measure-requires-clause-ranked : goal.measure-requires-clause-ranked
-measure-requires-clause-ranked c =
-    let request = c.args.request.now in
-    each_ranked request.priority (option_copied c.args.own) request.latencies c.args.block.now _ _ c.in_ok-refill.ensures.graph
-    c.requires.each c.in_ok-ranks.ensures
+pub measure-requires : goal.measure-requires
+measure-requires c =
+    each_ranked c.args.request.now.priority (option_copied c.args.own) c.args.block.now _ _
+    (ap (λ (g : GraphOf). g.ops) c.in_ok-refill.ensures.graph) c.requires.each c.in_ok-ranks.ensures
 
 pub lend-requires : goal.lend-requires
 lend-requires c = ap length c.deref.ensures.value ∙ c.in_ok-measures.ensures.measures.ranked
 
 pub push_said-requires-clause-names : goal.push_said-requires-clause-names
-push_said-requires-clause-names c =
-    (c.in_ok-schedule.ensures Book c.args.request.now.latencies c.args.block.now.ops c.in_ok-refill.ensures.graph).greedy.lawful.names
+push_said-requires-clause-names c = (c.in_ok-schedule.ensures _ _ _ c.in_ok-refill.ensures.graph).greedy.lawful.names
 
 pub push_said-requires-clause-measured : goal.push_said-requires-clause-measured
 push_said-requires-clause-measured c =
-    let lat = c.args.request.now.latencies in
-    measured_too lat c.args.block.now c.in_ok-schedule.schedule _ _ c.in_ok-refill.ensures.graph
-    (c.in_ok-schedule.ensures Book lat c.args.block.now.ops c.in_ok-refill.ensures.graph).greedy.lawful.names
-    c.in_ok-measures.ensures.measures
+    measured_too _ c.args.request.now.latencies c.args.block.now c.in_ok-schedule.schedule _ _ c.in_ok-refill.ensures.graph
+    (c.in_ok-schedule.ensures _ _ _ c.in_ok-refill.ensures.graph).greedy.lawful.names c.in_ok-measures.ensures.measures
 
 pub push_said-requires-clause-waits : goal.push_said-requires-clause-waits
 push_said-requires-clause-waits c =
-    let lat = c.args.request.now.latencies in
-    rw c.in_ok-measures.ensures.rule
-    (c.in_ok-schedule.ensures lat c.args.block.now.ops c.in_ok-refill.ensures.graph).greedy.lawful.waits
+    rw (c.in_ok-measures.ensures.rule ∙ ap (λ (g : GraphOf). g.rule) c.in_ok-refill.ensures.graph)
+    (c.in_ok-schedule.ensures _ _ _ c.in_ok-refill.ensures.graph).greedy.lawful.waits
 
 pub returns : goal.returns
 returns c =
@@ -43,10 +32,12 @@ returns c =
     let block = c.args.block.now in
     let said = c.in_ok-push_said.ensures in
     let entry = c.in_ok-entry.entry in
+    let filled = c.in_ok-refill.ensures.graph
+    ∙ ap (λ rule. of_block rule request.latencies block.ops) c.memory_rule.ensures in
     explain_is request (option_copied c.args.own) c.args.number block c.in_ok-schedule.schedule _
-    c.in_ok-measures.measures.ranks.items said.0 _ _ c.in_ok-refill.ensures.graph
+    c.in_ok-measures.measures.ranks.items said.0 _ _ filled
     (c.in_ok-measures.ensures.ranks ∙ c.in_ok-ranks.ensures) c.in_ok-measures.ensures.rule c.in_ok-measures.ensures.least
-    (rw c.deref.ensures.value at (c.in_ok-schedule.ensures request.latencies block.ops c.in_ok-refill.ensures.graph).greedy)
+    (rw c.deref.ensures.value at (c.in_ok-schedule.ensures _ _ _ filled).greedy)
     (rw c.has-by_cycle.ensures at said.1) entry.text entry.cycles
     (c.in_ok-entry.ensures.text
     ∙ (c.deref-2.ensures.value
