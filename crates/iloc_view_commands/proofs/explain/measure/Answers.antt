@@ -1,10 +1,19 @@
-use Rattle.std.proofs.lemmas.Grind.{common_steps}
-use Rattle.std.proofs.Common.{arith}
+use Rattle.std.proofs.Common.{◌∙◌}
 use Rattle.iloc_rules.specs.declared.heuristic.Heuristic.TheVariants.{Chain}
 use Rattle.iloc_rules.proofs.PriorityValues.Named.{ruled_priorities}
 use Rattle.iloc_view_commands.proofs.explain.measure.Goals as goal
 
+pub returns-clause-rule : goal.returns-clause-rule
+returns-clause-rule c = c.in_ok-counted.ensures.rule ∙ c.rule.ensures
+
 pub returns-clause-measures : goal.returns-clause-measures
 returns-clause-measures c =
     let graph = c.args.graph.now in
-    grind (arith, ruled_priorities graph.rule Chain graph.latencies graph.ops, common_steps)
+    let ruled = c.in_ok-counted.ensures.rule ∙ c.rule.ensures in
+    record {
+      ranked = c.requires;
+      counted = rw c.ops.ensures.ops at c.in_ok-counted.ensures.counted;
+      pairs = rw ruled c.in_ok-pairs.ensures;
+      chains = rw ruled (c.in_ok-chains.ensures ∙ ruled_priorities graph.rule Chain graph.latencies graph.ops);
+      starts = rw ruled c.in_ok-starts.ensures;
+    }

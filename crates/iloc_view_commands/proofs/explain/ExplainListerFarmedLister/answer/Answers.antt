@@ -14,17 +14,23 @@ pub lend-requires : goal.lend-requires
 lend-requires c = ap length c.deref.ensures.value ∙ c.in_ok-measures.ensures.measures.ranked
 
 pub push_said-requires-clause-names : goal.push_said-requires-clause-names
-push_said-requires-clause-names c = (c.in_ok-schedule.ensures _ _ _ c.in_ok-refill.ensures.graph).greedy.lawful.names
+push_said-requires-clause-names c =
+    (c.in_ok-schedule.ensures c.memory_rule.result c.args.request.now.latencies c.args.block.now.ops
+    c.in_ok-refill.ensures.graph).greedy.lawful.names
 
 pub push_said-requires-clause-measured : goal.push_said-requires-clause-measured
 push_said-requires-clause-measured c =
-    measured_too _ c.args.request.now.latencies c.args.block.now c.in_ok-schedule.schedule _ _ c.in_ok-refill.ensures.graph
-    (c.in_ok-schedule.ensures _ _ _ c.in_ok-refill.ensures.graph).greedy.lawful.names c.in_ok-measures.ensures.measures
+    let rule = c.memory_rule.result in
+    let lat = c.args.request.now.latencies in
+    measured_too rule lat c.args.block.now c.in_ok-schedule.schedule _ _ c.in_ok-refill.ensures.graph
+    (c.in_ok-schedule.ensures rule lat c.args.block.now.ops c.in_ok-refill.ensures.graph).greedy.lawful.names
+    c.in_ok-measures.ensures.measures
 
 pub push_said-requires-clause-waits : goal.push_said-requires-clause-waits
 push_said-requires-clause-waits c =
     rw (c.in_ok-measures.ensures.rule ∙ ap (λ (g : GraphOf). g.rule) c.in_ok-refill.ensures.graph)
-    (c.in_ok-schedule.ensures _ _ _ c.in_ok-refill.ensures.graph).greedy.lawful.waits
+    (c.in_ok-schedule.ensures c.memory_rule.result c.args.request.now.latencies c.args.block.now.ops
+    c.in_ok-refill.ensures.graph).greedy.lawful.waits
 
 pub returns : goal.returns
 returns c =
@@ -37,7 +43,7 @@ returns c =
     explain_is request (option_copied c.args.own) c.args.number block c.in_ok-schedule.schedule _
     c.in_ok-measures.measures.ranks.items said.0 _ _ filled
     (c.in_ok-measures.ensures.ranks ∙ c.in_ok-ranks.ensures) c.in_ok-measures.ensures.rule c.in_ok-measures.ensures.least
-    (rw c.deref.ensures.value at (c.in_ok-schedule.ensures _ _ _ filled).greedy)
+    (rw c.deref.ensures.value at (c.in_ok-schedule.ensures (memory_rule request) request.latencies block.ops filled).greedy)
     (rw c.has-by_cycle.ensures at said.1) entry.text entry.cycles
     (c.in_ok-entry.ensures.text
     ∙ (c.deref-2.ensures.value
