@@ -37,17 +37,18 @@ module _ (counts : Bool) (lat : Latencies) (a b : Op) where
       elim (fold_max_reached 0 all) [
         | inl none ↦ let zero : longest ≡ 0 = none in absurd (omega arith)
         | inr reached ↦ elim (delay_is_where counts lat a b longest (contains_from all longest reached)) [
-            | inl own ↦ absurd (without (subst (Contains all) (sym own) (contains_from all longest reached)))
-            | inr a_cycle ↦ a_cycle
-          ]
+          | inl own ↦ absurd (without (subst (Contains all) (sym own) (contains_from all longest reached)))
+          | inr a_cycle ↦ a_cycle
+        ]
       ]
+
   longest_none : (Contains all (latency lat a) → ⊥) → (Contains all 1 → ⊥) → 0 ≡ longest
   longest_none without none_of_one = elim (fold_max_reached 0 all) [
     | inl none ↦ sym none
     | inr reached ↦ elim (delay_is_where counts lat a b longest (contains_from all longest reached)) [
-        | inl own ↦ absurd (without (subst (Contains all) (sym own) (contains_from all longest reached)))
-        | inr a_cycle ↦ absurd (none_of_one (subst (Contains all) (sym a_cycle) (contains_from all longest reached)))
-      ]
+      | inl own ↦ absurd (without (subst (Contains all) (sym own) (contains_from all longest reached)))
+      | inr a_cycle ↦ absurd (none_of_one (subst (Contains all) (sym a_cycle) (contains_from all longest reached)))
+    ]
   ]
 
 pub returns-then-has_delay : goal.returns-then-has_delay
