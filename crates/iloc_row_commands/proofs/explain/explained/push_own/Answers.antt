@@ -1,5 +1,6 @@
 use Rattle.std.proofs.Common.{◌≡◌, ◌∙◌, ap, sym}
 use Rattle.std.proofs.lemmas.Result.{on_ok_weaker}
+use Rattle.iloc_rules.specs.declared.memory_rule.MemoryRule.TheVariants.{Book}
 use Rattle.iloc_rules.specs.Heuristics.{priorities_by}
 use Rattle.iloc_sched.specs.Graph.GraphOf.{GraphOf}
 use Rattle.iloc_row_commands.proofs.explain.explained.push_own.Goals as goal
@@ -11,7 +12,8 @@ pub explain_by_graph-requires-clause-waits : goal.explain_by_graph-requires-clau
 explain_by_graph-requires-clause-waits c =
     let timed : c.args.known.now.graph.now.latencies ≡ c.args.known.now.latencies.now =
     ap (λ (g : GraphOf). g.latencies) c.args.known.now.drawn in
-    rw (timed, ap (λ (g : GraphOf). g.rule) c.args.known.now.drawn) c.requires.waits
+    let ruled : c.args.known.now.graph.now.rule ≡ Book = ap (λ (g : GraphOf). g.rule) c.args.known.now.drawn in
+    rw (timed, ruled) c.requires.waits
 
 pub departure_of-requires : goal.departure_of-requires
 departure_of-requires c = c.requires.names ∙ sym c.args.known.now.greedy.lawful.names
@@ -24,7 +26,7 @@ returns c =
     let same : own.schedule.ops ≡ known.ours.now.ops = c.requires.names ∙ sym known.greedy.lawful.names in
     let drawn : known.graph.now.ops ≡ own.schedule.ops = ap (λ (g : GraphOf). g.ops) known.drawn ∙ sym c.requires.names in
     let timed : known.graph.now.latencies ≡ lat = ap (λ (g : GraphOf). g.latencies) known.drawn in
-    let ruled = ap (λ (g : GraphOf). g.rule) known.drawn in
+    let ruled : known.graph.now.rule ≡ Book = ap (λ (g : GraphOf). g.rule) known.drawn in
     let prios = priorities_by known.heuristic lat own.schedule.ops in
     let told = c.in_ok-explain_by_graph.ensures in
     let left = c.departure_of.ensures prios lat known.block.now.ops (rw same known.greedy) in
