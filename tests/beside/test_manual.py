@@ -19,7 +19,8 @@ COMPLETIONS = (
     (["counts", "--load", ""], ""),
     (["counts", "--load", "1", "--m"], "--mult"),
     (["check", "--"],
-     "--at --load --store --mult --nodes --task --either-slot --lawful --operations --outputs --csv --json --help"),
+     "--at --load --store --mult --nodes --task --either-slot --disambiguate --lawful --operations --outputs --csv "
+     "--json --help"),
     (["help", "c"], "counts compare check"),
     (["counts", "--priority", ""], PRIORITIES),
     (["schedule", "--load", "1", "--priority", "s"], "slack successors"),

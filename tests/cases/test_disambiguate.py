@@ -19,6 +19,7 @@ from oracle.scheduler import ORDERS, Schedule
 
 OPTION = "--disambiguate"
 NO_COMMAND = 2
+TAKING = ("schedule", "counts", "simulate", "compare", "optimize", "explain", "graph", "check")
 NOT_TAKING = ("run", "trace", "lint")
 EXCLUDED = (["check", "--lawful"], ["explain", "--task", "/dev/null"])      # what is by the book
 FILES, OF_A_FILE = 30, 20               # 600 drawn blocks
@@ -165,7 +166,9 @@ def by_workers():
             yield f"{command}: the number of workers leaves a trace"
 
 
-def not_taken():
+def taken():
+    """These commands have the option, others haven't."""
+    yield from (f"{command} hasn't the option" for command in TAKING if not takes(command))
     for command in NOT_TAKING:
         status, out, err = end = ending([command, OPTION], b"output 0\n")
         if (status, out) != (NO_COMMAND, b"") or not err.startswith(b"error: unexpected argument '--disambiguate'"):
@@ -213,7 +216,7 @@ def disambiguate_cases():
     yield Check("disambiguate/in_memory", unlike_in_memory, files)
     yield Check("disambiguate/judged", not_judged_the_same, files[:len(files) // 10])
     yield Check("disambiguate/by_workers", by_workers)
-    yield Check("disambiguate/not_taken", not_taken)
+    yield Check("disambiguate/taken", taken)
     if takes("check") and takes("explain"):
         yield Check("disambiguate/excluded", excluded)
         yield Check("disambiguate/shorter_than_the_bound", shorter_than_the_bound)
