@@ -1,8 +1,7 @@
 //! What proposals are judged beside, and how.
-ghost use Rattle.std.specs.Prelude.{◌≡◌, ◌≤◌, length};
+ghost use Rattle.std.specs.Prelude.{◌≤◌, length};
 ghost use Rattle.iloc_ops.specs.Limits.{MAX_OPS};
 ghost use Rattle.iloc_rules.specs.Lawful.{IsLawful};
-ghost use Rattle.iloc_rules.specs.Least as bound;
 
 use iloc_meaning::Memory;
 use iloc_ops::Block;
@@ -14,17 +13,18 @@ use iloc_timed::{Latencies, Schedule};
 pub struct Task<'a> {
     /// The block, of 10,000 operations at most.
     pub block: &'a Block,
-    /// Our schedule of it.
+    /// Our schedule of it by the book, beside which rows are judged.
     pub ours: &'a Schedule,
-    /// What a search finds of the cycles it takes, if there is one.
+    /// How many cycles our schedule takes by the rule of memory that is asked for.
+    pub cycles: u64,
+    /// What a search finds by that rule of the cycles it takes, if there is one.
     pub sought: Option<Sought>,
-    /// No lawful schedule of the block takes fewer cycles.
+    /// The cycles that each schedule takes at least which is lawful by that rule.
     pub least: u64,
     /// The latencies of the machine.
     pub latencies: &'a Latencies,
     pub ghost few: { length block.now.ops ≤ MAX_OPS },
     pub ghost lawful: { IsLawful latencies.now block.now.ops ours.now.ops ours.now.rows },
-    pub ghost is_least: { least ≡ bound.least latencies.now block.now.ops },
 }
 
 /// The form of a listing.

@@ -18,16 +18,16 @@ use Rattle.iloc_verdict.specs.declared.checked.Checked.{Checked}
 use Rattle.iloc_verdict.specs.Entry.{entry_as}
 use Rattle.iloc_verdict.specs.Checked.{found, kind_of, passes}
 
--- Of what is proposed for a block this is found, whatever was sought, and this entry listed, as is asked for, by a verdict that
--- is right. What our schedule issues is lawful.
+-- Of what is proposed for a block this is found, whatever is known of the block's cycles, and this entry listed, as is asked for,
+-- by a verdict that is right. What our schedule by the book issues is lawful.
 pub record IsCheck (options : CheckOptions) (lat : Latencies) (memory : List ℤ) (block : List Op) (ours : Table)
     (proposal : Proposed) (checked : Checked) (entry : List ℕ) : Type 0 where
   pub verdict : Verdict
   pub right : IsVerdict options.outputs_alone lat block proposal.ops proposal.rows memory verdict
   pub own : IssueTheSame ours.ops ours.rows proposal.ops proposal.rows → verdict ≡ Lawful
   pub is_found : checked
-      ≡ found (kind_of options.lawful verdict) (keeps_operations options.operations block proposal.ops) checked.sought lat block
-      ours proposal
+      ≡ found (kind_of options.lawful verdict) (keeps_operations options.operations block proposal.ops) checked.ours
+      checked.sought checked.least lat proposal
   pub listed : entry
       ≡ entry_as (passes options.lawful checked) options.form proposal.claimed proposal.ops proposal.rows verdict checked
 

@@ -1,6 +1,7 @@
 //! What is found of the rows that are proposed for a block.
 ghost use Rattle.std.specs.Prelude.{ℕ, ◌≡◌, ◌++◌, List, IfOk};
 ghost use Rattle.iloc_timed.specs.Schedule.{IsFirstBadRow};
+ghost use Rattle.iloc_verdict.specs.Checked.{IsBeside};
 ghost use Rattle.iloc_verdict.specs.Kept.{keeps_operations as kept};
 ghost use Rattle.iloc_judge.specs.Checked.{IsCheck};
 
@@ -25,7 +26,7 @@ fn push_units(
 ) -> Result<Checked, NoMemory>
     requires bad { IsFirstBadRow proposal.now.ops proposal.now.rows row }
     requires keeps { keeps_operations ≡ kept judging.now.options.operations task.now.block.now.ops proposal.now.ops }
-    ensures sought { IfOk result (λ checked. checked.sought ≡ task.now.sought) }
+    ensures beside { IfOk result (IsBeside task.now) }
     ensures entry { IfOk result (λ checked. (entry : List ℕ)
         × IsCheck judging.now.options task.now.latencies.now judging.now.memory.now
         task.now.block.now.ops task.now.ours.now proposal.now checked entry
@@ -63,7 +64,7 @@ pub fn push_check(
     task: &Task<'_>,
     proposal: Proposal,
 ) -> Result<Checked, NoMemory>
-    ensures sought { IfOk result (λ checked. checked.sought ≡ task.now.sought) }
+    ensures beside { IfOk result (IsBeside task.now) }
     ensures entry { IfOk result (λ checked. (entry : List ℕ)
         × IsCheck judging.now.options task.now.latencies.now judging.now.memory.now
         task.now.block.now.ops task.now.ours.now proposal checked entry

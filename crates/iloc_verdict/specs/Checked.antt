@@ -1,14 +1,12 @@
 -- What is found of the rows that are proposed for a block, by their verdict.
-use Rattle.std.specs.Prelude.{◌&&◌, not, Bool, true, false, List, Option}
-use Rattle.iloc_ops.specs.declared.op.Op.{Op}
+use Rattle.std.specs.Prelude.{ℕ, ◌≡◌, ◌&&◌, not, Bool, true, false, Option}
 use Rattle.iloc_timed.specs.declared.latencies.Latencies.{Latencies}
 use Rattle.iloc_timed.specs.Cycles.{cycles}
-use Rattle.iloc_timed.specs.Schedule.{Table}
 use Rattle.iloc_rows.specs.declared.proposal.Proposed.{Proposed}
-use Rattle.iloc_rules.specs.Least.{least}
 use Rattle.iloc_rules.specs.declared.sought.Sought.{Sought}
 use Rattle.iloc_comparison.specs.declared.comparison.Comparison.{Comparison}
 use Rattle.iloc_comparison.specs.declared.comparison.Comparison.TheVariants as of
+use Rattle.iloc_comparison.specs.declared.task.Task.{Task}
 use Rattle.iloc_verdict.specs.declared.verdict.Verdict.{Verdict}
 use Rattle.iloc_verdict.specs.declared.verdict.Verdict.TheVariants.{Units, Lawful, Unlawful, Undecided}
 use Rattle.iloc_verdict.specs.declared.verdict.kind.VerdictKind.{VerdictKind}
@@ -31,17 +29,21 @@ kind_of lawful (Unlawful reasons found) = compared_kind found
 kind_of true (Undecided found) = kind.Undecided
 kind_of false (Undecided found) = compared_kind found
 
--- what goes with a word: whether the block's operations are kept, what was sought, the cycles of what is proposed, those of our
--- schedule, and the least
-abbrev pub found : VerdictKind → Bool → Option Sought → Latencies → List Op → Table → Proposed → Checked
-found word keeps sought lat block ours proposal = record {
+-- what goes with a word: whether the block's operations are kept, the cycles of our schedule, what was sought, the least, and
+-- the cycles of what is proposed
+abbrev pub found : VerdictKind → Bool → ℕ → Option Sought → ℕ → Latencies → Proposed → Checked
+found word keeps ours sought least lat proposal = record {
   kind = word;
   keeps_operations = keeps;
   cycles = cycles lat proposal.ops proposal.rows;
-  ours = cycles lat ours.ops ours.rows;
+  ours = ours;
   sought = sought;
-  least = least lat block;
+  least = least;
 }
+
+-- what is known of the block beside the proposal is as the task has it
+abbrev pub IsBeside : Task → Checked → Type 0
+IsBeside task c = (c.ours ≡ task.cycles) × (c.sought ≡ task.sought) × (c.least ≡ task.least)
 
 -- whether rows of this verdict pass, where nothing but rows by the book does or where others may
 abbrev pub is_passing : Bool → VerdictKind → Bool

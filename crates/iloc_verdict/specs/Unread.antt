@@ -4,7 +4,6 @@ use Rattle.std.specs.List.{filter}
 use Rattle.std.specs.Fmt.{decimal}
 use Rattle.iloc_ops.specs.declared.op.Op.{Op}
 use Rattle.iloc_timed.specs.declared.latencies.Latencies.{Latencies}
-use Rattle.iloc_timed.specs.Schedule.{Table}
 use Rattle.iloc_rows.specs.declared.proposal.Proposed.{Proposed}
 use Rattle.iloc_rows.specs.declared.proposal.unread.Unread.{Unread}
 use Rattle.iloc_lint.specs.Row.{IsRowWording}
@@ -47,11 +46,11 @@ unread_as forms.Json rows changes checked claimed unread words = unread_json_of 
 -- This is the first line of what is proposed for a block that can't be read, this is found of it, and this entry listed in this
 -- form, with words for what is found at a place of its text. Its cycles, and what it leaves out and adds, are those of its
 -- rows, where what can't be read is an empty one.
-pub record IsUnread (form : Form) (lat : Latencies) (block : List Op) (ours : Table) (proposal : Proposed)
-    (checked : Checked) (entry : List ℕ) : Type 0 where
+pub record IsUnread (form : Form) (lat : Latencies) (block : List Op) (proposal : Proposed) (checked : Checked)
+    (entry : List ℕ) : Type 0 where
   pub unread : Unread
   pub first : proposal.unread ≡ Some unread
-  pub is_found : checked ≡ found kind.Unread false checked.sought lat block ours proposal
+  pub is_found : checked ≡ found kind.Unread false checked.ours checked.sought checked.least lat proposal
   pub changes : Changes
   pub are_changes : AreChanges (without_nops block) proposal.ops proposal.rows changes
   pub words : List ℕ

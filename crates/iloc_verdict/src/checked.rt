@@ -20,7 +20,7 @@ use iloc_comparison::{Comparison, Form, Judging, Task};
 use iloc_ops::{NoMemory, Op};
 use iloc_rows::Proposal;
 use iloc_rules::Sought;
-use iloc_timed::{Row, cycles, cycles_of};
+use iloc_timed::{Row, cycles_of};
 use verdict_line::{push_line, push_table_row};
 
 /// What is found of the rows that are proposed for a block.
@@ -32,11 +32,11 @@ pub struct Checked {
     pub keeps_operations: bool,
     /// How many cycles they take.
     pub cycles: u64,
-    /// How many cycles our schedule takes.
+    /// How many cycles our schedule takes, by the rule of memory that is asked for.
     pub ours: u64,
     /// What a search finds of the block's cycles, if there is one.
     pub sought: Option<Sought>,
-    /// How many cycles each lawful schedule takes at least.
+    /// How many cycles each schedule takes at least that is lawful by that rule.
     pub least: u64,
 }
 
@@ -88,14 +88,14 @@ pub fn found(
     kind: VerdictKind,
     keeps_operations: bool,
 ) -> Checked
-    ensures { result ≡ found kind keeps_operations task.now.sought task.now.latencies.now task.now.block.now.ops
-        task.now.ours.now proposal.now }
+    ensures { result ≡ found kind keeps_operations task.now.cycles task.now.sought task.now.least task.now.latencies.now
+        proposal.now }
 {
     Checked {
         kind,
         keeps_operations,
         cycles: cycles_of(proposal.ops(), proposal.rows(), task.latencies),
-        ours: cycles(task.ours, task.latencies),
+        ours: task.cycles,
         sought: task.sought,
         least: task.least,
     }

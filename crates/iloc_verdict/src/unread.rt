@@ -1,5 +1,6 @@
 //! What is listed of rows among which a line can't be read.
 ghost use Rattle.std.specs.Prelude.{ℕ, ◌≡◌, ◌++◌, List, Some, length, IfOk, OnOk};
+ghost use Rattle.iloc_verdict.specs.Checked.{IsBeside};
 ghost use Rattle.iloc_verdict.specs.Unread.{in_one_line, unread_as, unread_lines, unread_told, IsUnread, IsUnreadLine};
 
 use crate::checked::changes::{Changes, changes_of};
@@ -104,9 +105,9 @@ pub fn push_unread(
     unread: &Unread,
 ) -> Result<Checked, NoMemory>
     requires first { proposal.now.unread ≡ Some unread.now }
-    ensures sought { IfOk result (λ checked. checked.sought ≡ task.now.sought) }
+    ensures beside { IfOk result (IsBeside task.now) }
     ensures entry { IfOk result (λ checked. (entry : List ℕ)
-        × IsUnread form task.now.latencies.now task.now.block.now.ops task.now.ours.now proposal.now checked entry
+        × IsUnread form task.now.latencies.now task.now.block.now.ops proposal.now checked entry
         × (text.new.items ≡ text.old.items ++ entry)) }
 {
     let checked = found(task, proposal, VerdictKind::Unread, false);
