@@ -1,6 +1,7 @@
 -- What is said of proposals.
-use Rattle.std.proofs.Common.{◌≡◌, ◌≤◌, ℕ, ◌+◌, List, ◌++◌, length, arith, refl, ap, ◌∙◌, subst, append_assoc, Option, Some, None}
+use Rattle.std.proofs.Common.{◌≡◌, ◌≤◌, ℕ, ◌+◌, ◌*◌, List, ◌++◌, length, sum_by, arith, refl, ap, ◌∙◌, subst, append_assoc, Option, Some, None}
 use Rattle.std.specs.Prelude.{ℤ}
+use Rattle.std.proofs.lemmas.List.Sums.{length-filter, count_by-le-length}
 use Rattle.iloc_ops.specs.Limits.{MAX_OPS}
 use Rattle.iloc_ops.specs.declared.op.Op.{Op}
 use Rattle.iloc_ops.specs.declared.file.Block.{Block}
@@ -8,51 +9,93 @@ use Rattle.iloc_timed.specs.Limits.{MAX_ROWS}
 use Rattle.iloc_timed.specs.Schedule.{Table}
 use Rattle.iloc_timed.specs.declared.latencies.Latencies.{Latencies}
 use Rattle.iloc_timed.specs.Cycles.{cycles}
+use Rattle.iloc_timed.specs.Latency.{latency}
 use Rattle.iloc_rows.specs.declared.proposal.Proposed.{Proposed}
 use Rattle.iloc_rows.specs.declared.proposal.unread.Unread.{Unread}
 use Rattle.iloc_rules.specs.declared.heuristic.Heuristic.TheVariants.{Chain}
-use Rattle.iloc_rules.specs.declared.memory_rule.MemoryRule.TheVariants.{Book}
-use Rattle.iloc_rules.specs.Greedy.{IsGreedy}
-use Rattle.iloc_rules.specs.Least.{least}
-use Rattle.iloc_bound.proofs.LeastBound.{least_bound}
+use Rattle.iloc_rules.specs.declared.delay_pairs.TheConstants.{LONGEST_DELAY}
+use Rattle.iloc_rules.specs.declared.memory_rule.MemoryRule.{MemoryRule}
+use Rattle.iloc_rules.specs.Greedy.{IsGreedy, IsGreedyWhere}
+use Rattle.iloc_rules.specs.Renaming.{renamed}
+use Rattle.iloc_rules.specs.Rule.{counts_by, priorities_under}
+use Rattle.iloc_rules.proofs.Bounds.BusyCycles.{busy_bound_where}
+use Rattle.iloc_rules.proofs.Renamed.MentionedSources.{length-renamed_by}
+use Rattle.iloc_bound.specs.Bound.{least_under}
+use Rattle.iloc_bound.proofs.LeastBound.{ruled_least_bound}
+use Rattle.iloc_listing.specs.Limits.{most_cycles}
+use Rattle.iloc_listing.specs.Listing.{cycles_of}
 use Rattle.iloc_verdict.specs.declared.checked.Checked.{Checked}
 use Rattle.iloc_comparison.specs.declared.task.CheckOptions.{CheckOptions}
 use Rattle.iloc_row_commands.specs.Check.{IsCheckEntry, IsSaid, check_head, IsSmall}
 use Rattle.iloc_optimum.specs.Optimum.{IsSoughtIf}
 use Rattle.iloc_driver.specs.Entries.{Adds}
-use Rattle.iloc_listing.proofs.Schedules.{the_greedy, cycles_few, cycles_within}
+use Rattle.iloc_listing.proofs.Schedules.{the_greedy, the_greedy_under, cycles_within, latencies_at_most}
+
+-- a schedule by a rule of memory: the cycles are few, and so is the bound
+abbrev pub IsRuled : MemoryRule → Latencies → List Op → Table → Type 0
+IsRuled rule lat block s =
+    IsGreedyWhere (counts_by rule s.ops) (priorities_under rule Chain lat s.ops) lat block s.ops s.rows
+
+-- renaming adds no operation
+renamed_fits : (block : List Op) → length (renamed block) ≤ length block
+renamed_fits block = grind (arith, length-renamed_by, length-filter, count_by-le-length)
+
+ruled_few : (rule : MemoryRule) (lat : Latencies) (block : List Op) (s : Table) → IsRuled rule lat block s
+    → length block ≤ MAX_OPS → cycles lat s.ops s.rows ≤ most_cycles
+ruled_few rule lat block s greedy short =
+    let busy : cycles lat s.ops s.rows ≤ sum_by (latency lat) s.ops =
+    busy_bound_where (counts_by rule s.ops) (priorities_under rule Chain lat s.ops) lat block s.ops s.rows greedy in
+    let most : sum_by (latency lat) s.ops ≤ LONGEST_DELAY * length s.ops = latencies_at_most lat s.ops in
+    let longest : length s.ops ≤ length block = rw greedy.lawful.names (renamed_fits block) in
+    omega arith
+
+-- what was said gives the cycles of the proposal
+said_cycles : (u : Option Unread) (options : CheckOptions) (lat : Latencies) (memory : List ℤ) (block : List Op) (s : Table)
+    (p : Proposed) (c : Checked) (entry : List ℕ) → IsSaid u options lat memory block s p c entry
+    → c.cycles ≡ cycles lat p.ops p.rows
+said_cycles None options lat memory block s p c entry check = ap (λ (x : Checked). x.cycles) check.is_found
+said_cycles (Some unread) options lat memory block s p c entry check = ap (λ (x : Checked). x.cycles) check.is_found
 
 -- its numbers are small
-small_found : (lat : Latencies) (block : List Op) (s : Table) (p : Proposed) (c : Checked)
-    → c.cycles ≡ cycles lat p.ops p.rows → c.ours ≡ cycles lat s.ops s.rows → c.least ≡ least lat block
-    → IsGreedy lat block s.ops s.rows → length block ≤ MAX_OPS → length p.rows ≤ MAX_ROWS → IsSmall c
-small_found lat block s p c theirs ours most greedy short few = grind (arith, cycles_few, cycles_within, least_bound)
-
-pub small_check : (u : Option Unread) (options : CheckOptions) (lat : Latencies) (memory : List ℤ) (block : List Op)
-    (s : Table) (p : Proposed) (c : Checked) (entry : List ℕ) → IsSaid u options lat memory block s p c entry
-    → IsGreedy lat block s.ops s.rows → length block ≤ MAX_OPS → length p.rows ≤ MAX_ROWS → IsSmall c
-small_check None options lat memory block s p c entry check greedy short few =
-    small_found lat block s p c (ap (λ (x : Checked). x.cycles) check.is_found)
-    (ap (λ (x : Checked). x.ours) check.is_found) (ap (λ (x : Checked). x.least) check.is_found) greedy short few
-small_check (Some unread) options lat memory block s p c entry check greedy short few =
-    small_found lat block s p c (ap (λ (x : Checked). x.cycles) check.is_found)
-    (ap (λ (x : Checked). x.ours) check.is_found) (ap (λ (x : Checked). x.least) check.is_found) greedy short few
+pub small_check : (options : CheckOptions) (rule : MemoryRule) (lat : Latencies) (memory : List ℤ) (block : List Op)
+    (s ruled : Table) (p : Proposed) (c : Checked) (entry : List ℕ) → IsSaid p.unread options lat memory block s p c entry
+    → IsRuled rule lat block ruled → c.ours ≡ cycles_of lat ruled → c.least ≡ least_under rule lat block
+    → length block ≤ MAX_OPS → length p.rows ≤ MAX_ROWS → IsSmall c
+small_check options rule lat memory block s ruled p c entry said greedy counted least short few =
+    let theirs : c.cycles ≡ cycles lat p.ops p.rows = said_cycles p.unread options lat memory block s p c entry said in
+    let within : cycles lat p.ops p.rows ≤ length p.rows + LONGEST_DELAY = cycles_within lat p.ops p.rows in
+    let most : cycles lat ruled.ops ruled.rows ≤ most_cycles = ruled_few rule lat block ruled greedy short in
+    let bound : least_under rule lat block ≤ cycles lat ruled.ops ruled.rows =
+    ruled_least_bound rule lat block ruled.ops ruled.rows greedy.lawful in
+    record {
+      cycles = omega arith;
+      ours = omega arith;
+      least = omega arith;
+    }
 
 -- what was appended is the entry
-pub check_listed : (options : CheckOptions) (nodes : Option ℕ) (lat : Latencies) (memory start : List ℤ) (k : ℕ) (b : Block)
-    (s : Table) (p : Proposed) (c : Checked) (text headed more said : List ℕ) (name : Option (List ℕ))
-    → IsGreedy lat b.ops s.ops s.rows → IsSoughtIf nodes Book lat b.ops c.sought
+pub check_listed : (options : CheckOptions) (nodes : Option ℕ) (rule : MemoryRule) (lat : Latencies) (memory start : List ℤ)
+    (k : ℕ) (b : Block) (s ruled : Table) (p : Proposed) (c : Checked) (text headed more said : List ℕ) (name : Option (List ℕ))
+    → IsGreedy lat b.ops s.ops s.rows → IsRuled rule lat b.ops ruled → c.ours ≡ cycles_of lat ruled
+    → IsSoughtIf nodes rule lat b.ops c.sought → c.least ≡ least_under rule lat b.ops
     → memory ≡ start → name ≡ b.name → headed ≡ text ++ check_head options.form k name
     → IsSaid p.unread options lat memory b.ops s p c said → more ≡ headed ++ said
-    → Adds (IsCheckEntry options nodes lat start k (b, p)) text more c
-check_listed options nodes lat memory start k b s p c text headed more said name greedy sought starts named opened is added =
+    → Adds (IsCheckEntry options nodes rule lat start k (b, p)) text more c
+check_listed options nodes rule lat memory start k b s ruled p c text headed more said name greedy by_rule counted sought least
+    starts named opened is added =
     let P : List ℤ → Type 0 = λ m. IsSaid p.unread options lat m b.ops s p c said in
     record {
       entry = check_head options.form k b.name ++ said;
       right = record {
         ours = s;
         greedy = the_greedy Chain lat b s greedy;
+        counted = record {
+          schedule = ruled;
+          greedy = the_greedy_under rule (priorities_under rule Chain lat) lat b ruled by_rule;
+          counted = counted;
+        };
         sought = sought;
+        least = least;
         text = said;
         right = subst P starts is;
         listed = refl;

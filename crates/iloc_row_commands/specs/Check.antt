@@ -9,7 +9,9 @@ use Rattle.iloc_timed.specs.Schedule.{Table}
 use Rattle.iloc_rows.specs.declared.proposal.Proposed.{Proposed}
 use Rattle.iloc_rows.specs.declared.proposal.unread.Unread.{Unread}
 use Rattle.iloc_rules.specs.declared.heuristic.Heuristic.TheVariants.{Chain}
-use Rattle.iloc_rules.specs.declared.memory_rule.MemoryRule.TheVariants.{Book}
+use Rattle.iloc_rules.specs.declared.memory_rule.MemoryRule.{MemoryRule}
+use Rattle.iloc_rules.specs.Rule.{priorities_under}
+use Rattle.iloc_bound.specs.Bound.{least_under}
 use Rattle.iloc_verdict.specs.declared.checked.Checked.{Checked}
 use Rattle.iloc_comparison.specs.declared.task.CheckOptions.{CheckOptions}
 use Rattle.iloc_comparison.specs.declared.task.Form.{Form}
@@ -21,12 +23,13 @@ use Rattle.iloc_verdict.specs.Unread.{IsUnread}
 use Rattle.iloc_listing.specs.Limits.{most_cycles, most_proposed_cycles}
 use Rattle.iloc_listing.specs.Listing.{head_as}
 use Rattle.iloc_driver.specs.Rows.{ListsRows}
-use Rattle.iloc_listing.specs.Schedules.{IsTheGreedy}
+use Rattle.iloc_listing.specs.Schedules.{IsCountUnder, IsTheGreedy}
 use Rattle.iloc_driver.specs.declared.commands.Finding.{Finding}
 use Rattle.iloc_args.specs.Flags.{has}
 use Rattle.iloc_args.specs.declared.flag.Flag.{Flag}
 use Rattle.iloc_args.specs.declared.flag.Flag.TheVariants.{Csv, EitherSlot, Json, Lawful, Operations, Outputs}
 use Rattle.iloc_args.specs.declared.request.Request.{Request}
+use Rattle.iloc_args.specs.Rule.{memory_rule}
 use Rattle.iloc_rows.specs.EitherSlot.{placed}
 use Rattle.iloc_driver.specs.Command.{Command, of_rows, initial_memory}
 use Rattle.iloc_optimum.specs.Optimum.{IsSoughtIf}
@@ -57,7 +60,7 @@ options_of request = options_by (has request.flags)
 abbrev pub IsSaid : Option Unread → CheckOptions → Latencies → List ℤ → List Op → Table → Proposed → Checked → List ℕ → Type 0
 IsSaid None options lat memory block ours proposal checked text = IsCheck options lat memory block ours proposal checked text
 IsSaid (Some unread) options lat memory block ours proposal checked text =
-    IsUnread options.form lat block ours proposal checked text
+    IsUnread options.form lat block proposal checked text
 
 abbrev pub json_name : List ℕ → List ℕ
 json_name name = codes "\"name\":" ++ quoted name
@@ -77,13 +80,16 @@ check_head forms.Lines k name = head_as false k name
 check_head forms.Table k name = head_as true k name
 check_head forms.Json k name = json_head k name
 
--- The entry of block k and its proposal: the block's number and its name, and what is said of the proposal, beside the block's
--- greedy schedule and what a search finds, if it has nodes.
-pub record IsCheckEntry (options : CheckOptions) (nodes : Option ℕ) (lat : Latencies) (memory : List ℤ) (k : ℕ)
-    (of : Block × Proposed) (entry : List ℕ) (checked : Checked) : Type 0 where
+-- The entry of block k and its proposal: the block's number and its name, and what is said of the proposal, which is judged
+-- beside the block's greedy schedule by the book. By this rule of memory are the cycles of our schedule, what a search finds, if it
+-- has nodes, and the least.
+pub record IsCheckEntry (options : CheckOptions) (nodes : Option ℕ) (rule : MemoryRule) (lat : Latencies) (memory : List ℤ)
+    (k : ℕ) (of : Block × Proposed) (entry : List ℕ) (checked : Checked) : Type 0 where
   pub ours : Table
   pub greedy : IsTheGreedy Chain lat of.0 ours
-  pub sought : IsSoughtIf nodes Book lat of.0.ops checked.sought
+  pub counted : IsCountUnder rule (priorities_under rule Chain lat) lat of.0 checked.ours
+  pub sought : IsSoughtIf nodes rule lat of.0.ops checked.sought
+  pub least : checked.least ≡ least_under rule lat of.0.ops
   pub text : List ℕ
   pub right : IsSaid of.1.unread options lat memory of.0.ops ours of.1 checked text
   pub listed : entry ≡ check_head options.form k of.0.name ++ text
@@ -130,18 +136,19 @@ check_ending forms.Lines nodes found = totals_line nodes found
 check_ending forms.Table nodes found = []
 check_ending forms.Json nodes found = []
 
--- The text says of each proposal, beside the greedy schedule of its block, what is right, in a table below its header, and
+-- The text says of each proposal, beside the greedy schedules of its block, what is right, in a table below its header, and
 -- in lines with the totals at the end. They passed exactly where each does.
-abbrev pub ListsChecked : CheckOptions → Option ℕ → Latencies → List ℤ → List Block → List Proposed → Finding → List ℕ → Type 0
-ListsChecked options nodes lat memory blocks proposals finding text =
-    ListsRows (IsCheckEntry options nodes lat memory) (check_opening options.form nodes) (check_ending options.form nodes)
+abbrev pub ListsChecked : CheckOptions → Option ℕ → MemoryRule → Latencies → List ℤ → List Block → List Proposed → Finding
+    → List ℕ → Type 0
+ListsChecked options nodes rule lat memory blocks proposals finding text =
+    ListsRows (IsCheckEntry options nodes rule lat memory) (check_opening options.form nodes) (check_ending options.form nodes)
     (passes options.lawful) blocks proposals finding text
 
 -- The text is what the request says of what is proposed for blocks, with this finding: of the rows with leave for either slot,
 -- if it gives that.
 abbrev pub Checks : Request → List Block → List Proposed → Finding → List ℕ → Type 0
 Checks request blocks proposals finding text =
-    ListsChecked (options_of request) request.nodes request.latencies (initial_memory request) blocks
+    ListsChecked (options_of request) request.nodes (memory_rule request) request.latencies (initial_memory request) blocks
     (placed (has request.flags EitherSlot) proposals) finding text
 
 abbrev pub check_command : Command

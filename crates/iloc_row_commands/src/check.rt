@@ -4,7 +4,11 @@ ghost use Rattle.std.specs.List.{All};
 ghost use Rattle.std.specs.Option.{option_copied};
 ghost use Rattle.iloc_row_commands.specs.Check as listed;
 ghost use Rattle.iloc_row_commands.specs.Check.{IsSaid, form_of, options_of, IsSmall as IsSmallCheck};
-ghost use Rattle.iloc_ops.specs.Limits.{MAX_BLOCKS};
+ghost use Rattle.iloc_ops.specs.Limits.{MAX_BLOCKS, MAX_OPS};
+ghost use Rattle.iloc_rules.specs.declared.heuristic.Heuristic.TheVariants.{Chain};
+ghost use Rattle.iloc_rules.specs.Greedy.{IsGreedy, IsGreedyWhere};
+ghost use Rattle.iloc_rules.specs.Rule.{counts_by, priorities_under};
+ghost use Rattle.iloc_verdict.specs.Checked.{IsBeside};
 
 use crate::json::push_json_head;
 use crate::totals::Totals;
@@ -20,7 +24,7 @@ use iloc_optimum::Optimizer;
 use iloc_rows::Proposal;
 use iloc_rules::{Heuristic, MemoryRule};
 use iloc_sched::{Graph, Scheduler};
-use iloc_timed::MAX_ROWS;
+use iloc_timed::{Latencies, MAX_ROWS, Schedule, cycles};
 use iloc_verdict::{Checked, push_unread};
 use std::alloc::Global;
 
@@ -128,7 +132,7 @@ fn push_judged(
     task: &Task<'_>,
     proposal: Proposal,
 ) -> Result<Checked, NoMemory>
-    ensures sought { IfOk result (λ checked. checked.sought ≡ task.now.sought) }
+    ensures beside { IfOk result (IsBeside task.now) }
     ensures entry { IfOk result (λ checked. (entry : List ℕ)
         × IsSaid proposal.unread judging.now.options task.now.latencies.now
         judging.now.memory.now task.now.block.now.ops task.now.ours.now proposal checked entry
@@ -140,9 +144,34 @@ fn push_judged(
     push_check(alloc, text, judging, task, proposal)
 }
 
+/// The greedy schedule of a block by the book, of which this one is by a rule of memory.
+fn by_the_book(
+    graph: &mut Graph,
+    scheduler: &mut Scheduler,
+    rule: MemoryRule,
+    block: &Block,
+    latencies: &Latencies,
+    ruled: Schedule,
+) -> Result<Schedule, NoMemory>
+    requires short { length block.now.ops ≤ MAX_OPS }
+    requires ruled { IsGreedyWhere (counts_by rule ruled.ops) (priorities_under rule Chain latencies.now ruled.ops) latencies.now
+        block.now.ops ruled.ops ruled.rows }
+    ensures { IfOk result (λ s. IsGreedy latencies.now block.now.ops s.ops s.rows) }
+{
+    match rule {
+        MemoryRule::Book => Ok(ruled),
+        MemoryRule::Address => {
+            scheduler.take_back(ruled);
+            graph.refill(MemoryRule::Book, block, latencies)?;
+            scheduler.lend_as(graph, Heuristic::Chain)
+        }
+    }
+}
+
 impl RowLister for CheckLister {
     ghost use Rattle.iloc_row_commands.specs.Check.{IsCheckEntry, check_ending, check_opening, form_of, options_of, IsSmall};
     ghost use Rattle.iloc_args.specs.Flags.{has};
+    ghost use Rattle.iloc_args.specs.Rule.{memory_rule};
     ghost use Rattle.iloc_args.specs.declared.flag.Flag.TheVariants.{Lawful};
     ghost use Rattle.iloc_driver.specs.Command.{initial_memory};
     ghost use Rattle.iloc_verdict.specs.Checked.{passes};
@@ -150,7 +179,7 @@ impl RowLister for CheckLister {
     type Found = Checked;
 
     ghost lists = { λ request.
-        IsCheckEntry (options_of request) request.nodes request.latencies (initial_memory request) };
+        IsCheckEntry (options_of request) request.nodes (memory_rule request) request.latencies (initial_memory request) };
 
     ghost opening = { λ request. check_opening (form_of request) request.nodes };
 
@@ -187,10 +216,20 @@ impl RowLister for CheckLister {
     ) -> Result<Checked, NoMemory> {
         let latencies = &request.latencies;
         prove!(proposal.rows().len() <= MAX_ROWS);
-        self.graph.refill(MemoryRule::Book, block, latencies)?;
+        let rule = request.memory_rule();
+        self.graph.refill(rule, block, latencies)?;
         let least = least_of(alloc, &self.graph)?;
         let sought = self.optimizer.seek_if(block, &self.graph, request.nodes)?;
-        let ours = self.scheduler.lend_as(&self.graph, Heuristic::Chain)?;
+        let ruled = self.scheduler.lend_as(&self.graph, Heuristic::Chain)?;
+        let cycles = cycles(&ruled, latencies);
+        let ours = by_the_book(
+            &mut self.graph,
+            &mut self.scheduler,
+            rule,
+            block,
+            latencies,
+            ruled,
+        )?;
         push_check_head(text, form_of(request), number, block.name.as_ref())?;
         let judging = Judging {
             options: options_of(request),
@@ -200,6 +239,7 @@ impl RowLister for CheckLister {
         let task = Task {
             block,
             ours: &ours,
+            cycles,
             sought,
             least,
             latencies,

@@ -1,8 +1,9 @@
-use Rattle.std.proofs.Common.{ap, subst, sym, ◌∙◌}
-use Rattle.iloc_rules.specs.declared.memory_rule.MemoryRule.TheVariants.{Book}
-use Rattle.iloc_bound.specs.Bound.{least_of_under}
+use Rattle.std.proofs.Common.{◌≡◌, ap, subst, sym, ◌∙◌}
+use Rattle.iloc_bound.specs.Bound.{least_of_under, least_under}
 use Rattle.iloc_sched.specs.Graph.GraphOf.{GraphOf}
-use Rattle.iloc_row_commands.specs.Check.{options_of}
+use Rattle.iloc_listing.specs.Listing.{cycles_of}
+use Rattle.iloc_row_commands.specs.Check.{IsCheckEntry, options_of}
+use Rattle.iloc_driver.specs.Entries.{Adds}
 use Rattle.iloc_optimum.specs.Optimum.{IsSoughtIf}
 use Rattle.iloc_row_commands.proofs.Checks.{check_listed, small_check}
 use Rattle.iloc_row_commands.proofs.check.CheckListerRowLister.list.Goals as goal
@@ -10,30 +11,46 @@ use Rattle.iloc_row_commands.proofs.check.CheckListerRowLister.list.Goals as goa
 pub seek_if-requires : goal.seek_if-requires
 seek_if-requires c = ap (λ (g : GraphOf). g.ops) c.in_ok-refill.ensures.graph
 
+pub by_the_book-requires-clause-ruled : goal.by_the_book-requires-clause-ruled
+by_the_book-requires-clause-ruled c = (c.in_ok-ruled.ensures _ _ _ c.in_ok-refill.ensures.graph).greedy
+
 pub invariant_of-task : goal.invariant_of-task
 invariant_of-task c = record {
   few = c.requires.short;
-  lawful = (c.in_ok-ours.ensures _ _ _ c.in_ok-refill.ensures.graph).greedy.lawful;
-  is_least = c.in_ok-least.ensures ∙ ap (λ (g : GraphOf). least_of_under g.rule g.latencies g.ops) c.in_ok-refill.ensures.graph;
+  lawful = c.in_ok-ours.ensures.lawful;
 }
 
 pub returns-clause-listed : goal.returns-clause-listed
 returns-clause-listed c =
     let request = c.args.request.now in
     let block = c.args.block.now in
+    let rule = c.memory_rule-rule.result in
+    let graph = c.in_ok-refill.ensures.graph in
     let said = c.in_ok-checked.ensures.entry in
-    let asked = subst (λ (g : GraphOf). IsSoughtIf request.nodes g.rule g.latencies block.ops c.in_ok-sought.sought)
-    c.in_ok-refill.ensures.graph c.in_ok-sought.ensures in
-    let sought = subst (IsSoughtIf request.nodes Book request.latencies block.ops) (sym c.in_ok-checked.ensures.sought) asked in
-    check_listed (options_of request) request.nodes request.latencies _ _ c.args.number block
-    c.in_ok-ours.ours c.args.proposal c.in_ok-checked.checked c.args.text.now.items _ _ said.0 _
-    (c.in_ok-ours.ensures _ _ _ c.in_ok-refill.ensures.graph).greedy sought c.requires.starts c.as_ref.ensures.value
-    (rw c.form_of.ensures at c.in_ok-push_check_head.ensures) (rw c.options_of.ensures at said.1) said.2
+    let beside = c.in_ok-checked.ensures.beside in
+    let asked = subst (λ (g : GraphOf). IsSoughtIf request.nodes g.rule g.latencies block.ops c.in_ok-sought.sought) graph
+    c.in_ok-sought.ensures in
+    let sought = subst (IsSoughtIf request.nodes rule request.latencies block.ops) (sym beside.1) asked in
+    let least : c.in_ok-checked.checked.least ≡ least_under rule request.latencies block.ops =
+    beside.2 ∙ (c.in_ok-least.ensures ∙ ap (λ (g : GraphOf). least_of_under g.rule g.latencies g.ops) graph) in
+    let counted : c.in_ok-checked.checked.ours ≡ cycles_of request.latencies c.in_ok-ruled.ruled =
+    beside.0 ∙ c.cycles-cycles.ensures in
+    subst (λ rule. Adds (IsCheckEntry (options_of request) request.nodes rule request.latencies _ c.args.number
+    (block, c.args.proposal)) _ _ _) c.memory_rule-rule.ensures
+    (check_listed (options_of request) request.nodes rule request.latencies _ _ c.args.number block
+    c.in_ok-ours.ours c.in_ok-ruled.ruled c.args.proposal c.in_ok-checked.checked c.args.text.now.items _ _ said.0 _
+    c.in_ok-ours.ensures (c.in_ok-ruled.ensures _ _ _ graph).greedy counted sought least c.requires.starts c.as_ref.ensures.value
+    (rw c.form_of.ensures at c.in_ok-push_check_head.ensures) (rw c.options_of.ensures at said.1) said.2)
 
 pub returns-clause-small : goal.returns-clause-small
 returns-clause-small c =
     let request = c.args.request.now in
+    let block = c.args.block.now in
+    let graph = c.in_ok-refill.ensures.graph in
     let said = c.in_ok-checked.ensures.entry in
-    small_check c.args.proposal.unread (options_of request) request.latencies c.args.self.now.memory
-    c.args.block.now.ops c.in_ok-ours.ours c.args.proposal c.in_ok-checked.checked said.0 (rw c.options_of.ensures at said.1)
-    (c.in_ok-ours.ensures _ _ _ c.in_ok-refill.ensures.graph).greedy c.requires.short c.rows.ensures.few
+    let beside = c.in_ok-checked.ensures.beside in
+    small_check (options_of request) c.memory_rule-rule.result request.latencies c.args.self.now.memory
+    block.ops c.in_ok-ours.ours c.in_ok-ruled.ruled c.args.proposal c.in_ok-checked.checked said.0
+    (rw c.options_of.ensures at said.1) (c.in_ok-ruled.ensures _ _ _ graph).greedy (beside.0 ∙ c.cycles-cycles.ensures)
+    (beside.2 ∙ (c.in_ok-least.ensures ∙ ap (λ (g : GraphOf). least_of_under g.rule g.latencies g.ops) graph))
+    c.requires.short c.rows.ensures.few
