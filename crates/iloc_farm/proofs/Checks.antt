@@ -8,6 +8,7 @@ use Rattle.iloc_ops.specs.declared.file.Block.{Block}
 use Rattle.iloc_timed.specs.Schedule.{Table}
 use Rattle.iloc_timed.specs.declared.latencies.Latencies.{Latencies}
 use Rattle.iloc_rows.specs.declared.proposal.Proposed.{Proposed}
+use Rattle.iloc_rules.specs.declared.memory_rule.MemoryRule.{MemoryRule}
 use Rattle.iloc_rows.specs.declared.proposal.unread.Unread.{Unread}
 use Rattle.iloc_judge.specs.Checked.{DoTheSame, MayPass}
 use Rattle.iloc_verdict.specs.Checked.{passes}
@@ -27,12 +28,13 @@ all_pass true is = refl
 all_pass false is = absurd (cc)
 
 -- what holds of whatever passes holds of all, where all pass
-module _ (options : CheckOptions) (nodes : Option ℕ) (lat : Latencies) (memory : List ℤ) (P : Block → Proposed → Type 0)
+module _ (options : CheckOptions) (nodes : Option ℕ) (rule : MemoryRule) (lat : Latencies) (memory : List ℤ)
+    (P : Block → Proposed → Type 0)
     (holds : (b : Block) (s : Table) (p : Proposed) (c : Checked) (text : List ℕ)
     → IsSaid p.unread options lat memory b.ops s p c text → passes options.lawful c ≡ true → P b p) where
   of_each : (k : ℕ) (blocks : List Block) (proposals : List Proposed) (found : List Checked) (text : List ℕ)
       → length proposals ≡ length blocks
-      → AreEntries (IsCheckEntry options nodes lat memory) k (zip blocks proposals) found text
+      → AreEntries (IsCheckEntry options nodes rule lat memory) k (zip blocks proposals) found text
       → list_all (passes options.lawful) found ≡ true → AllZip P blocks proposals
   of_each k [] [] found text many are pass = tt
   of_each k [] (p ∷ proposals) found text many are pass = absurd (omega arith)
@@ -45,13 +47,13 @@ module _ (options : CheckOptions) (nodes : Option ℕ) (lat : Latencies) (memory
   )
 
   of_passed : (blocks : List Block) (proposals : List Proposed) (text : List ℕ)
-      → ListsChecked options nodes lat memory blocks proposals Passed text → AllZip P blocks proposals
+      → ListsChecked options nodes rule lat memory blocks proposals Passed text → AllZip P blocks proposals
   of_passed blocks proposals text lists = grind (arith, all_pass, of_each)
 
 -- rows of which one can't be read never pass
-unread_fails : (lawful : Bool) (form : Form) (lat : Latencies) (block : List Op) (s : Table) (p : Proposed) (c : Checked)
-    (entry : List ℕ) → IsUnread form lat block s p c entry → passes lawful c ≡ true → ⊥
-unread_fails lawful form lat block s p c entry said pass =
+unread_fails : (lawful : Bool) (form : Form) (lat : Latencies) (block : List Op) (p : Proposed) (c : Checked)
+    (entry : List ℕ) → IsUnread form lat block p c entry → passes lawful c ≡ true → ⊥
+unread_fails lawful form lat block p c entry said pass =
     let fails : passes lawful c ≡ false = ap (passes lawful) said.is_found in cc
 
 said_keeps : (u : Option Unread) (options : CheckOptions) (lat : Latencies) (memory : List ℤ) (block : List Op) (s : Table)
@@ -65,11 +67,11 @@ said_may : (u : Option Unread) (options : CheckOptions) (lat : Latencies) (memor
 said_may u options lat memory block s p c entry said pass = grind (arith, passed_rows_may_pass, unread_fails)
 
 pub passed_keep_outcomes : PassedChecksKeepOutcomes
-passed_keep_outcomes options nodes lat memory = of_passed options nodes lat memory
+passed_keep_outcomes options nodes rule lat memory = of_passed options nodes rule lat memory
     (λ b p. DoTheSame options.outputs_alone lat b.ops p.ops p.rows)
     (λ b s p c text right pass. said_keeps p.unread options lat memory b.ops s p c text right pass)
 
 pub passed_may_pass : PassedChecksMayPass
-passed_may_pass options nodes lat memory = of_passed options nodes lat memory
+passed_may_pass options nodes rule lat memory = of_passed options nodes rule lat memory
     (λ b p. MayPass options lat memory b.ops p.ops p.rows)
     (λ b s p c text right pass. said_may p.unread options lat memory b.ops s p c text right pass)

@@ -13,7 +13,7 @@ use Rattle.iloc_args.specs.declared.request.Request.{Request}
 use Rattle.iloc_args.specs.declared.request.Task.{Task}
 use Rattle.iloc_args.specs.declared.request.Task.TheVariants as task
 use Rattle.iloc_block_commands.specs.declared.compare.ComparedCycles.{ComparedCycles}
-use Rattle.iloc_row_commands.specs.Check.{Checks}
+use Rattle.iloc_row_commands.specs.Check.{Checks, ListsChecked, options_by}
 use Rattle.iloc_block_commands.specs.Compare.{IsCompareEntry, IsCompareListing, compare_ending, compare_header, ending_for, opening_for}
 use Rattle.iloc_row_commands.specs.Explain.{Explains, ExplainsRows}
 use Rattle.iloc_row_commands.specs.Trace.{Traces, TracesRows}
@@ -71,7 +71,9 @@ listed_optima = grind arith
 
 -- one check is what both requests ask for
 one_check : (r q : Request) → AskAlike r q → Checks r ≡ Checks q
-one_check r q alike = grind (arith, one_memory)
+one_check r q alike = λ i. λ blocks proposals finding text.
+    ListsChecked (options_by (has (alike.flags i))) (alike.nodes i) (rule_same r q alike i) (alike.latencies i)
+    (one_memory r q alike i) blocks (placed (has (alike.flags i) EitherSlot) proposals) finding text
 
 -- one explanation of rows
 explained_alike : (r q : Request) → AskAlike r q → Explains r ≡ Explains q

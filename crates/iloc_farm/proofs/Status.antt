@@ -27,6 +27,7 @@ use Rattle.iloc_driver.specs.Fault.{status_of_finding}
 use Rattle.iloc_driver.specs.Command.{initial_memory}
 use Rattle.iloc_farm.specs.Laws.{ReadsRows, ReadsTheSame, Status0MeansTheSame}
 use Rattle.iloc_driver.specs.Program.{Args, AskFor, IsListed, MakeNone}
+use Rattle.iloc_args.specs.Rule.{memory_rule}
 use Rattle.iloc_row_commands.specs.Check.{Checks, options_by, options_of}
 use Rattle.iloc_driver.specs.Run.{ListsAs}
 use Rattle.iloc_farm.proofs.Checks.{passed_keep_outcomes, passed_may_pass}
@@ -87,9 +88,9 @@ listed_same held words read_old read_new finding text a listed passed asks check
       store = ap (λ (x : Asked). x.store) same;
       mult = ap (λ (x : Asked). x.mult) same;
       same = subst T same
-          (passed_keep_outcomes (options_of request) request.nodes request.latencies (initial_memory request)
+          (passed_keep_outcomes (options_of request) request.nodes (memory_rule request) request.latencies (initial_memory request)
           judged.blocks (placed (has request.flags EitherSlot) judged.proposals) text (subst Q passed judged.checked));
-      told = subst S same (passed_may_pass (options_of request) request.nodes request.latencies
+      told = subst S same (passed_may_pass (options_of request) request.nodes (memory_rule request) request.latencies
           (initial_memory request) judged.blocks (placed (has request.flags EitherSlot) judged.proposals) text (subst Q passed judged.checked));
     }
 

@@ -107,14 +107,16 @@ ChecksIgnoreWorkers = (r q : Request) → AskAlike r q → IsTrue (takes_rows co
 -- where a check passed, the rows that are proposed for each block keep the rules of the units and have its outcome on
 -- every memory or, where outputs alone are compared, show what it shows
 abbrev pub PassedChecksKeepOutcomes : Type 0
-PassedChecksKeepOutcomes = (options : CheckOptions) (nodes : Option ℕ) (lat : Latencies) (memory : List ℤ)
-    (blocks : List Block) (proposals : List Proposed) (text : List ℕ) → ListsChecked options nodes lat memory blocks proposals Passed text
+PassedChecksKeepOutcomes = (options : CheckOptions) (nodes : Option ℕ) (rule : MemoryRule) (lat : Latencies) (memory : List ℤ)
+    (blocks : List Block) (proposals : List Proposed) (text : List ℕ)
+    → ListsChecked options nodes rule lat memory blocks proposals Passed text
     → AllZip (λ (b : Block) (p : Proposed). DoTheSame options.outputs_alone lat b.ops p.ops p.rows) blocks proposals
 
 -- and they pass only if they may
 abbrev pub PassedChecksMayPass : Type 0
-PassedChecksMayPass = (options : CheckOptions) (nodes : Option ℕ) (lat : Latencies) (memory : List ℤ)
-    (blocks : List Block) (proposals : List Proposed) (text : List ℕ) → ListsChecked options nodes lat memory blocks proposals Passed text
+PassedChecksMayPass = (options : CheckOptions) (nodes : Option ℕ) (rule : MemoryRule) (lat : Latencies) (memory : List ℤ)
+    (blocks : List Block) (proposals : List Proposed) (text : List ℕ)
+    → ListsChecked options nodes rule lat memory blocks proposals Passed text
     → AllZip (λ (b : Block) (p : Proposed). MayPass options lat memory b.ops p.ops p.rows) blocks proposals
 
 -- one input was read, which denotes blocks and the rows that are proposed for them
