@@ -1,9 +1,9 @@
 use Rattle.std.proofs.Common.{◌≡◌, ap, subst, sym, ◌∙◌}
 use Rattle.iloc_bound.specs.Bound.{least_of_under, least_under}
-use Rattle.iloc_sched.specs.Graph.GraphOf.{GraphOf}
+use Rattle.iloc_args.specs.Rule.{memory_rule}
+use Rattle.iloc_sched.specs.Graph.GraphOf.{GraphOf, of_block}
 use Rattle.iloc_listing.specs.Listing.{cycles_of}
-use Rattle.iloc_row_commands.specs.Check.{IsCheckEntry, options_of}
-use Rattle.iloc_driver.specs.Entries.{Adds}
+use Rattle.iloc_row_commands.specs.Check.{options_of}
 use Rattle.iloc_optimum.specs.Optimum.{IsSoughtIf}
 use Rattle.iloc_row_commands.proofs.Checks.{check_listed, small_check}
 use Rattle.iloc_row_commands.proofs.check.CheckListerRowLister.list.Goals as goal
@@ -24,8 +24,9 @@ pub returns-clause-listed : goal.returns-clause-listed
 returns-clause-listed c =
     let request = c.args.request.now in
     let block = c.args.block.now in
-    let rule = c.memory_rule-rule.result in
-    let graph = c.in_ok-refill.ensures.graph in
+    let rule = memory_rule request in
+    let graph = c.in_ok-refill.ensures.graph
+    ∙ ap (λ rule. of_block rule request.latencies block.ops) c.memory_rule-rule.ensures in
     let said = c.in_ok-checked.ensures.entry in
     let beside = c.in_ok-checked.ensures.beside in
     let asked = subst (λ (g : GraphOf). IsSoughtIf request.nodes g.rule g.latencies block.ops c.in_ok-sought.sought) graph
@@ -35,12 +36,10 @@ returns-clause-listed c =
     beside.2 ∙ (c.in_ok-least.ensures ∙ ap (λ (g : GraphOf). least_of_under g.rule g.latencies g.ops) graph) in
     let counted : c.in_ok-checked.checked.ours ≡ cycles_of request.latencies c.in_ok-ruled.ruled =
     beside.0 ∙ c.cycles-cycles.ensures in
-    subst (λ rule. Adds (IsCheckEntry (options_of request) request.nodes rule request.latencies _ c.args.number
-    (block, c.args.proposal)) _ _ _) c.memory_rule-rule.ensures
-    (check_listed (options_of request) request.nodes rule request.latencies _ _ c.args.number block
+    check_listed (options_of request) request.nodes rule request.latencies _ _ c.args.number block
     c.in_ok-ours.ours c.in_ok-ruled.ruled c.args.proposal c.in_ok-checked.checked c.args.text.now.items _ _ said.0 _
     c.in_ok-ours.ensures (c.in_ok-ruled.ensures _ _ _ graph).greedy counted sought least c.requires.starts c.as_ref.ensures.value
-    (rw c.form_of.ensures at c.in_ok-push_check_head.ensures) (rw c.options_of.ensures at said.1) said.2)
+    (rw c.form_of.ensures at c.in_ok-push_check_head.ensures) (rw c.options_of.ensures at said.1) said.2
 
 pub returns-clause-small : goal.returns-clause-small
 returns-clause-small c =
