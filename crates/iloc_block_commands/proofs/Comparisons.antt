@@ -1,13 +1,13 @@
 -- What is found of a block by each heuristic.
 use Rattle.std.proofs.Common.{◌≡◌, ◌==◌, ◌<◌, ◌≤◌, ℕ, Bool, true, false, List, [], ◌∷◌, ◌++◌, ◌+◌, ◌*◌, take, get_or, append_assoc, append-nil, inl, inr, None, Option, Some, length, refl, sym, ap, ap₂, subst, ◌∙◌, arith}
-use Rattle.std.proofs.lemmas.Bool.{and_parts, cases_lt, eqb-true}
-use Rattle.std.proofs.lemmas.List.{ext_get_or, get_or-set_other, get_or-set_same, get_or_default, take_more}
+use Rattle.std.proofs.lemmas.Bool.{and_parts, eqb-true}
+use Rattle.std.proofs.lemmas.List.{ext_get_or, get_or_default, take_more}
 use Rattle.std.proofs.lemmas.Grind.{flat_map-append}
 use Rattle.std.proofs.lemmas.List.Sums.{count_by-le-length, length-filter}
 use Rattle.std.specs.List.{list_all, range_with_len}
 use Rattle.iloc_rules.specs.Steps.Members.{In}
 use Rattle.iloc_rules.proofs.Basics.Members.{in_range_from}
-use Rattle.std.specs.Prelude.{codes, slice_index, slice_set, sum_by}
+use Rattle.std.specs.Prelude.{codes, slice_index, sum_by}
 use Rattle.iloc_ops.specs.Limits.{MAX_OPS}
 use Rattle.iloc_ops.specs.declared.file.Block.{Block}
 use Rattle.iloc_ops.specs.declared.op.Op.{Op}
@@ -27,12 +27,15 @@ use Rattle.iloc_bound.specs.Bound.{least_under}
 use Rattle.iloc_rules.specs.declared.heuristic.Heuristic.{Heuristic}
 use Rattle.iloc_rules.specs.declared.heuristic.Heuristic.TheVariants.{Chain}
 use Rattle.iloc_bound.proofs.LeastBound.{ruled_least_bound}
+use Rattle.iloc_optimum.specs.Optimum.{AreOrders, IsCountOf}
+use Rattle.iloc_optimum.specs.declared.optimizer.Orders.{Orders}
 use Rattle.iloc_block_commands.specs.Compare.{AreCounts, IsComparedCycles, IsOwnCount, column, columns, compare_ending, cycles_by, fewest, optimal, place, sums_line, tally_line}
 use Rattle.iloc_listing.specs.Listing.{cycles_of}
 use Rattle.iloc_listing.specs.Limits.{most_cycles}
 use Rattle.iloc_listing.specs.Schedules.{IsCountUnder}
 use Rattle.iloc_listing.proofs.Schedules.{latencies_at_most}
 use Rattle.iloc_block_commands.specs.declared.compare.ComparedCycles.{ComparedCycles}
+use Rattle.iloc_block_commands.proofs.Listers.{is_count_under}
 
 -- renaming adds no operation
 renamed_fits : (block : List Op) → length (renamed block) ≤ length block
@@ -131,33 +134,16 @@ totals_pushed csv nodes own named found text summed tallied whole plain same p q
     ∙ (ap (λ t. t ++ best) (append_assoc text sums few) ∙ append_assoc text (sums ++ few) best)) in
     rw (plain, sym same) all
 
--- one count more
-pub counts_more : (rule : MemoryRule) (lat : Latencies) (b : Block) (cycles : List ℕ) (n m : ℕ) (d : Heuristic) → length cycles ≡ length heuristics
-    → n < length heuristics
-    → ((i : ℕ) → i < n → IsCountUnder rule (priorities_under rule (get_or heuristics i Chain) lat) lat b (slice_index cycles i))
-    → IsCountUnder rule (priorities_under rule (get_or heuristics n d) lat) lat b m
-    → (i : ℕ) → i < n + 1 → IsCountUnder rule (priorities_under rule (get_or heuristics i Chain) lat) lat b (slice_index (slice_set cycles n m) i)
-counts_more rule lat b cycles n m d size within each count i below =
-    let P : ℕ → Heuristic → Type 0 = λ c h. IsCountUnder rule (priorities_under rule h lat) lat b c in
-    elim (cases_lt i n) [
-      | inl before ↦
-          subst (λ c. P c (get_or heuristics i Chain)) (sym (get_or-set_other cycles n i m 0 (λ same. omega (arith, same, before))))
-          (each i before)
-      | inr after ↦
-          let same : n ≡ i = omega (arith, below, after) in
-          subst (λ k. P (slice_index (slice_set cycles n m) k) (get_or heuristics k Chain)) same
-          (subst (λ c. P c (get_or heuristics n Chain)) (sym (get_or-set_same cycles n m 0 (omega (arith, size, within))))
-          (subst (P m) (get_or_default heuristics n d Chain within) count))
-    ]
-
 -- the counts by all of them
-pub all_counted : (rule : MemoryRule) (lat : Latencies) (b : Block) (cycles : List ℕ) → length cycles ≡ length heuristics
-    → ((i : ℕ) → i < length heuristics → IsCountUnder rule (priorities_under rule (get_or heuristics i Chain) lat) lat b (slice_index cycles i))
-    → AreCounts rule lat b cycles
-all_counted rule lat b cycles size each = record {
-  all = size;
-  each = λ heuristic. subst (λ h. IsCountUnder rule (priorities_under rule h lat) lat b (slice_index cycles (place heuristic))) (at_place heuristic)
-      (each (place heuristic) (place_within heuristic));
+pub all_counted : (rule : MemoryRule) (lat : Latencies) (b : Block) (o : Orders) → AreOrders rule lat b.ops o
+    → AreCounts rule lat b o.cycles
+all_counted rule lat b o are = record {
+  all = are.all;
+  each = λ heuristic.
+      let count : IsCountOf rule heuristic lat b.ops (slice_index o.cycles (place heuristic)) =
+      subst (λ h. IsCountOf rule h lat b.ops (slice_index o.cycles (place heuristic))) (at_place heuristic)
+      (are.each (place heuristic) (place_within heuristic)) in
+      is_count_under rule (priorities_under rule heuristic lat) lat b count.schedule count.greedy _ count.counted;
 }
 
 -- there is one list of them

@@ -6,12 +6,11 @@ ghost use Rattle.iloc_ops.specs.Limits.{MAX_BLOCKS};
 ghost use Rattle.iloc_ops.specs.declared.file.Block.{Block as block_value};
 ghost use Rattle.iloc_timed.specs.declared.latencies.Latencies.{Latencies as latencies_value};
 ghost use Rattle.iloc_rules.specs.declared.memory_rule.MemoryRule.{MemoryRule as rule_value};
-ghost use Rattle.iloc_rules.specs.Rule.{priorities_under};
 ghost use Rattle.iloc_sched.specs.Graph.GraphOf.{of_block};
 ghost use Rattle.iloc_rules.specs.Heuristics.Listed.{heuristics};
 ghost use Rattle.iloc_rules.specs.declared.heuristic.Heuristic.{Heuristic as heuristic_value};
 ghost use Rattle.iloc_block_commands.specs.Compare as compare;
-ghost use Rattle.iloc_block_commands.specs.Compare.{AreCounts, IsOwnCount};
+ghost use Rattle.iloc_block_commands.specs.Compare.{IsOwnCount};
 ghost use Rattle.iloc_listing.specs.Schedules.{IsCountUnder};
 ghost use Rattle.iloc_block_commands.specs.Steps.Tallies.{added, counted};
 
@@ -411,30 +410,6 @@ pub struct CompareLister {
     optimizer: Optimizer,
 }
 
-/// How many cycles the schedule of this graph's block by this heuristic takes.
-fn count(scheduler: &mut Scheduler, graph: &Graph, heuristic: Heuristic) -> Result<u32, NoMemory>
-    ensures { IfOk result (λ cycles. (rule : rule_value) (lat : latencies_value) (block : block_value)
-        → graph.now ≡ of_block rule lat block.ops
-        → IsCountUnder rule (priorities_under rule heuristic lat) lat block cycles) }
-{
-    let schedule = scheduler.lend_as(graph, heuristic)?;
-    let cycles = count_of(&schedule, graph.latencies());
-    scheduler.take_back(schedule);
-    Ok(cycles)
-}
-
-/// How many cycles the schedules of this graph's block take, by each heuristic.
-fn counts(scheduler: &mut Scheduler, graph: &Graph) -> Result<[u32; HEURISTIC_COUNT], NoMemory>
-    ensures { IfOk result (λ cycles. (rule : rule_value) (lat : latencies_value) (block : block_value)
-        → graph.now ≡ of_block rule lat block.ops → AreCounts rule lat block cycles) }
-{
-    let mut cycles = [0; HEURISTIC_COUNT];
-    for (place, heuristic) in HEURISTICS.iter().enumerate() {
-        cycles[place] = count(scheduler, graph, *heuristic)?;
-    }
-    Ok(cycles)
-}
-
 /// How many cycles the schedule of this graph's block by these numbers takes.
 fn count_by(scheduler: &mut Scheduler, graph: &Graph, numbers: &[u32]) -> Result<u32, NoMemory>
     requires { length numbers.now ≡ length graph.now.ops }
@@ -501,8 +476,11 @@ impl FarmedLister for CompareLister {
         self.graph
             .refill(request.memory_rule(), block, &request.latencies)?;
         let least = least_of(alloc, &self.graph)?;
-        let sought = self.optimizer.seek_if(block, &self.graph, request.nodes)?;
-        let cycles = counts(&mut self.scheduler, &self.graph)?;
+        let orders = self.optimizer.orders(block, &self.graph, least)?;
+        let cycles = orders.cycles;
+        let sought = self
+            .optimizer
+            .seek_from(block, &self.graph, orders.best, request.nodes)?;
         let own = own_count(&mut self.scheduler, &self.graph, own)?;
         Ok(ComparedCycles {
             least: least as u32,

@@ -1,5 +1,6 @@
 //! The best schedule of a block, and the bound that a search proves.
 use crate::written::{USUAL, block_of, latencies};
+use iloc_bound::least_of;
 use iloc_optimum::Optimizer;
 use iloc_rules::{MemoryRule, Sought};
 use iloc_sched::Graph;
@@ -42,8 +43,9 @@ fn proves_what_is_best(rt: HostRuntime) -> Result<(), Fail> {
             "{nodes}"
         );
         optimizer.take_back(optimum.schedule);
+        let least = least_of(rt.alloc(), &graph)?;
         assert!(rt;
-            optimizer.seek(&block, &graph, *nodes)? == *wanted,
+            optimizer.seek_if(&block, &graph, least, Some(*nodes))? == Some(*wanted),
             "{nodes}"
         );
     }

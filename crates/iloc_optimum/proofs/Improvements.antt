@@ -1,5 +1,7 @@
 -- The best schedule and the bound while they are improved: `Optimizer::optimize`.
-use Rattle.std.proofs.Common.{◌≡◌, ◌∙◌, ℕ, ◌+◌, ◌<◌, ◌≤◌, List, [], ◌∷◌, ◌++◌, length, get_or, suc, take, map, sym, ap, subst, ◌⊎◌, inl, inr, arith}
+use Rattle.std.proofs.Common.{◌≡◌, ◌∙◌, ℕ, ◌+◌, ◌<◌, ◌≤◌, List, [], ◌∷◌, ◌++◌, length, get_or, take, map, sym, ap, subst, ◌⊎◌, inl, inr, arith}
+use Rattle.std.specs.Prelude.{slice_index, slice_set}
+use Rattle.std.proofs.lemmas.Bool.{cases_lt}
 use Rattle.iloc_ops.specs.declared.op.Op.{Op}
 use Rattle.iloc_timed.specs.declared.kind.Kind.{Kind}
 use Rattle.iloc_timed.specs.declared.latencies.Latencies.{Latencies}
@@ -8,10 +10,11 @@ use Rattle.iloc_timed.specs.Cycles.{cycles}
 use Rattle.iloc_timed.specs.Kinds.{kind}
 use Rattle.iloc_timed.specs.Schedule.{Table}
 use Rattle.iloc_timed.proofs.WholeRuns.{short_latency}
-use Rattle.std.proofs.lemmas.List.{take_all, take_more}
+use Rattle.std.proofs.lemmas.List.{get_or-set_other, get_or-set_same, get_or_default, take_all, take_more}
 use Rattle.iloc_rules.specs.declared.delay_pairs.TheConstants.{LONGEST_DELAY}
 use Rattle.iloc_sched.specs.declared.edges.Edge.{Edge}
 use Rattle.iloc_rules.specs.declared.heuristic.Heuristic.{Heuristic}
+use Rattle.iloc_rules.specs.declared.heuristic.Heuristic.TheVariants.{Chain}
 use Rattle.iloc_rules.specs.declared.memory_rule.MemoryRule.{MemoryRule}
 use Rattle.iloc_rules.specs.Heuristics.Listed.{heuristics}
 use Rattle.iloc_bound.specs.Bound.{least_under}
@@ -31,7 +34,7 @@ use Rattle.iloc_optimum.specs.Bound.{IsBound}
 use Rattle.iloc_optimum.specs.Laws.{AreDelayPairs, AreLeft}
 use Rattle.iloc_optimum.specs.Timing.{HasNone}
 use Rattle.iloc_optimum.proofs.LawfulTimings.{bound_raised}
-use Rattle.iloc_optimum.specs.Optimum.{cycles_of, IsAsShortAs, IsOptimumOf}
+use Rattle.iloc_optimum.specs.Optimum.{cycles_of, IsAsShortAs, IsCountOf, IsOptimumOf}
 use Rattle.iloc_optimum.specs.Steps.Improving.{IsLawfulBy, IsShortened}
 
 -- any schedule ends within the longest latency after its rows
@@ -62,13 +65,13 @@ pub best_of_one : (rule : MemoryRule) (lat : Latencies) (block : List Op) (h : H
     → IsTheScheduleBy rule (priorities_under rule h lat) lat block s → IsBestOf rule lat block (h ∷ others) 1 s
 best_of_one rule lat block h others s the = grind (arith, as_short)
 
-pub best_of_more : (rule : MemoryRule) (lat : Latencies) (block : List Op) (first : Heuristic) (others : List Heuristic) (i : ℕ) (d : Heuristic) (old new : Table)
-    → i < length others → IsBestOf rule lat block (first ∷ others) (i + 1) old
-    → IsShortened rule lat block (get_or others i d) old new → IsBestOf rule lat block (first ∷ others) ((i + 1) + 1) new
-best_of_more rule lat block first others i d old new within was shorter = record {
+pub best_of_more : (rule : MemoryRule) (lat : Latencies) (block : List Op) (hs : List Heuristic) (n : ℕ) (d : Heuristic)
+    (old new : Table) → n < length hs → IsBestOf rule lat block hs n old → IsShortened rule lat block (get_or hs n d) old new
+    → IsBestOf rule lat block hs (n + 1) new
+best_of_more rule lat block hs n d old new within was shorter = record {
   lawful = shorter.lawful was.lawful;
-  orders = λ k there t greedy. elim (from_append (take (i + 1) (first ∷ others)) (get_or others i d ∷ []) k
-      (subst (λ xs. In xs k) next there)) [
+  orders = λ k there t greedy. elim (from_append (take n hs) (get_or hs n d ∷ []) k
+      (subst (λ xs. In xs k) (take_more hs n d within) there)) [
         | inl before ↦ let short = was.orders k before t greedy in let fewer = shorter.fewer in omega arith
         | inr now ↦ elim now [
           | inl same ↦ subst (λ x. IsAsShortAs rule x lat block new) same shorter.order t greedy
@@ -76,14 +79,31 @@ best_of_more rule lat block first others i d old new within was shorter = record
         ]
       ];
 }
-  where
-    next : take ((i + 1) + 1) (first ∷ others) ≡ take (i + 1) (first ∷ others) ++ get_or others i d ∷ []
-    next =
-        let one : i + 1 ≡ suc i = omega arith in
-        let two : (i + 1) + 1 ≡ suc (suc i) = omega arith in
-        ap (λ n. take n (first ∷ others)) two
-        ∙ ap (λ xs. first ∷ xs) (ap (λ n. take n others) (sym one) ∙ take_more others i d within)
-        ∙ ap (λ n. take n (first ∷ others) ++ get_or others i d ∷ []) (sym one)
+
+-- the cycles of the schedule that is greedy by a heuristic
+pub count_of_the : (rule : MemoryRule) (lat : Latencies) (block : List Op) (h : Heuristic) (s : Table)
+    → IsTheScheduleBy rule (priorities_under rule h lat) lat block s → (n : ℕ) → n ≡ cycles_of lat s
+    → IsCountOf rule h lat block n
+count_of_the rule lat block h s the n counted = record { schedule = s; greedy = the.greedy; counted = counted }
+
+-- the cycles of one greedy schedule more
+pub counts_more : (rule : MemoryRule) (lat : Latencies) (block : List Op) (cycles : List ℕ) (n m : ℕ) (d : Heuristic)
+    → length cycles ≡ length heuristics → n < length heuristics
+    → ((i : ℕ) → i < n → IsCountOf rule (get_or heuristics i Chain) lat block (slice_index cycles i))
+    → IsCountOf rule (get_or heuristics n d) lat block m
+    → (i : ℕ) → i < n + 1 → IsCountOf rule (get_or heuristics i Chain) lat block (slice_index (slice_set cycles n m) i)
+counts_more rule lat block cycles n m d size within each count i below =
+    let P : ℕ → Heuristic → Type 0 = λ c h. IsCountOf rule h lat block c in
+    elim (cases_lt i n) [
+      | inl before ↦
+          subst (λ c. P c (get_or heuristics i Chain)) (sym (get_or-set_other cycles n i m 0 (λ same. omega (arith, same, before))))
+          (each i before)
+      | inr after ↦
+          let same : n ≡ i = omega (arith, below, after) in
+          subst (λ k. P (slice_index (slice_set cycles n m) k) (get_or heuristics k Chain)) same
+          (subst (λ c. P c (get_or heuristics n Chain)) (sym (get_or-set_same cycles n m 0 (omega (arith, size, within))))
+          (subst (P m) (get_or_default heuristics n d Chain within) count))
+    ]
 
 pub best_of_all : (rule : MemoryRule) (lat : Latencies) (block : List Op) (n : ℕ) (s : Table) (bound : ℕ) → length heuristics ≤ n
     → IsBestOf rule lat block heuristics n s → bound ≡ least_under rule lat block

@@ -15,6 +15,6 @@ mod search;
 mod waits;
 mod windows;
 
-pub use optimizer::{MOST_SEARCHED, Optimizer, Optimum};
+pub use optimizer::{MOST_SEARCHED, Optimizer, Optimum, Orders};
 pub use search::{Found, search_windows};
 pub use windows::Windows;

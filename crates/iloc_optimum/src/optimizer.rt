@@ -1,15 +1,15 @@
 //! The best schedule of a block.
 ghost use Rattle.std.specs.Prelude.{◌≡◌, ◌≤◌, ◌<◌, ◌+◌, ◌-◌, ◌^◌, ◌⊎◌, length, map, replicate, IfOk, OnOk};
-ghost use Rattle.iloc_bound.specs.Bound.{tails_under};
 ghost use Rattle.iloc_rules.specs.Renaming.{renamed};
-ghost use Rattle.iloc_optimum.specs.Optimum.{IsOptimumOf, IsSought, IsSoughtIf, cycles_of};
+ghost use Rattle.iloc_bound.specs.Bound.{least_of_under, tails_under};
+ghost use Rattle.iloc_optimum.specs.Optimum.{AreOrders, IsCountOf, IsOptimumOf, IsSoughtIf, cycles_of};
 ghost use Rattle.iloc_optimum.specs.Steps.Improving.{IsShortened};
 
 use crate::search::{Found, search_windows};
 use crate::windows::Windows;
 use iloc_bound::{fill_tails, least_of};
 use iloc_ops::{Block, NoMemory};
-use iloc_rules::{HEURISTICS, Heuristic, MOST_NODES, Sought};
+use iloc_rules::{HEURISTIC_COUNT, HEURISTICS, Heuristic, MOST_NODES, Sought};
 use iloc_sched::{Graph, Scheduler};
 use iloc_timed::{Latencies, MAX_ROWS, Schedule, cycles};
 use std::alloc::Global;
@@ -26,6 +26,15 @@ pub struct Optimum {
     pub bound: u64,
 }
 
+/// A block's greedy schedules by each heuristic.
+#[derive(Debug, Drop)]
+pub struct Orders {
+    /// How many cycles they take, in the order in which the heuristics are listed.
+    pub cycles: [u32; HEURISTIC_COUNT],
+    /// The shortest, with the least for the bound.
+    pub best: Optimum,
+}
+
 /// How many cycles a schedule takes, which 32 bits hold.
 fn count_of(schedule: &Schedule, latencies: &Latencies) -> u64
     ensures value { result ≡ cycles_of latencies.now schedule.now }
@@ -35,59 +44,42 @@ fn count_of(schedule: &Schedule, latencies: &Latencies) -> u64
     cycles(schedule, latencies)
 }
 
-/// Puts the other schedule in the place of the best one if it takes fewer cycles. The scheduler takes back the buffers of the
-/// one that is left over.
+/// Puts the other schedule in the place of the best one if it takes fewer cycles, and answers how many it takes. The scheduler
+/// takes back the buffers of the one that is left over.
 fn keep_shorter(
     scheduler: &mut Scheduler,
     latencies: &Latencies,
     best: &mut Schedule,
     mut other: Schedule,
-)
+) -> u32
+    ensures counted { result ≡ cycles_of latencies.now other }
     ensures one { (best.new ≡ best.old) ⊎ (best.new ≡ other) }
     ensures fewer { cycles_of latencies.now best.new ≤ cycles_of latencies.now best.old }
     ensures few { cycles_of latencies.now best.new ≤ cycles_of latencies.now other }
 {
-    if count_of(&other, latencies) < count_of(best, latencies) {
+    let cycles = count_of(&other, latencies);
+    if cycles < count_of(best, latencies) {
         mem::swap(best, &mut other);
     }
     scheduler.take_back(other);
+    cycles as u32
 }
 
-/// Puts the schedule that is greedy by a heuristic in the place of the best one if it takes fewer cycles.
+/// Puts the schedule that is greedy by a heuristic in the place of the best one if it takes fewer cycles, and answers how many
+/// it takes.
 fn try_order(
     scheduler: &mut Scheduler,
     block: &Block,
     graph: &Graph,
     best: &mut Schedule,
     heuristic: Heuristic,
-) -> Result<(), NoMemory>
+) -> Result<u32, NoMemory>
     requires { graph.now.ops ≡ renamed block.now.ops }
-    ensures { OnOk result (IsShortened graph.now.rule graph.now.latencies block.now.ops heuristic best.old best.new) }
+    ensures counted { IfOk result (IsCountOf graph.now.rule heuristic graph.now.latencies block.now.ops) }
+    ensures shorter { OnOk result (IsShortened graph.now.rule graph.now.latencies block.now.ops heuristic best.old best.new) }
 {
     let other = scheduler.lend_as(graph, heuristic)?;
-    keep_shorter(scheduler, graph.latencies(), best, other);
-    Ok(())
-}
-
-/// The shortest of the schedules that are greedy by a heuristic, with the least for the bound.
-fn best_of_orders(
-    alloc: Global,
-    scheduler: &mut Scheduler,
-    block: &Block,
-    graph: &Graph,
-) -> Result<Optimum, NoMemory>
-    requires { graph.now.ops ≡ renamed block.now.ops }
-    ensures { IfOk result (IsOptimumOf graph.now.rule graph.now.latencies block.now.ops) }
-{
-    let least = least_of(alloc, graph)?;
-    let mut best = scheduler.lend_as(graph, Heuristic::Chain)?;
-    for heuristic in &HEURISTICS[1..] {
-        try_order(scheduler, block, graph, &mut best, *heuristic)?;
-    }
-    Ok(Optimum {
-        schedule: best,
-        bound: least,
-    })
+    Ok(keep_shorter(scheduler, graph.latencies(), best, other))
 }
 
 /// What each number leaves of the limit.
@@ -117,7 +109,7 @@ fn windows_within(alloc: Global, graph: &Graph, limit: u32) -> Result<Windows, N
 
 /// Improves what is known of a block by a search for a schedule of at most so many cycles, and answers whether cycles of
 /// issue were found.
-fn improve(
+fn try_limit(
     alloc: Global,
     scheduler: &mut Scheduler,
     block: &Block,
@@ -171,7 +163,7 @@ fn search_upwards(
         return Ok(());
     }
     for limit in optimum.bound..count_of(&optimum.schedule, graph.latencies()) {
-        let is_found = improve(alloc, scheduler, block, graph, optimum, limit as u32, nodes)?;
+        let is_found = try_limit(alloc, scheduler, block, graph, optimum, limit as u32, nodes)?;
         if is_found {
             break;
         }
@@ -195,6 +187,57 @@ impl Optimizer {
         }
     }
 
+    /// A block's greedy schedules by its dependence graph, whose least is handed in, and by each heuristic.
+    pub fn orders(&mut self, block: &Block, graph: &Graph, least: u64) -> Result<Orders, NoMemory>
+        requires graph { graph.now.ops ≡ renamed block.now.ops }
+        requires least { least ≡ least_of_under graph.now.rule graph.now.latencies graph.now.ops }
+        ensures { IfOk result (AreOrders graph.now.rule graph.now.latencies block.now.ops) }
+    {
+        let mut best = self.scheduler.lend_as(graph, Heuristic::Chain)?;
+        let mut cycles = [count_of(&best, graph.latencies()) as u32; HEURISTIC_COUNT];
+        for place in 1..HEURISTIC_COUNT {
+            cycles[place] = try_order(
+                &mut self.scheduler,
+                block,
+                graph,
+                &mut best,
+                HEURISTICS[place],
+            )?;
+        }
+        Ok(Orders {
+            cycles,
+            best: Optimum {
+                schedule: best,
+                bound: least,
+            },
+        })
+    }
+
+    /// Improves what is known of a block by searches with so many nodes, at most `MOST_NODES`, for each number of cycles that is
+    /// tried.
+    fn improve(
+        &mut self,
+        block: &Block,
+        graph: &Graph,
+        known: Optimum,
+        nodes: u32,
+    ) -> Result<Optimum, NoMemory>
+        requires graph { graph.now.ops ≡ renamed block.now.ops }
+        requires known { IsOptimumOf graph.now.rule graph.now.latencies block.now.ops known }
+        ensures { IfOk result (IsOptimumOf graph.now.rule graph.now.latencies block.now.ops) }
+    {
+        let mut optimum = known;
+        search_upwards(
+            self.alloc,
+            &mut self.scheduler,
+            block,
+            graph,
+            &mut optimum,
+            nodes.min(MOST_NODES),
+        )?;
+        Ok(optimum)
+    }
+
     /// The best schedule that is found for a block, by its dependence graph and the graph's rule of memory, and a bound on the
     /// cycles of the schedules that are lawful by the rule: the shortest of the greedy schedules by each heuristic, or one that a
     /// search finds with so many nodes, at most `MOST_NODES`, for each number of cycles that is tried. A block of more than
@@ -212,46 +255,56 @@ impl Optimizer {
         requires { graph.now.ops ≡ renamed block.now.ops }
         ensures { IfOk result (IsOptimumOf graph.now.rule graph.now.latencies block.now.ops) }
     {
-        let mut optimum = best_of_orders(self.alloc, &mut self.scheduler, block, graph)?;
-        search_upwards(
-            self.alloc,
-            &mut self.scheduler,
-            block,
-            graph,
-            &mut optimum,
-            nodes.min(MOST_NODES),
-        )?;
-        Ok(optimum)
+        let least = least_of(self.alloc, graph)?;
+        let orders = self.orders(block, graph, least)?;
+        self.improve(block, graph, orders.best, nodes)
     }
 
-    /// How many cycles the schedule takes that `optimize` finds, and the bound beside it.
+    /// How many cycles the schedule takes that a search with so many nodes finds from the best of a block's greedy schedules, and
+    /// the bound beside it, if there is to be a search.
     ///
     /// Promise: They are the numbers of a schedule and a bound of which `optimize` promises as much.
-    pub fn seek(&mut self, block: &Block, graph: &Graph, nodes: u32) -> Result<Sought, NoMemory>
-        requires { graph.now.ops ≡ renamed block.now.ops }
-        ensures { IfOk result (IsSought graph.now.rule graph.now.latencies block.now.ops) }
+    pub fn seek_from(
+        &mut self,
+        block: &Block,
+        graph: &Graph,
+        best: Optimum,
+        nodes: Option<u32>,
+    ) -> Result<Option<Sought>, NoMemory>
+        requires graph { graph.now.ops ≡ renamed block.now.ops }
+        requires best { IsOptimumOf graph.now.rule graph.now.latencies block.now.ops best }
+        ensures { IfOk result (IsSoughtIf nodes graph.now.rule graph.now.latencies block.now.ops) }
     {
-        let optimum = self.optimize(block, graph, nodes)?;
+        let Some(nodes) = nodes else {
+            self.take_back(best.schedule);
+            return Ok(None);
+        };
+        let optimum = self.improve(block, graph, best, nodes)?;
         let sought = Sought {
             best: count_of(&optimum.schedule, graph.latencies()) as u32,
             bound: optimum.bound as u32,
         };
         self.take_back(optimum.schedule);
-        Ok(sought)
+        Ok(Some(sought))
     }
 
-    /// What a search with so many nodes finds of a block's cycles, if there is to be one.
+    /// The same, by the least of the block, which is handed in: its greedy schedules are made only if there is to be a search.
     pub fn seek_if(
         &mut self,
         block: &Block,
         graph: &Graph,
+        least: u64,
         nodes: Option<u32>,
     ) -> Result<Option<Sought>, NoMemory>
-        requires { graph.now.ops ≡ renamed block.now.ops }
+        requires graph { graph.now.ops ≡ renamed block.now.ops }
+        requires least { least ≡ least_of_under graph.now.rule graph.now.latencies graph.now.ops }
         ensures { IfOk result (IsSoughtIf nodes graph.now.rule graph.now.latencies block.now.ops) }
     {
         match nodes {
-            Some(nodes) => Ok(Some(self.seek(block, graph, nodes)?)),
+            Some(_) => {
+                let orders = self.orders(block, graph, least)?;
+                self.seek_from(block, graph, orders.best, nodes)
+            }
             None => Ok(None),
         }
     }

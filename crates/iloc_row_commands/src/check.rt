@@ -219,7 +219,9 @@ impl RowLister for CheckLister {
         let rule = request.memory_rule();
         self.graph.refill(rule, block, latencies)?;
         let least = least_of(alloc, &self.graph)?;
-        let sought = self.optimizer.seek_if(block, &self.graph, request.nodes)?;
+        let sought = self
+            .optimizer
+            .seek_if(block, &self.graph, least, request.nodes)?;
         let ruled = self.scheduler.lend_as(&self.graph, Heuristic::Chain)?;
         let cycles = cycles(&ruled, latencies);
         let ours = by_the_book(

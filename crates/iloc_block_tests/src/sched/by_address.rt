@@ -66,12 +66,13 @@ fn bounds_by_each_rule(rt: HostRuntime) -> Result<(), Fail> {
         let block = block_of(rt.alloc(), text)?;
         for (rule, fewest) in [(MemoryRule::Book, *book), (MemoryRule::Address, *address)] {
             graph.refill(rule, &block, &times)?;
-            assert!(rt; least_of(rt.alloc(), &graph)? == u64::from(fewest));
+            let least = least_of(rt.alloc(), &graph)?;
+            assert!(rt; least == u64::from(fewest));
             let wanted = Sought {
                 best: fewest,
                 bound: fewest,
             };
-            assert!(rt; optimizer.seek(&block, &graph, 0)? == wanted);
+            assert!(rt; optimizer.seek_if(&block, &graph, least, Some(0))? == Some(wanted));
         }
     }
     Ok(())

@@ -1,10 +1,18 @@
-use Rattle.std.proofs.Common.{◌≤◌, subst}
+use Rattle.std.proofs.Common.{◌≤◌, ap, subst, ◌∙◌}
 use Rattle.iloc_optimum.specs.Optimum.{cycles_of}
-use Rattle.iloc_optimum.proofs.Improvements.{shortened}
+use Rattle.iloc_optimum.proofs.Improvements.{count_of_the, shortened}
 use Rattle.iloc_optimum.proofs.optimizer.try_order.Goals as goal
 
-pub returns : goal.returns
-returns c =
+pub returns-clause-counted : goal.returns-clause-counted
+returns-clause-counted c =
+    let g = c.args.graph.now in
+    count_of_the g.rule g.latencies c.args.block.now.ops c.args.heuristic c.in_ok-other.other
+    (c.in_ok-other.ensures g.rule g.latencies c.args.block.now.ops
+    (λ i. record { rule = g.rule; ops = c.requires i; latencies = g.latencies })) _
+    (c.keep_shorter.ensures.counted ∙ ap (λ lat. cycles_of lat c.in_ok-other.other) c.latencies.ensures)
+
+pub returns-clause-shorter : goal.returns-clause-shorter
+returns-clause-shorter c =
     let g = c.args.graph.now in
     let block = c.args.block.now.ops in
     let old = c.args.best.now in

@@ -1,17 +1,21 @@
+use Rattle.std.proofs.lemmas.Grind.{common_steps}
 use Rattle.std.proofs.Common.{◌≤◌, ap, arith, subst, ◌∙◌}
 use Rattle.std.specs.Prelude.{option_copied}
 use Rattle.iloc_sched.specs.Graph.GraphOf.{GraphOf, of_block}
 use Rattle.iloc_bound.specs.Bound.{least_of_under, least_under}
 use Rattle.iloc_args.specs.Rule.{memory_rule}
 use Rattle.iloc_rules.specs.declared.heuristic.Heuristic.TheVariants.{Chain}
-use Rattle.iloc_optimum.specs.Optimum.{IsSoughtIf}
+use Rattle.iloc_optimum.specs.Optimum.{AreOrders, IsSoughtIf}
 use Rattle.iloc_listing.specs.Limits.{most_cycles}
-use Rattle.iloc_block_commands.proofs.Comparisons.{bound_small}
+use Rattle.iloc_block_commands.proofs.Comparisons.{all_counted, bound_small}
 use Rattle.iloc_block_commands.proofs.Listers.{each_ranked}
 use Rattle.iloc_block_commands.proofs.compare.CompareListerFarmedLister.answer.Goals as goal
 
-pub seek_if-requires : goal.seek_if-requires
-seek_if-requires c = ap (λ (g : GraphOf). g.ops) c.in_ok-refill.ensures.graph
+pub orders-requires-clause-graph : goal.orders-requires-clause-graph
+orders-requires-clause-graph c = ap (λ (g : GraphOf). g.ops) c.in_ok-refill.ensures.graph
+
+pub seek_from-requires-clause-graph : goal.seek_from-requires-clause-graph
+seek_from-requires-clause-graph c = ap (λ (g : GraphOf). g.ops) c.in_ok-refill.ensures.graph
 
 pub own_count-requires : goal.own_count-requires
 own_count-requires c =
@@ -23,8 +27,10 @@ overflow_cast-result c =
     let lat = c.args.request.now.latencies in
     let block = c.args.block.now in
     let graph = c.in_ok-refill.ensures.graph in
+    let counts = all_counted rule lat block c.in_ok-orders.orders
+    (subst (λ (g : GraphOf). AreOrders g.rule g.latencies block.ops c.in_ok-orders.orders) graph c.in_ok-orders.ensures) in
     let small : least_under rule lat block.ops ≤ most_cycles =
-    bound_small rule Chain lat block _ ((c.in_ok-cycles.ensures rule lat block graph).each Chain) c.requires.short in
+    bound_small rule Chain lat block _ (counts.each Chain) c.requires.short in
     rw (c.in_ok-least.ensures ∙ ap (λ (g : GraphOf). least_of_under g.rule g.latencies g.ops) graph) (omega (arith, small))
 
 pub returns : goal.returns
@@ -38,6 +44,10 @@ returns c =
       bound = c.in_ok-least.ensures ∙ ap (λ (g : GraphOf). least_of_under g.rule g.latencies g.ops) graph;
       sought = subst (λ (g : GraphOf). IsSoughtIf request.nodes g.rule g.latencies block.ops c.in_ok-sought.sought) graph
           c.in_ok-sought.ensures;
-      counts = c.in_ok-cycles.ensures rule lat block graph;
+      counts = all_counted rule lat block c.in_ok-orders.orders
+          (subst (λ (g : GraphOf). AreOrders g.rule g.latencies block.ops c.in_ok-orders.orders) graph c.in_ok-orders.ensures);
       own = c.in_ok-own.ensures rule lat block graph;
     }
+
+pub returns-in_err-sought : goal.returns-in_err-sought
+returns-in_err-sought c = grind (arith, common_steps)

@@ -8,8 +8,8 @@ use Rattle.iloc_optimum.specs.Optimum.{IsSoughtIf}
 use Rattle.iloc_row_commands.proofs.Checks.{check_listed, small_check}
 use Rattle.iloc_row_commands.proofs.check.CheckListerRowLister.list.Goals as goal
 
-pub seek_if-requires : goal.seek_if-requires
-seek_if-requires c = ap (λ (g : GraphOf). g.ops) c.in_ok-refill.ensures.graph
+pub seek_if-requires-clause-graph : goal.seek_if-requires-clause-graph
+seek_if-requires-clause-graph c = ap (λ (g : GraphOf). g.ops) c.in_ok-refill.ensures.graph
 
 pub by_the_book-requires-clause-ruled : goal.by_the_book-requires-clause-ruled
 by_the_book-requires-clause-ruled c = (c.in_ok-ruled.ensures _ _ _ c.in_ok-refill.ensures.graph).greedy

@@ -1,6 +1,6 @@
 use Rattle.std.proofs.lemmas.Grind.{common_steps}
 use Rattle.std.proofs.Common.{arith}
-use Rattle.iloc_optimum.proofs.optimizer.Optimizer.seek.Goals as goal
+use Rattle.iloc_optimum.proofs.optimizer.Optimizer.seek_from.Goals as goal
 
 pub returns : goal.returns
 returns c = grind (arith, common_steps)

@@ -1,0 +1,15 @@
+use Rattle.std.proofs.Common.{ℕ, ◌≡◌, ◌<◌, get_or, length}
+use Rattle.std.specs.Prelude.{slice_index}
+use Rattle.iloc_rules.specs.Heuristics.Listed.{heuristics}
+use Rattle.iloc_rules.specs.declared.heuristic.Heuristic.TheVariants.{Chain}
+use Rattle.iloc_optimum.specs.Optimum.{IsCountOf}
+use Rattle.iloc_optimum.proofs.Improvements.{IsBestOf}
+use Rattle.iloc_optimum.proofs.optimizer.Optimizer.orders.Given as goal
+
+abbrev pub invariant-loop-place : goal.invariant-loop-place
+invariant-loop-place l = record {
+  size : length l.cycles ≡ length heuristics;
+  counts : (i : ℕ) → i < l.place
+      → IsCountOf l.graph.rule (get_or heuristics i Chain) l.graph.latencies l.block.ops (slice_index l.cycles i);
+  best : IsBestOf l.graph.rule l.graph.latencies l.block.ops heuristics l.place l.best;
+}
