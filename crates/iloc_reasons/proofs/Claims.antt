@@ -1,8 +1,6 @@
 -- What is claimed of operations of rows is a fact, where it was seen to hold.
 use Rattle.std.proofs.Common.{◌≡◌, ◌≢◌, ◌<◌, ◌≤◌, ℕ, zero, suc, List, [], ◌∷◌, length, map, Option, Some, sym, ap, ◌∙◌, arith}
-use Rattle.std.specs.Prelude.{slice_get, slice_index, Contains, None}
-use Rattle.std.specs.Ordering.{nat_cmp}
-use Rattle.std.specs.BTreeMap.{get}
+use Rattle.std.specs.Prelude.{slice_get, Contains}
 use Rattle.std.proofs.lemmas.Option.{get_or_from_slice_get, slice_get_within}
 use Rattle.iloc_ops.specs.declared.op.Reg.{Reg}
 use Rattle.iloc_ops.specs.declared.op.Op.{Op}
@@ -14,12 +12,9 @@ use Rattle.iloc_timed.specs.Rows.{issue_cycle}
 use Rattle.iloc_facts.specs.declared.lawfulness.Issue.{Issue}
 use Rattle.iloc_facts.specs.declared.reading.Reading.{Reading}
 use Rattle.iloc_facts.specs.Readings.{due, given, read, reading_of, sources_of}
-use Rattle.iloc_facts.specs.Labels.{label}
 use Rattle.iloc_facts.proofs.SourceLists.{few_used}
-use Rattle.iloc_facts.specs.declared.fact.Fact.TheVariants.{Brings, For, LikeNone, Replaced, See}
-use Rattle.iloc_reasons.specs.declared.likeness.Terms.{Terms}
+use Rattle.iloc_facts.specs.declared.fact.Fact.TheVariants.{Brings, Replaced, See}
 use Rattle.iloc_facts.specs.Facts.{AreAllSources, IsCounterpart, IsIssued, HasBeenThere, IsFact}
-use Rattle.iloc_reasons.specs.Steps.Likeness.{TellApart}
 use Rattle.iloc_reasons.specs.Steps.Sides.{AreAllRead, source_at}
 
 -- what stands at a place of a list is in it
@@ -89,26 +84,6 @@ module _ (lat : Latencies) (block ops : List Op) (rows : List Row) where
         there = there;
         before = before;
       }
-
-  pub for_fact : (terms : Terms) (k i : ℕ) (issue : Issue) (op : Op) → TellApart lat block ops rows terms → IsIssued ops rows k issue
-      → i < length block → label (op_at block i) ≡ label issue.op → op ≡ op_at block i
-      → slice_index terms.block.items i ≢ slice_index terms.rows.items k → IsFact lat block ops rows (For issue i op)
-  for_fact terms k i issue op apart here inside same is differ = record {
-    k = k;
-    here = here;
-    there = (inside, same);
-    is = is;
-    unlike = apart.unlike i k inside here.within differ;
-  }
-
-  pub like_none_fact : (terms : Terms) (k : ℕ) (issue : Issue) → TellApart lat block ops rows terms → IsIssued ops rows k issue
-      → get nat_cmp terms.known (slice_index terms.rows.items k) ≡ None → IsFact lat block ops rows (LikeNone issue)
-  like_none_fact terms k issue apart here none = record {
-    k = k;
-    here = here;
-    none = λ i inside. apart.unlike i k inside here.within
-        (λ same. apart.known i inside (ap (get nat_cmp terms.known) same ∙ none));
-  }
 
   pub see_fact : (k i : ℕ) (issue : Issue) → IsIssued ops rows k issue → IsCounterpart block ops i k
       → (AreAllRead (IsCounterpart block ops) (sources_of (given block i) (used (op_at block i)))
