@@ -19,9 +19,8 @@ use Rattle.iloc_rules.specs.declared.heuristic.Heuristic.{Heuristic}
 use Rattle.iloc_rules.specs.declared.memory_rule.MemoryRule.{MemoryRule}
 use Rattle.iloc_rules.specs.declared.memory_rule.MemoryRule.TheVariants.{Book}
 use Rattle.iloc_rules.specs.Rule.{counts_by}
-use Rattle.iloc_rules.specs.Greedy.{IsGreedy, IsGreedyBy, IsGreedyWhere}
+use Rattle.iloc_rules.specs.Greedy.{IsGreedyBy, IsGreedyWhere}
 use Rattle.iloc_rules.specs.Heuristics.{priorities_by}
-use Rattle.iloc_rules.specs.Priority.{priorities}
 use Rattle.iloc_rules.proofs.Renamed.MentionedSources.{length-renamed_by}
 use Rattle.iloc_rules.specs.Renaming.{renamed}
 use Rattle.iloc_rules.proofs.Basics.IssueCycles.{issue_cycle_within}
@@ -118,10 +117,6 @@ cycles_few_by prios lat block s greedy short =
     let most : sum_by (latency lat) s.ops ≤ LONGEST_DELAY * length s.ops = latencies_at_most lat s.ops in
     let longest : length s.ops ≤ length block = rw greedy.lawful.names (renamed_fits block) in
     omega arith
-
-pub cycles_few : (lat : Latencies) (block : List Op) (s : Table) → IsGreedy lat block s.ops s.rows
-    → length block ≤ MAX_OPS → cycles_of lat s ≤ most_cycles
-cycles_few lat block s greedy short = cycles_few_by (priorities lat s.ops) lat block s greedy short
 
 pub total_few : (heuristic : Heuristic) (lat : Latencies) (blocks : List Block) (schedules : List Table)
     → AreGreedyAs heuristic lat blocks schedules → AllByRecursion (λ b. length b.ops ≤ MAX_OPS) blocks
