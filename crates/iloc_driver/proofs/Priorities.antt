@@ -1,5 +1,5 @@
 -- Numbers of somebody's own that are read from a text.
-use Rattle.iloc_driver.proofs.Common.{◌≡◌, ℕ, zero, suc, ◌+◌, ◌-◌, ◌*◌, ◌^◌, ◌<◌, ◌≤◌, ◌≢◌, List, [], ◌∷◌, ◌++◌, length, take, drop, IfSome, slice_get, Some, None, Ok, Err, Option, Result, position, sym, refl, ap, ◌∙◌, subst, ap₂, append_assoc, append-nil, arith, length-append, length-drop, take_all, drop_all, after_first, before_first, position_or_len, Block, AreFor, after_word, first_and, is_space, none_of, number_after, number_of, numbers_from, own_of, priorities_from, without, before_and, NumbersFault}
+use Rattle.iloc_driver.proofs.Common.{◌≡◌, ℕ, zero, suc, ◌+◌, ◌-◌, ◌*◌, ◌^◌, ◌<◌, ◌≤◌, ◌≢◌, List, [], ◌∷◌, ◌++◌, length, take, drop, IfSome, slice_get, Some, None, Ok, Err, Result, position, sym, refl, ap, ◌∙◌, subst, ap₂, append_assoc, append-nil, arith, length-append, length-drop, take_all, drop_all, after_first, before_first, position_or_len, Block, AreFor, after_word, first_and, none_of, number_after, number_of, numbers_from, priorities_from, without, before_and, NumbersFault}
 use Rattle.iloc_text.specs.Grammar.{is_blank}
 use Rattle.iloc_text.specs.Lines.{is_line_end}
 use Rattle.iloc_rules.specs.Renaming.{without_nops}
@@ -91,47 +91,6 @@ module _ (k n : ℕ) (rest word : List ℕ) (done : List ℕ) (skipped : word �
       ap (λ m. before_and done (numbers_from k (length done) m rest)) left
       ∙ some_more done k (length done) (without is_blank rest) fault (λ none. some (skipped ∙ none))
       (is ∙ ap (NoOperation k) (sym all))
-
--- a text, of which some blocks' lines were read
-
-module _ (blocks : List Block) (rest : List ℕ) (done : List (List ℕ)) where
-  abbrev pub ranked_from : List Block → List ℕ → Result (List (List ℕ)) NumbersFault
-  ranked_from left text = priorities_from (length done + 1) left text
-
-  pub next_block : (b : Block) (more : List (List ℕ)) (numbers after : List ℕ) → drop (length done) blocks ≡ b ∷ drop (length done + 1) blocks
-      → numbers_from (length done + 1) 0 (length (without_nops b.ops)) (before_first is_line_end rest) ≡ Ok numbers
-      → more ≡ done ++ numbers ∷ [] → after ≡ after_first is_line_end rest
-      → before_and done (ranked_from (drop (length done) blocks) rest)
-      ≡ before_and more (priorities_from (length more + 1) (drop (length more) blocks) after)
-  next_block b more numbers after here found added next =
-      let long : length more ≡ length done + 1 = ap length added ∙ length-append done (numbers ∷ []) in
-      ap (λ left. before_and done (ranked_from left rest)) here
-      ∙ (one_more done more numbers
-      (numbers_from (length done + 1) 0 (length (without_nops b.ops)) (before_first is_line_end rest))
-      (priorities_from (length done + 1 + 1) (drop (length done + 1) blocks) (after_first is_line_end rest)) found added
-      ∙ ap₂ (λ n text. before_and more (priorities_from (n + 1) (drop n blocks) text)) (sym long) (sym next))
-
-  pub no_block : (b : Block) (fault : NumbersFault) → drop (length done) blocks ≡ b ∷ drop (length done + 1) blocks
-      → numbers_from (length done + 1) 0 (length (without_nops b.ops)) (before_first is_line_end rest) ≡ Err fault
-      → before_and done (ranked_from (drop (length done) blocks) rest) ≡ Err fault
-  no_block b fault here found =
-      ap (λ left. before_and done (ranked_from left rest)) here
-      ∙ no_more done fault (numbers_from (length done + 1) 0 (length (without_nops b.ops)) (before_first is_line_end rest))
-      (priorities_from (length done + 1 + 1) (drop (length done + 1) blocks) (after_first is_line_end rest)) found
-
-  pub all_blocks : (word : List ℕ) → length done ≡ length blocks → word ≡ without is_space rest → word ≡ []
-      → before_and done (ranked_from (drop (length done) blocks) rest) ≡ Ok done
-  all_blocks word all skipped none =
-      ap (λ left. before_and done (ranked_from left rest)) (drop_all (length done) blocks (omega (arith, all)))
-      ∙ none_more done (length done + 1) 0 (without is_space rest) (sym skipped ∙ none)
-
-  pub too_long : (word : List ℕ) (fault : NumbersFault) → length done ≡ length blocks → word ≡ without is_space rest → word ≢ []
-      → fault ≡ NoOperation (length blocks + 1) 0
-      → before_and done (ranked_from (drop (length done) blocks) rest) ≡ Err fault
-  too_long word fault all skipped some is =
-      ap (λ left. before_and done (ranked_from left rest)) (drop_all (length done) blocks (omega (arith, all)))
-      ∙ some_more done (length done + 1) 0 (without is_space rest) fault (λ none. some (skipped ∙ none))
-      (is ∙ ap (λ n. NoOperation (n + 1) 0) (sym all))
 
 -- each operation has a number
 
