@@ -25,14 +25,6 @@ max_of a b = by_order (nat_cmp b a) (ranked b a (nat_cmp b a) refl)
     by_order Equal same = omega arith
     by_order Greater more = omega arith
 
-pub none_ready : (issued ready : List ℕ) → length ready ≡ length issued → ((j : ℕ) → slice_index ready j ≡ 0)
-    → AreReady [] issued ready
-none_ready issued ready size zeros = record {
-  size = size;
-  over = λ p there. absurd there;
-  reached = λ j. inl (zeros j);
-}
-
 -- one more pair
 module _ (pairs : List Pair) (p : Pair) (issued ready : List ℕ) (are : AreReady pairs issued ready)
     (within : p.second < length issued) where

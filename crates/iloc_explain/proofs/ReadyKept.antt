@@ -116,9 +116,6 @@ pub record HasComing (es : List Explained) (n : ℕ) (places : List (ℕ × Plac
   pub all : (j : ℕ) (own : Explained) → j < n → slice_get es j ≡ Some own → own.ready ≤ own.cycle
       → In places (own.ready, place_at own j)
 
-pub none_coming : (es : List Explained) → HasComing es 0 []
-none_coming es = record { only = λ q there. absurd there; all = λ j own before. absurd (omega arith) }
-
 pub one_coming : (es : List Explained) (n : ℕ) (own : Explained) (places : List (ℕ × Place)) → slice_get es n ≡ Some own
     → own.ready ≤ own.cycle → HasComing es n places
     → HasComing es (n + 1) (insert_key coming_cmp places (own.ready, place_at own n))

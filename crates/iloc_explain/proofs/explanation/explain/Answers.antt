@@ -1,4 +1,4 @@
-use Rattle.iloc_explain.proofs.Common.{◌≡◌, ℕ, zero, suc, ◌+◌, ◌<◌, ◌≤◌, List, [], ◌∷◌, ◌++◌, length, get_or, slice_get, slice_index, Some, refl, ap, ◌∙◌, arith, length-append, get_or_default, Op, op_at, issued_within, IsTable, issue_cycle, row_at, Latencies, MemoryRule, Row, chain_by, counts_by, start_where, waited_until, IsReadyAt, Explained}
+use Rattle.iloc_explain.proofs.Common.{◌≡◌, ℕ, zero, suc, ◌+◌, ◌<◌, List, [], ◌∷◌, ◌++◌, length, get_or, slice_get, slice_index, Some, ap, ◌∙◌, arith, length-append, get_or_default, Op, op_at, issued_within, IsTable, issue_cycle, row_at, Latencies, MemoryRule, Row, chain_by, counts_by, start_where, waited_until, IsReadyAt, Explained}
 use Rattle.iloc_rules.proofs.DelayPairs.DelayBounds.{short_delay_where}
 use Rattle.iloc_rules.proofs.PriorityValues.Starts.{length-starts_where}
 use Rattle.iloc_explain.specs.Explained.{IsExplained, slack_in, unit_of}
@@ -10,9 +10,6 @@ use Rattle.iloc_explain.proofs.ReadyCycles.{is_ready}
 use Rattle.iloc_explain.proofs.explanation.explain.Goals as goal
 
 -- The operations of a schedule explained one after another.
-none_there : {X : Type 0} (xs : List X) (j : ℕ) (e : X) → length xs ≡ 0 → slice_get xs j ≡ Some e → ⊥
-none_there [] j e none there = cc
-none_there (x ∷ xs) j e none there = absurd (omega arith)
 
 -- what holds of each item, and of one more behind them
 each_more : {X : Type 0} (P : ℕ → X → Type 0) (xs : List X) (x : X) → ((j : ℕ) (y : X) → slice_get xs j ≡ Some y → P j y)
@@ -22,10 +19,6 @@ each_more P [] x each last (suc j) y there = absurd cc
 each_more P (z ∷ zs) x each last zero y there = each 0 y there
 each_more P (z ∷ zs) x each last (suc j) y there =
     each_more (λ k. P (suc k)) zs x (λ k. each (suc k)) last j y there
-
-none_explained : (prios : List ℕ) (rule : MemoryRule) (lat : Latencies) (ops : List Op) (rows : List Row)
-    (explained : List Explained) → explained ≡ [] → IsExplainedSoFar prios rule lat ops rows 0 explained
-none_explained prios rule lat ops rows explained empty = grind (arith, none_there)
 
 one_explained : (prios : List ℕ) (rule : MemoryRule) (lat : Latencies) (ops : List Op) (rows : List Row) (n : ℕ)
     (explained more : List Explained) (e : Explained) → IsExplainedSoFar prios rule lat ops rows n explained
