@@ -1,5 +1,5 @@
 -- The names that many proofs import, passed on from one place. Declares nothing.
-pub use Rattle.std.proofs.Common.{◌≡◌, ℕ, zero, suc, ◌+◌, ◌*◌, ◌%◌, ◌^◌, ◌<◌, ◌≤◌, Bool, true, false, cond, not, ◌&&◌, ◌||◌, List, [], ◌∷◌, ◌++◌, map, length, get_or, take, drop, ℤ, pos, is_some, IfSome, ◌==◌, slice_get, Some, None, Ok, Err, string_bytes, box_value, codes, fold, Option, Result, Box, MatchOption, option_map, chars, find, option_and_then, encode_utf8, bytes_eq, unwrap_or, sym, refl, ap, ◌∙◌, subst, ap₂, inl, inr, append_assoc, append-nil, arith, lit<, lit≤, Bor, rules, ne_eqb, eqb-true}
+pub use Rattle.std.proofs.Common.{◌≡◌, ℕ, zero, suc, ◌+◌, ◌^◌, ◌<◌, ◌≤◌, Bool, true, false, cond, not, ◌&&◌, ◌||◌, List, [], ◌∷◌, ◌++◌, map, length, get_or, take, drop, ℤ, pos, is_some, IfSome, ◌==◌, slice_get, Some, None, Ok, Err, box_value, codes, fold, Option, Result, Box, MatchOption, option_map, chars, find, option_and_then, encode_utf8, bytes_eq, unwrap_or, sym, refl, ap, ◌∙◌, subst, inl, inr, append_assoc, append-nil, arith, lit<, lit≤, Bor, rules, ne_eqb, eqb-true}
 pub use Rattle.std.proofs.lemmas.Slice.Eq.{bytes_eq-Decides}
 pub use Rattle.std.specs.List.{AllByRecursion, list_all}
 pub use Rattle.std.specs.Option.{option_map_or}
@@ -19,7 +19,7 @@ pub use Rattle.clap.specs.Words.{AddsArg, AddsSubcommand, App, HasMatchesOf, app
 pub use Rattle.clap.specs.declared.builder.value_parser.ValueParser.{ValueParser}
 pub use Rattle.clap.specs.declared.builder.value_parser.ValueParser.TheVariants.{Signed}
 pub use Rattle.clap.specs.declared.error.kind.ErrorKind.TheVariants.{DisplayHelp, InvalidSubcommand, OutOfMemory, TooManyValues, ValueValidation}
-pub use Rattle.iloc_args.specs.Asked.{Asked, asked, asked_as, asked_by, flag_in, number_if, number_of, number_or, numbers_in, task_among, task_named, text_or}
+pub use Rattle.iloc_args.specs.Asked.{asked, asked_as, asked_by, flag_in, number_if, number_of, number_or, numbers_in, task_among, task_named, text_or}
 pub use Rattle.iloc_args.specs.Command.{Subcommand, entries, farm_app, number_rule, shape, top_shape, words_rule}
 pub use Rattle.iloc_args.specs.Steps.Building.{HasApp, HasRule, alone, app_for, app_with, default_rule, option_rule, rule_for, subcommand_for, with_arguments}
 pub use Rattle.iloc_args.specs.Steps.Taken.{AreNumbersIn, HoldValues, HoldsIn, IsNumberIn}

@@ -7,7 +7,6 @@ use Rattle.iloc_ops.specs.declared.op.Op.{Op}
 use Rattle.iloc_fault.proofs.Places.{one_place}
 use Rattle.iloc_timed.specs.declared.latencies.Latencies.{Latencies}
 use Rattle.iloc_timed.specs.Schedule.{Table}
-use Rattle.iloc_rules.specs.declared.heuristic.Heuristic.{Heuristic}
 use Rattle.iloc_optimum.specs.declared.optimizer.Optimum.{Optimum}
 use Rattle.iloc_optimum.specs.Optimum.{IsOptimumOf}
 use Rattle.iloc_meaning.specs.Outcome.{outcome, shown}
@@ -29,13 +28,11 @@ use Rattle.iloc_driver.specs.Priorities.{Own, own_of}
 use Rattle.iloc_listing.specs.Schedules.{IsCountUnder, ranks_under}
 use Rattle.iloc_driver.specs.Work.{by_own}
 use Rattle.iloc_rules.specs.declared.memory_rule.MemoryRule.{MemoryRule}
-use Rattle.iloc_rules.specs.declared.memory_rule.MemoryRule.TheVariants.{Book}
 use Rattle.iloc_rules.specs.Rule.{counts_by, priorities_under}
-use Rattle.iloc_rules.specs.Greedy.{IsGreedyBy, IsGreedyWhere}
+use Rattle.iloc_rules.specs.Greedy.{IsGreedyWhere}
 use Rattle.iloc_args.specs.Rule.{memory_rule}
 use Rattle.iloc_rules.specs.Renaming.{numbering, renamed, without_nops}
 use Rattle.iloc_rules.proofs.Renamed.MentionedSources.{length-renamed_by}
-use Rattle.iloc_rules.specs.Heuristics.{priorities_by}
 use Rattle.iloc_driver.specs.Entries.{AreListed, Adds}
 use Rattle.iloc_block_commands.specs.declared.compare.ComparedCycles.{ComparedCycles}
 use Rattle.iloc_driver.proofs.Entries.{lined_listing}

@@ -1,5 +1,5 @@
 -- Where an outcome differs from the one that was wanted.
-use Rattle.std.specs.Prelude.{ℕ, ◌≡◌, ◌≢◌, ◌<◌, Bool, true, false, List, Option, slice_get, IsTrue, ℤ, pos}
+use Rattle.std.specs.Prelude.{ℕ, ◌≡◌, ◌≢◌, ◌<◌, Bool, false, List, Option, slice_get, IsTrue, ℤ, pos}
 use Rattle.iloc_meaning.specs.declared.outcome.Outcome.{Outcome}
 use Rattle.iloc_meaning.specs.declared.outcome.Outcome.TheVariants as O
 use Rattle.iloc_meaning.specs.Address.{is_good}

@@ -1,6 +1,5 @@
 //! Which pairs of operations count by a rule of memory.
 ghost use Rattle.std.specs.Prelude.{◌≡◌, ◌≤◌, ◌<◌, ◌&&◌, length, IfOk};
-ghost use Rattle.iloc_meaning.specs.Trace.{op_at};
 ghost use Rattle.iloc_timed.specs.Kinds.{is_store, kind};
 ghost use Rattle.iloc_rules.specs.Apart.{apart_if_both};
 ghost use Rattle.iloc_rules.specs.Rule.{counts_by};

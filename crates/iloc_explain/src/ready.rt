@@ -1,5 +1,5 @@
 //! When operations are ready.
-ghost use Rattle.std.specs.Prelude.{ℕ, ◌+◌, ◌≡◌, ◌≤◌, ◌<◌, ◌^◌, length, slice_index, Contains, IfOk};
+ghost use Rattle.std.specs.Prelude.{ℕ, ◌+◌, ◌≤◌, ◌<◌, ◌^◌, length, slice_index, Contains, IfOk};
 ghost use Rattle.iloc_rules.specs.declared.delay_pairs.Pair.{Pair as pair_value};
 ghost use Rattle.iloc_explain.specs.Steps.Ready.{AreReady};
 

@@ -1,5 +1,5 @@
 -- What operations read, by other numbers.
-use Rattle.std.proofs.Common.{◌≡◌, ℕ, List, [], ◌∷◌, Option, option_map, refl}
+use Rattle.std.proofs.Common.{◌≡◌, ℕ, List, ◌∷◌, Option, option_map, refl}
 use Rattle.iloc_ops.specs.declared.op.Reg.{Reg}
 use Rattle.iloc_validation.specs.Steps.Sources.{by_numbers}
 use Rattle.iloc_facts.specs.Readings.{sources_of}

@@ -1,5 +1,5 @@
 -- The delay pairs that a graph keeps as edges imply all.
-use Rattle.std.proofs.Common.{◌≡◌, ℕ, ◌+◌, ◌≤◌, List, get_or, map, subst}
+use Rattle.std.proofs.Common.{ℕ, ◌+◌, ◌≤◌, List, get_or, map, subst}
 use Rattle.std.specs.Prelude.{All}
 use Rattle.iloc_ops.specs.declared.op.Op.{Op}
 use Rattle.iloc_timed.specs.declared.latencies.Latencies.{Latencies}

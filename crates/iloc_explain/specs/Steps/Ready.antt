@@ -1,5 +1,5 @@
 -- When operations are ready, as far as the delay pairs were gone through.
-use Rattle.std.specs.Prelude.{ℕ, ◌+◌, ◌≡◌, ◌≤◌, ◌<◌, ◌⊎◌, List, length, slice_index}
+use Rattle.std.specs.Prelude.{ℕ, ◌+◌, ◌≡◌, ◌≤◌, ◌⊎◌, List, length, slice_index}
 use Rattle.iloc_rules.specs.declared.delay_pairs.Pair.{Pair}
 use Rattle.iloc_rules.specs.Steps.Members.{In}
 

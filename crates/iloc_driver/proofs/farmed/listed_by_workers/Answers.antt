@@ -1,4 +1,4 @@
-use Rattle.iloc_driver.proofs.Common.{List, length, subst, Block, AreListed, OfBlock, AreFarmed, by_own}
+use Rattle.iloc_driver.proofs.Common.{List, length, subst, Block, OfBlock, AreFarmed, by_own}
 use Rattle.iloc_driver.proofs.Receipts.{are_listed}
 use Rattle.iloc_driver.proofs.farmed.listed_by_workers.Goals as goal
 

@@ -1,4 +1,4 @@
-use Rattle.iloc_driver.proofs.Common.{ℕ, List, IfErr, Some, Err, sym, ap, ◌∙◌, subst, ap₂, err_from_is_err_and, fault_of_numbers, priorities_in, Holds, IsCaused, of_ranked_file}
+use Rattle.iloc_driver.proofs.Common.{IfErr, Err, sym, ap, ◌∙◌, subst, ap₂, err_from_is_err_and, fault_of_numbers, priorities_in, Holds, IsCaused, of_ranked_file}
 use Rattle.iloc_driver.proofs.Streamed.{none_caused}
 use Rattle.iloc_driver.proofs.reading.read_ranked.Goals as goal
 

@@ -1,4 +1,4 @@
-use Rattle.iloc_explain.proofs.Common.{◌≡◌, ◌+◌, ◌<◌, max, length, get_or, slice_index, ap, ◌∙◌, arith, get_or_default, take_more, Pair}
+use Rattle.iloc_explain.proofs.Common.{◌≡◌, ◌+◌, ◌<◌, max, length, get_or, slice_index, ap, ◌∙◌, arith, get_or_default, take_more}
 use Rattle.iloc_explain.proofs.ReadyCycles.{max_of, no_pair, one_more_ready, pair_there}
 use Rattle.iloc_explain.proofs.ready.ready_cycles.Goals as goal
 

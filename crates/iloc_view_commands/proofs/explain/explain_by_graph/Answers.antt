@@ -1,4 +1,4 @@
-use Rattle.std.proofs.Common.{ap, ap₂, length, subst, sym, ◌∙◌}
+use Rattle.std.proofs.Common.{ap, length, subst, sym, ◌∙◌}
 use Rattle.std.proofs.lemmas.Result.{on_ok_weaker}
 use Rattle.iloc_bound.specs.Bound.{least_of_under}
 use Rattle.iloc_explain.specs.Measures.{AreMeasures}

@@ -1,4 +1,4 @@
-use Rattle.iloc_driver.proofs.Common.{◌≡◌, ◌+◌, ◌-◌, ◌≤◌, length, numbers_from, before_and}
+use Rattle.iloc_driver.proofs.Common.{◌≡◌, ◌-◌, ◌≤◌, length, numbers_from, before_and}
 use Rattle.iloc_driver.proofs.reading.priorities.numbers_of.Given as goal
 
 abbrev pub invariant-loop-word : goal.invariant-loop-word

@@ -1,4 +1,4 @@
-use Rattle.std.proofs.Common.{◌≡◌, ap, length, ◌∙◌}
+use Rattle.std.proofs.Common.{ap, length, ◌∙◌}
 use Rattle.std.specs.Prelude.{option_copied}
 use Rattle.iloc_sched.specs.Graph.GraphOf.{GraphOf, of_block}
 use Rattle.iloc_args.specs.Rule.{memory_rule}
