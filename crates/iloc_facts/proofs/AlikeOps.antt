@@ -1,17 +1,9 @@
 -- Operations that differ in registers alone: the same label, the same counts, the same key.
-use Rattle.std.proofs.Common.{◌≡◌, ◌↔◌, ℕ, true, cond, List, Option, refl, sym, ap, ◌∙◌, arith}
-use Rattle.std.specs.Prelude.{IsTrue, count_by}
-use Rattle.std.specs.Bool.{Decides, one_answer}
-use Rattle.std.specs.BTreeMap.{get}
+use Rattle.iloc_facts.proofs.Common.{◌≡◌, ℕ, true, cond, ◌↔◌, List, IsTrue, count_by, Option, sym, refl, ap, ◌∙◌, arith, get, Decides, one_answer, Op, SetsLike, number_like, are_alike, count_like, label, label_key, ByLabel}
 use Rattle.std.specs.Ordering.{eq_by_cmp}
-use Rattle.iloc_ops.specs.declared.op.Op.{Op}
 use Rattle.iloc_ops.specs.contracts.op.OpPartialEq.TheImpl as of_ops
 use Rattle.iloc_ops.specs.contracts.op.OpOrd.TheImpl as in_order
 use Rattle.iloc_ops.specs.contracts.op.OpOrd.TheImpl.Laws.{matches_eq-law}
-use Rattle.iloc_facts.specs.declared.by_label.ByLabel.{ByLabel}
-use Rattle.iloc_facts.specs.Labels.{label, label_key}
-use Rattle.iloc_facts.specs.Counts.{are_alike, count_like}
-use Rattle.iloc_facts.specs.ByLabel.{number_like, SetsLike}
 use Rattle.iloc_facts.proofs.LabelKeys.{one_label, same_key}
 use Rattle.iloc_facts.proofs.SameOps.{op_same}
 

@@ -1,14 +1,7 @@
 -- What is left out of rows, and what is added, by what lacks a counterpart.
-use Rattle.std.proofs.Common.{◌≡◌, List, Some, sym, ◌∙◌, subst}
-use Rattle.std.proofs.lemmas.List.{get_or_default}
-use Rattle.iloc_ops.specs.declared.op.Op.{Op}
-use Rattle.iloc_ops.specs.declared.op.Op.TheVariants.{Nop}
-use Rattle.iloc_meaning.specs.Trace.{op_at}
-use Rattle.iloc_timed.specs.declared.row.Row.{Row}
+use Rattle.iloc_facts.proofs.Common.{◌≡◌, List, Some, sym, ◌∙◌, subst, get_or_default, Op, Nop, op_at, Row, AreLacking, IsShort, Lacking}
 use Rattle.iloc_facts.specs.declared.lawfulness.Issue.{Issue}
-use Rattle.iloc_facts.specs.declared.counterparts.lacking.Lacking.{Lacking}
 use Rattle.iloc_facts.specs.Lawfulness.{issue_of, AreLeftOut, AreAdded}
-use Rattle.iloc_facts.specs.Counts.{AreLacking, IsShort}
 
 pub left_out_is : (block ops : List Op) (it : Lacking) (op : Op) → AreLacking block ops it → op ≡ op_at block it.number
     → AreLeftOut block ops (Some (record { count = it.count; op = op }))

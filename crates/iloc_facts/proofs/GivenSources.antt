@@ -1,14 +1,5 @@
 -- What the operations of a block read, one after another.
-use Rattle.std.proofs.Common.{◌≡◌, ◌<◌, ℕ, ◌+◌, List, [], ◌∷◌, ◌++◌, length, get_or, Some, None, arith, add-one, eq-eqb}
-use Rattle.std.proofs.lemmas.Bool.{cases_eq, eqb-true, true≢false}
-use Rattle.std.proofs.lemmas.List.{get_or_append_left, get_or_push}
-use Rattle.iloc_ops.specs.declared.op.Reg.{Reg}
-use Rattle.iloc_ops.specs.declared.op.Op.{Op}
-use Rattle.iloc_ops.specs.Registers.{defined}
-use Rattle.iloc_meaning.specs.Trace.{op_at}
-use Rattle.iloc_facts.specs.declared.reading.holders.Holders.{Holders}
-use Rattle.iloc_facts.specs.Readings.{given}
-use Rattle.iloc_facts.specs.Steps.Tracks.Holders.{holder, ChangesOnly}
+use Rattle.iloc_facts.proofs.Common.{◌≡◌, ℕ, ◌+◌, ◌<◌, List, [], ◌∷◌, ◌++◌, length, get_or, Some, None, true≢false, add-one, arith, eq-eqb, eqb-true, cases_eq, get_or_append_left, get_or_push, defined, Op, Reg, op_at, given, ChangesOnly, holder, Holders}
 
 -- what holds of each item of a list, and of one more behind them
 pub push_more : {X : Type 0} (P : ℕ → X → Type 0) (xs : List X) (x d : X) (n : ℕ) → length xs ≡ n

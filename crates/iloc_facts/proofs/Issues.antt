@@ -1,17 +1,6 @@
 -- What a table issues, by numbers: each operation once, with what it reads then.
-use Rattle.std.proofs.Common.{◌≡◌, ℕ, zero, suc, List, ℤ, ◌++◌, map, Option, inl, inr, refl, ap, sym, option_to_list, arith}
-use Rattle.std.proofs.lemmas.List.{map-append}
-use Rattle.iloc_ops.specs.declared.op.Op.{Op}
-use Rattle.iloc_meaning.specs.Trace.{op_at}
-use Rattle.iloc_timed.specs.declared.latencies.Latencies.{Latencies}
-use Rattle.iloc_timed.specs.declared.row.Row.{Row}
-use Rattle.iloc_timed.specs.Rows.{row_at, slots, issue_cycle, IsTable}
+use Rattle.iloc_facts.proofs.Common.{◌≡◌, ℕ, zero, suc, List, ◌++◌, map, ℤ, Option, option_to_list, sym, refl, ap, inl, inr, arith, map-append, Op, op_at, IsTable, issue_cycle, row_at, slots, Issued, issue, Latencies, Row, from_append, in_left, in_right, map_same, cycle_is, numbers_before, In, in_order, issued_before}
 use Rattle.iloc_timed.specs.Timed as timed
-use Rattle.iloc_timed.specs.Timed.{Issued, issue}
-use Rattle.iloc_rules.specs.Steps.Members.{In}
-use Rattle.iloc_rules.proofs.Basics.Members.{from_append, in_left, in_right, map_same}
-use Rattle.iloc_rules.proofs.Basics.Slots.{numbers_before, cycle_is}
-use Rattle.iloc_facts.specs.Readings.{in_order, issued_before}
 
 -- operation k as it is issued
 unfoldable pub issued_at : Latencies → List Op → List Row → List ℤ → ℕ → Issued

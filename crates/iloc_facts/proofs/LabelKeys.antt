@@ -1,9 +1,6 @@
 -- Operations of one label share opcode, constant and key, and those of one key share the label.
-use Rattle.std.proofs.Common.{◌≡◌, refl, sym, ap, ◌∙◌}
-use Rattle.iloc_ops.specs.declared.op.Op.{Op}
-use Rattle.iloc_ops.specs.declared.op.Op.TheVariants.{Nop}
+use Rattle.iloc_facts.proofs.Common.{◌≡◌, sym, refl, ap, ◌∙◌, Op, Nop, constant, label, label_key}
 use Rattle.iloc_ops.specs.Forms.{opcode}
-use Rattle.iloc_facts.specs.Labels.{label, constant, label_key}
 
 opcode-label : (op : Op) → opcode (label op) ≡ opcode op
 opcode-label Nop = refl

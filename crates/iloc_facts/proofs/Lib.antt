@@ -1,3 +1,4 @@
+pub mod Common
 pub mod Issues
 pub mod ReadValues
 pub mod LabelKeys

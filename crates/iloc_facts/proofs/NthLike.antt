@@ -1,19 +1,9 @@
 -- Of the operations like one the one that has so many before it: chains of them, and counterparts.
-use Rattle.std.proofs.Common.{◌≡◌, ◌<◌, ◌≤◌, ℕ, ◌+◌, true, false, List, length, take, get_or, Option, Some, None, inl, inr, refl, sym, ap, ◌∙◌, subst, arith, get_or-set_same, get_or-set_other}
-use Rattle.std.specs.Prelude.{is_none, count_by, slice_set, IfNone, IfSome}
+use Rattle.iloc_facts.proofs.Common.{◌≡◌, ℕ, ◌+◌, ◌<◌, ◌≤◌, true, false, List, length, get_or, take, is_none, IfSome, IfNone, slice_set, Some, None, count_by, Option, sym, refl, ap, ◌∙◌, subst, inl, inr, true≢false, arith, length-set, get_or-set_other, get_or-set_same, le-leb, cases_eq, lt-leb, Op, by_bool, op_at, SetsLike, number_like, IsShort, are_alike, count_like, lacking, lacks_counterpart, AreChained, AreCounterparts, IsCounterpart, IsNth, noted_at, ByLabel}
 use Rattle.std.specs.List.{range_with_len}
-use Rattle.std.proofs.lemmas.Bool.{cases_eq, le-leb, lt-leb, true≢false}
 use Rattle.std.proofs.Math.Seq.{take-length}
-use Rattle.std.proofs.lemmas.List.{length-set}
 use Rattle.std.proofs.lemmas.List.FromFn.{length-range_with_len, get_or-range_with_len}
-use Rattle.iloc_ops.specs.declared.op.Op.{Op}
-use Rattle.iloc_meaning.specs.Trace.{op_at}
-use Rattle.iloc_meaning.proofs.Cases.{by_bool}
 use Rattle.iloc_facts.specs.declared.counterparts.chains.Chains.{Chains}
-use Rattle.iloc_facts.specs.declared.by_label.ByLabel.{ByLabel}
-use Rattle.iloc_facts.specs.Counts.{are_alike, count_like, lacks_counterpart, lacking, IsShort}
-use Rattle.iloc_facts.specs.ByLabel.{number_like, SetsLike}
-use Rattle.iloc_facts.specs.Steps.Counterparts.{noted_at, IsNth, AreChained, IsCounterpart, AreCounterparts}
 use Rattle.iloc_facts.proofs.AlikeOps.{alike_itself, alike_same, alike_back, count_same}
 use Rattle.iloc_facts.proofs.CountsLike.{counts_same, one_more, no_more, one_counted}
 

@@ -1,14 +1,5 @@
 -- Labels numbered one operation after another.
-use Rattle.std.proofs.Common.{◌≡◌, ◌<◌, ℕ, ◌+◌, true, false, List, Option, Some, None, inl, inr, refl, sym, ap, ◌∙◌, subst, arith}
-use Rattle.std.specs.Prelude.{IfNone, IfSome}
-use Rattle.std.proofs.lemmas.Bool.{cases_lt, true≢false}
-use Rattle.iloc_ops.specs.declared.op.Op.{Op}
-use Rattle.iloc_meaning.specs.Trace.{op_at}
-use Rattle.iloc_meaning.proofs.Cases.{by_bool}
-use Rattle.iloc_facts.specs.declared.by_label.ByLabel.{ByLabel}
-use Rattle.iloc_facts.specs.Labels.{label}
-use Rattle.iloc_facts.specs.Counts.{are_alike}
-use Rattle.iloc_facts.specs.ByLabel.{number_like, NumbersLabels, SetsLike}
+use Rattle.iloc_facts.proofs.Common.{◌≡◌, ℕ, ◌+◌, ◌<◌, true, false, List, IfSome, IfNone, Some, None, Option, sym, refl, ap, ◌∙◌, subst, inl, inr, true≢false, arith, cases_lt, Op, by_bool, op_at, NumbersLabels, SetsLike, number_like, are_alike, label, ByLabel}
 use Rattle.iloc_facts.proofs.AlikeOps.{alike_itself, alike_test}
 
 pub none_numbered : (ops : List Op) (numbers : ByLabel) → ((op : Op) → number_like numbers op ≡ None)

@@ -1,22 +1,7 @@
 -- The value in a register is the result of the operation that is read.
-use Rattle.std.proofs.Common.{◌≡◌, ℕ, zero, suc, Bool, true, false, ℤ, List, [], ◌∷◌, ◌++◌, map, fold, Option, Some, None, ◌⊎◌, inl, inr, refl, ap, sym, ◌∙◌, option_to_list, append_assoc, append-nil, arith}
-use Rattle.std.specs.Prelude.{filter, option_map, nat_lt, nat_le}
+use Rattle.iloc_facts.proofs.Common.{◌≡◌, ℕ, zero, suc, Bool, true, false, ◌⊎◌, List, [], ◌∷◌, ◌++◌, map, ℤ, nat_lt, nat_le, Some, None, fold, filter, Option, option_map, option_to_list, sym, refl, ap, ◌∙◌, inl, inr, append_assoc, append-nil, arith, fold-append, defined, Op, Reg, by_bool, Executed, defines, is_register, op_at, result_or_zero, IsTable, row_at, Issued, last_due, later, register_in, Latencies, Row, from_filter, numbers_before, In, arrived, defining, due, issued_before, last_of, read}
 use Rattle.std.proofs.lemmas.List.Elements.{filter-append}
-use Rattle.std.proofs.lemmas.List.Sums.{fold-append}
-use Rattle.iloc_ops.specs.declared.op.Reg.{Reg}
-use Rattle.iloc_ops.specs.declared.op.Op.{Op}
-use Rattle.iloc_ops.specs.Registers.{defined}
-use Rattle.iloc_meaning.specs.Trace.{Executed, op_at, is_register, defines, result_or_zero}
-use Rattle.iloc_meaning.proofs.Cases.{by_bool}
-use Rattle.iloc_timed.specs.declared.latencies.Latencies.{Latencies}
-use Rattle.iloc_timed.specs.declared.row.Row.{Row}
-use Rattle.iloc_timed.specs.Rows.{row_at, IsTable}
 use Rattle.iloc_timed.specs.Timed as timed
-use Rattle.iloc_timed.specs.Timed.{Issued, later, last_due, register_in}
-use Rattle.iloc_rules.specs.Steps.Members.{In}
-use Rattle.iloc_rules.proofs.Basics.Members.{from_filter}
-use Rattle.iloc_rules.proofs.Basics.Slots.{numbers_before}
-use Rattle.iloc_facts.specs.Readings.{issued_before, due, last_of, defining, arrived, read}
 use Rattle.iloc_facts.proofs.Issues.{issued_at, log_is}
 
 module _ (e : ℕ → Issued) (test : Executed → Bool) (n : ℕ) where

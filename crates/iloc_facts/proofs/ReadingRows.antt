@@ -1,22 +1,6 @@
 -- What operations read, noted row by row.
-use Rattle.std.proofs.Common.{rules, ◌≡◌, ◌<◌, ◌≤◌, ℕ, ◌+◌, List, length, Option, Some, None, arith, refl, ◌⊎◌, inl, get_or-set_same, get_or-set_other}
-use Rattle.std.specs.Prelude.{IfSome, option_to_list}
-use Rattle.std.proofs.lemmas.Bool.{cases_eq, cases_lt}
-use Rattle.iloc_ops.specs.declared.op.Op.{Op}
-use Rattle.iloc_ops.specs.Registers.{used}
-use Rattle.iloc_meaning.specs.Trace.{op_at}
-use Rattle.iloc_timed.specs.declared.latencies.Latencies.{Latencies}
-use Rattle.iloc_timed.specs.declared.row.Row.{Row}
-use Rattle.iloc_timed.specs.Rows.{row_at, slots, issue_cycle, IsTable}
-use Rattle.iloc_rules.specs.Steps.Members.{In}
-use Rattle.iloc_rules.proofs.Basics.Members.{from_append, in_left, in_right}
-use Rattle.iloc_rules.proofs.Basics.Slots.{stands_there, issued_within, cycle_is}
+use Rattle.iloc_facts.proofs.Common.{◌≡◌, ℕ, ◌+◌, ◌<◌, ◌≤◌, ◌⊎◌, List, length, IfSome, Some, None, Option, option_to_list, refl, inl, arith, get_or-set_other, get_or-set_same, rules, cases_eq, cases_lt, used, Op, op_at, IsTable, issue_cycle, row_at, slots, Latencies, Row, from_append, in_left, in_right, cycle_is, issued_within, stands_there, In, reading_at, reading_of, sources_of, AreNoted, with_noted, Tracks, holder, Run}
 use Rattle.iloc_facts.specs.declared.reading.Reading.{Reading}
-use Rattle.iloc_facts.specs.declared.reading.run.Run.{Run}
-use Rattle.iloc_facts.specs.Steps.Tracks.Holders.{holder}
-use Rattle.iloc_facts.specs.Steps.Readings.{with_noted, AreNoted}
-use Rattle.iloc_facts.specs.Readings.{reading_at, reading_of, sources_of}
-use Rattle.iloc_facts.specs.Steps.Tracks.{Tracks}
 use Rattle.iloc_facts.proofs.SourceLists.{sources_same}
 use Rattle.iloc_facts.proofs.Tracking.{log_before, held_is_read}
 

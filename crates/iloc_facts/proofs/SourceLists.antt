@@ -1,10 +1,5 @@
 -- What an operation reads, as a list and as the code has it.
-use Rattle.std.proofs.Common.{◌≡◌, ℕ, ◌≤◌, List, [], ◌∷◌, length, map, Option, refl, ap, arith}
-use Rattle.iloc_ops.specs.declared.op.Reg.{Reg}
-use Rattle.iloc_ops.specs.declared.op.Op.{Op}
-use Rattle.iloc_ops.specs.declared.op.Op.TheVariants.{Nop}
-use Rattle.iloc_ops.specs.Registers.{used}
-use Rattle.iloc_facts.specs.Readings.{sources_of}
+use Rattle.iloc_facts.proofs.Common.{◌≡◌, ℕ, ◌≤◌, List, [], ◌∷◌, map, length, Option, refl, ap, arith, used, Op, Nop, Reg, sources_of}
 
 pub few_used : (op : Op) → length (used op) ≤ 2
 few_used Nop = omega arith

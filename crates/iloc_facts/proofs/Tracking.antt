@@ -1,19 +1,9 @@
 -- Rows in mid-run, one step on; and what is held then is what is read.
-use Rattle.std.proofs.Common.{◌≡◌, ◌<◌, ◌≤◌, ℕ, ◌+◌, ◌%◌, true, false, List, [], ◌∷◌, ◌++◌, length, map, set, Option, Some, None, option_to_list, arith, refl, sym, ap, ◌∙◌, add-one, inl}
-use Rattle.std.specs.Prelude.{fold, option_map}
-use Rattle.std.proofs.lemmas.List.{get_or-map, map-set, length-map, map-append}
-use Rattle.iloc_ops.specs.declared.op.Reg.{Reg}
-use Rattle.iloc_ops.specs.declared.op.Op.{Op}
-use Rattle.iloc_ops.specs.Registers.{defined}
+use Rattle.iloc_facts.proofs.Common.{◌≡◌, ℕ, ◌+◌, ◌%◌, ◌<◌, ◌≤◌, true, false, List, [], ◌∷◌, ◌++◌, map, length, set, Some, None, fold, Option, option_map, option_to_list, sym, refl, ap, ◌∙◌, inl, add-one, arith, get_or-map, length-map, map-append, map-set, defined, Op, Reg, defines, is_register, op_at, result_of, result_or_zero, IsTable, issue_cycle, row_at, Issued, register_in, Latencies, Row, in_left, in_right, cycle_is, numbers_before, due, read, Tracks, landed_at, mark, marked, marked_by, sent_as, with_slot, holder, Holders, Run}
 use Rattle.iloc_meaning.specs.Results.{GoesTo}
 use Rattle.iloc_meaning.specs.Outcome.{is_fault}
-use Rattle.iloc_meaning.specs.Trace.{op_at, is_register, defines, result_or_zero, result_of}
-use Rattle.iloc_timed.specs.declared.latencies.Latencies.{Latencies}
-use Rattle.iloc_timed.specs.declared.row.Row.{Row}
 use Rattle.iloc_timed.specs.declared.wheel.Pending.TheVariants.{Register}
 use Rattle.iloc_timed.specs.Latency.{latency}
-use Rattle.iloc_timed.specs.Rows.{row_at, issue_cycle, IsTable}
-use Rattle.iloc_timed.specs.Timed.{Issued, register_in}
 use Rattle.iloc_timed.specs.Wheel.{list_at}
 use Rattle.iloc_timed.specs.Steps.Pending.{sent_by, landed_in_register}
 use Rattle.iloc_timed.specs.Steps.Wheel.{due_at, AreUnderWay}
@@ -21,15 +11,7 @@ use Rattle.iloc_timed.specs.Steps.Machine.{landed}
 use Rattle.iloc_timed.proofs.Following.{all_land_later}
 use Rattle.iloc_timed.proofs.Landing.{register_more, landed-later, landed_is_arrived}
 use Rattle.iloc_timed.proofs.Turning.{cleared, pushed}
-use Rattle.iloc_rules.proofs.Basics.Slots.{numbers_before, cycle_is}
-use Rattle.iloc_rules.proofs.Basics.Members.{in_left, in_right}
-use Rattle.iloc_facts.specs.declared.reading.holders.Holders.{Holders}
 use Rattle.iloc_facts.specs.declared.reading.run.Arrival.{Arrival}
-use Rattle.iloc_facts.specs.declared.reading.run.Run.{Run}
-use Rattle.iloc_facts.specs.Readings.{due, read}
-use Rattle.iloc_facts.specs.Steps.Tracks.Holders.{holder}
-use Rattle.iloc_facts.specs.Steps.Tracks.Arrivals.{landed_at, mark, marked_by, marked, with_slot, sent_as}
-use Rattle.iloc_facts.specs.Steps.Tracks.{Tracks}
 use Rattle.iloc_facts.proofs.ReadValues.{agree, value_of, value_mapped, read_in}
 
 -- one step on

@@ -1,5 +1,4 @@
-use Rattle.std.proofs.Common.{◌≡◌, ◌≤◌, take}
-use Rattle.iloc_facts.specs.Counts.{count_like}
+use Rattle.iloc_facts.proofs.Common.{◌≡◌, ◌≤◌, take, count_like}
 use Rattle.iloc_facts.proofs.label.count_like.Given as goal
 
 abbrev pub invariant-loop-other : goal.invariant-loop-other

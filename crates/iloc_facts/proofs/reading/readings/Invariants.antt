@@ -1,5 +1,4 @@
-use Rattle.iloc_facts.specs.Steps.Readings.{AreNoted}
-use Rattle.iloc_facts.specs.Steps.Tracks.{Tracks}
+use Rattle.iloc_facts.proofs.Common.{AreNoted, Tracks}
 use Rattle.iloc_facts.proofs.Tracking.{log_before}
 use Rattle.iloc_facts.proofs.reading.readings.Given as goal
 

@@ -1,5 +1,4 @@
-use Rattle.std.proofs.Common.{rules, ◌≡◌, ap, ◌∙◌}
-use Rattle.std.specs.BTreeMap.{get}
+use Rattle.iloc_facts.proofs.Common.{◌≡◌, ap, ◌∙◌, rules, get}
 use Rattle.iloc_ops.specs.contracts.op.OpOrd.TheImpl as in_order
 use Rattle.iloc_facts.proofs.by_label.ByLabel.number.Goals as goal
 

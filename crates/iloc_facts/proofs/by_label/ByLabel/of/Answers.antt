@@ -1,9 +1,4 @@
-use Rattle.std.proofs.Common.{◌≡◌, Some, get_or, subst}
-use Rattle.std.proofs.lemmas.List.{get_or_default}
-use Rattle.iloc_ops.specs.declared.op.Op.{Op}
-use Rattle.iloc_ops.specs.declared.op.Op.TheVariants.{Nop}
-use Rattle.iloc_meaning.specs.Trace.{op_at}
-use Rattle.iloc_facts.specs.ByLabel.{SetsLike}
+use Rattle.iloc_facts.proofs.Common.{◌≡◌, get_or, Some, subst, get_or_default, Op, Nop, op_at, SetsLike}
 use Rattle.iloc_facts.proofs.NumberedLabels.{none_numbered, one_more_numbered}
 use Rattle.iloc_facts.proofs.by_label.ByLabel.of.Goals as goal
 

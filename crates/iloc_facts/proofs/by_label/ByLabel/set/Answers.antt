@@ -1,5 +1,4 @@
-use Rattle.std.proofs.Common.{Some, None, subst, sym}
-use Rattle.iloc_facts.specs.ByLabel.{SetsLike}
+use Rattle.iloc_facts.proofs.Common.{Some, None, sym, subst, SetsLike}
 use Rattle.iloc_facts.proofs.AlikeOps.{sets_like}
 use Rattle.iloc_facts.proofs.by_label.ByLabel.set.Goals as goal
 

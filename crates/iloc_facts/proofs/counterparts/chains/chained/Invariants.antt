@@ -1,5 +1,4 @@
-use Rattle.std.proofs.Common.{◌≡◌, ◌+◌, ℕ, length}
-use Rattle.iloc_facts.specs.Steps.Counterparts.{AreChained}
+use Rattle.iloc_facts.proofs.Common.{◌≡◌, ℕ, ◌+◌, length, AreChained}
 use Rattle.iloc_facts.proofs.counterparts.chains.chained.Given as goal
 
 abbrev pub invariant-loop-place : goal.invariant-loop-place

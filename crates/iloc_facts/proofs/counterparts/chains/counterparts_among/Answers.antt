@@ -1,11 +1,4 @@
-use Rattle.std.proofs.Common.{rules, ◌≡◌, ◌+◌, None, get_or, length, ap, sym, ◌∙◌, subst, arith}
-use Rattle.std.specs.Prelude.{IfSome}
-use Rattle.std.proofs.lemmas.List.{get_or_default, length_push}
-use Rattle.iloc_ops.specs.declared.op.Op.{Op}
-use Rattle.iloc_ops.specs.declared.op.Op.TheVariants.{Nop}
-use Rattle.iloc_meaning.specs.Trace.{op_at}
-use Rattle.iloc_facts.specs.ByLabel.{number_like, SetsLike}
-use Rattle.iloc_facts.specs.Steps.Counterparts.{noted_at, IsCounterpart}
+use Rattle.iloc_facts.proofs.Common.{◌≡◌, ◌+◌, length, get_or, IfSome, None, sym, ap, ◌∙◌, subst, arith, rules, get_or_default, length_push, Op, Nop, op_at, SetsLike, number_like, IsCounterpart, noted_at}
 use Rattle.iloc_facts.proofs.GivenSources.{push_more}
 use Rattle.iloc_facts.proofs.NthLike.{taken}
 use Rattle.iloc_facts.proofs.counterparts.chains.counterparts_among.Goals as goal

@@ -1,9 +1,4 @@
-use Rattle.std.proofs.Common.{◌≡◌, ◌<◌, ◌+◌, ℕ, length, take}
-use Rattle.iloc_ops.specs.declared.op.Op.{Op}
-use Rattle.iloc_meaning.specs.Trace.{op_at}
-use Rattle.iloc_facts.specs.Counts.{count_like}
-use Rattle.iloc_facts.specs.ByLabel.{number_like}
-use Rattle.iloc_facts.specs.Steps.Counterparts.{noted_at, IsNth, IsCounterpart}
+use Rattle.iloc_facts.proofs.Common.{◌≡◌, ℕ, ◌+◌, ◌<◌, length, take, Op, op_at, number_like, count_like, IsCounterpart, IsNth, noted_at}
 use Rattle.iloc_facts.proofs.counterparts.chains.counterparts_among.Given as goal
 
 abbrev pub invariant-loop-op : goal.invariant-loop-op

@@ -1,6 +1,4 @@
-use Rattle.std.proofs.Common.{◌≤◌, take}
-use Rattle.std.specs.Prelude.{IfSome}
-use Rattle.iloc_facts.specs.Steps.Counterparts.{IsLackingIn}
+use Rattle.iloc_facts.proofs.Common.{◌≤◌, take, IfSome, IsLackingIn}
 use Rattle.iloc_facts.proofs.counterparts.lacking.first_lacking.Given as goal
 
 abbrev pub invariant-loop-number : goal.invariant-loop-number

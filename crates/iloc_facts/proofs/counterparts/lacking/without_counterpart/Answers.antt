@@ -1,9 +1,4 @@
-use Rattle.std.proofs.Common.{◌≡◌, ◌<◌, ℕ, List, length, Option, Some, None, sym, ◌∙◌, arith}
-use Rattle.iloc_ops.specs.declared.op.Op.{Op}
-use Rattle.iloc_meaning.specs.Trace.{op_at}
-use Rattle.iloc_facts.specs.declared.counterparts.lacking.Lacking.{Lacking}
-use Rattle.iloc_facts.specs.Counts.{lacking, IsShort, AreLacking}
-use Rattle.iloc_facts.specs.Steps.Counterparts.{AreCounterparts, IsLackingIn}
+use Rattle.iloc_facts.proofs.Common.{◌≡◌, ℕ, ◌<◌, List, length, Some, None, Option, sym, ◌∙◌, arith, Op, op_at, AreLacking, IsShort, lacking, AreCounterparts, IsLackingIn, Lacking}
 use Rattle.iloc_facts.proofs.NthLike.{lacking_is, short_is}
 use Rattle.iloc_facts.proofs.counterparts.lacking.without_counterpart.Goals as goal
 

@@ -1,13 +1,6 @@
-use Rattle.std.proofs.Common.{◌≡◌, ◌+◌, length, get_or, ap, ◌∙◌}
-use Rattle.std.proofs.lemmas.List.{get_or_default, length_push}
-use Rattle.iloc_ops.specs.declared.op.Op.{Op}
-use Rattle.iloc_ops.specs.declared.op.Op.TheVariants.{Nop}
-use Rattle.iloc_ops.specs.Registers.{used, defined}
-use Rattle.iloc_meaning.specs.Trace.{op_at}
+use Rattle.iloc_facts.proofs.Common.{◌≡◌, ◌+◌, length, get_or, ap, ◌∙◌, get_or_default, length_push, defined, used, Op, Nop, op_at, given, sources_of, holder}
 use Rattle.iloc_facts.specs.declared.reading.sources.Sources.{Sources}
 use Rattle.iloc_facts.specs.declared.reading.sources.Sources.TheVariants.{Nothing}
-use Rattle.iloc_facts.specs.Readings.{given, sources_of}
-use Rattle.iloc_facts.specs.Steps.Tracks.Holders.{holder}
 use Rattle.iloc_facts.proofs.GivenSources.{push_more, none_set, one_set}
 use Rattle.iloc_facts.proofs.SourceLists.{sources_same}
 use Rattle.iloc_facts.proofs.reading.given.givens.Goals as goal

@@ -1,9 +1,4 @@
-use Rattle.std.proofs.Common.{◌≡◌, ◌<◌, ℕ, length}
-use Rattle.iloc_ops.specs.declared.op.Reg.{Reg}
-use Rattle.iloc_ops.specs.Registers.{used}
-use Rattle.iloc_meaning.specs.Trace.{op_at}
-use Rattle.iloc_facts.specs.Readings.{given, sources_of, sources_at}
-use Rattle.iloc_facts.specs.Steps.Tracks.Holders.{holder}
+use Rattle.iloc_facts.proofs.Common.{◌≡◌, ℕ, ◌<◌, length, used, Reg, op_at, given, sources_at, sources_of, holder}
 use Rattle.iloc_facts.proofs.reading.given.givens.Given as goal
 
 abbrev pub invariant-loop-i : goal.invariant-loop-i

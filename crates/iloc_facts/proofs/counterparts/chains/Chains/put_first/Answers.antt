@@ -1,9 +1,4 @@
-use Rattle.std.proofs.Common.{◌≡◌, Some, get_or, refl, ap, ◌∙◌, subst}
-use Rattle.std.proofs.lemmas.List.{get_or_default}
-use Rattle.iloc_ops.specs.declared.op.Op.{Op}
-use Rattle.iloc_ops.specs.declared.op.Op.TheVariants.{Nop}
-use Rattle.iloc_meaning.specs.Trace.{op_at}
-use Rattle.iloc_facts.specs.ByLabel.{number_like, SetsLike}
+use Rattle.iloc_facts.proofs.Common.{◌≡◌, get_or, Some, refl, ap, ◌∙◌, subst, get_or_default, Op, Nop, op_at, SetsLike, number_like}
 use Rattle.iloc_facts.proofs.NthLike.{put_first_chained}
 use Rattle.iloc_facts.proofs.counterparts.chains.Chains.put_first.Goals as goal
 
