@@ -1,11 +1,11 @@
 -- The names that many proofs import, passed on from one place. Declares nothing.
-pub use Rattle.std.proofs.Common.{◌≡◌, ℕ, zero, suc, ◌+◌, ◌-◌, ◌*◌, ◌<◌, ◌≤◌, max, Bool, true, false, cond, not, ◌&&◌, ◌≢◌, ◌⊎◌, List, [], ◌∷◌, ◌++◌, map, length, get_or, take, drop, is_some, IfErr, IsTrue, nat_lt, ◌==◌, slice_get, Some, None, Ok, Err, codes, Option, Result, option_to_list, find, flat_map, bytes_eq, sym, refl, ap, ◌∙◌, subst, subst₂, inl, inr, true≢false, append_assoc, append-nil, arith, length-append, length-drop, eq-eqb, ne_eqb}
+pub use Rattle.std.proofs.Common.{◌≡◌, ℕ, zero, suc, ◌+◌, ◌-◌, ◌*◌, ◌<◌, ◌≤◌, max, Bool, true, false, cond, not, ◌&&◌, ◌≢◌, ◌⊎◌, List, [], ◌∷◌, ◌++◌, map, length, get_or, take, drop, is_some, IsTrue, nat_lt, ◌==◌, slice_get, Some, None, Ok, Err, codes, Option, Result, option_to_list, find, flat_map, bytes_eq, sym, refl, ap, ◌∙◌, subst, subst₂, inl, inr, true≢false, append_assoc, append-nil, arith, length-append, length-drop, eq-eqb, ne_eqb}
 pub use Rattle.std.proofs.lemmas.Bool.{and_parts, eqb-false, eqb-true, ltb-false, ltb-true, not-true}
 pub use Rattle.std.proofs.lemmas.Bool.Decides.{nat_tests}
 pub use Rattle.std.proofs.lemmas.List.{drop_more, length-take-le, map-append, take-append-drop, take-append-le, take_all, take_more}
 pub use Rattle.std.proofs.lemmas.List.Elements.{filter_map-append}
 pub use Rattle.std.proofs.lemmas.Option.{none-some}
-pub use Rattle.std.proofs.lemmas.Result.{IfOk-weaker}
+pub use Rattle.std.proofs.lemmas.Result.{IfErr-weaker, IfOk-weaker}
 pub use Rattle.std.specs.Char.{digit_value, is_ascii_alphabetic, is_ascii_digit}
 pub use Rattle.std.specs.List.{AllByRecursion, join_with_byte}
 pub use Rattle.iloc_ops.specs.Forms.{Lead, Operand, Value, number_in, number_of, op_of, opcode, opcode_text, opcodes, operands}

@@ -1,5 +1,5 @@
 -- Where lines among rows stop, and what may be wanted there.
-use Rattle.iloc_lint.proofs.Common.{◌≡◌, ℕ, ◌-◌, List, ◌++◌, length, take, drop, IfErr, IsTrue, Ok, Err, codes, Result, sym, refl, ap, ◌∙◌, inl, inr, append_assoc, take-append-drop, blanks_read, blanks_in}
+use Rattle.iloc_lint.proofs.Common.{◌≡◌, ℕ, ◌-◌, List, ◌++◌, length, take, drop, IsTrue, codes, sym, refl, ap, ◌∙◌, inl, inr, append_assoc, take-append-drop, blanks_read, blanks_in}
 use Rattle.std.proofs.Math.Seq.{drop-drop}
 use Rattle.iloc_lint.specs.Row.{IsAfterBlanks, IsLeft, Starts, is_in_claim, is_in_head, is_in_row}
 use Rattle.iloc_lint.specs.Steps.Stopped.{Stops, StopsIn}
@@ -13,10 +13,6 @@ after_all_blanks bytes n e =
     let read = blanks_read bytes in
     let rest = rest_of n bytes ∙ ap (λ k. drop k bytes) e ∙ blanks_counted bytes in
     (read.front, read.first, read.whole ∙ ap (λ r. read.front ++ r) (sym rest))
-
-pub err_weaker : {X Y : Type 0} (r : Result X Y) (P Q : Y → Type 0) → ((y : Y) → P y → Q y) → IfErr r P → IfErr r Q
-err_weaker (Ok x) P Q f h = h
-err_weaker (Err y) P Q f h = f y h
 
 pub left_of_left : (bytes rest left : List ℕ) → IsLeft bytes rest → IsLeft rest left → IsLeft bytes left
 left_of_left bytes rest left first second =

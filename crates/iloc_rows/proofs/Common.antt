@@ -2,6 +2,7 @@
 pub use Rattle.std.proofs.Common.{◌≡◌, ℕ, zero, suc, ◌+◌, ◌-◌, ◌<◌, ◌≤◌, max, Bool, true, false, cond, not, ◌&&◌, ◌||◌, ◌≢◌, ◌⊎◌, List, [], ◌∷◌, ◌++◌, map, length, get_or, take, drop, set, is_some, IfErr, nat_eq, nat_lt, nat_le, ◌==◌, slice_set, Some, None, Ok, Err, MatchBool, count_by, Option, Result, MatchOption, option_to_list, filter_map, unwrap_or, sym, refl, ap, ◌∙◌, subst, ap₂, subst₂, inl, inr, append_assoc, append-nil, arith, length-append, Bor, ltb-false, ltb-true, lt-ltb, eq-eqb, ne_eqb, eqb-true}
 pub use Rattle.std.proofs.lemmas.Bool.{and_from, and_right, cases_eq, cases_lt}
 pub use Rattle.std.proofs.lemmas.List.{get_or_default, get_or_past, length-map, map-append}
+pub use Rattle.std.proofs.lemmas.Result.{IfErr-weaker, err_from_is_err_and}
 pub use Rattle.std.specs.List.{AllByRecursion, join_with_byte, list_any, range_with_len}
 pub use Rattle.iloc_ops.specs.Limits.{MAX_INPUT, MAX_OPS}
 pub use Rattle.iloc_ops.specs.declared.file.Block.{Block}

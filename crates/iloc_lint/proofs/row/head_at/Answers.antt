@@ -1,5 +1,5 @@
-use Rattle.std.proofs.lemmas.Result.{IfOk-weaker}
-use Rattle.iloc_lint.proofs.Stopping.{claim_in_head, err_weaker, left_of_left}
+use Rattle.iloc_lint.proofs.Common.{IfErr-weaker, IfOk-weaker}
+use Rattle.iloc_lint.proofs.Stopping.{claim_in_head, left_of_left}
 use Rattle.iloc_lint.proofs.row.head_at.Goals as goal
 
 pub returns-in-Ok-clause-ok : goal.returns-in-Ok-clause-ok
@@ -9,7 +9,7 @@ returns-in-Ok-clause-ok c =
 
 pub returns-in-Ok-clause-err : goal.returns-in-Ok-clause-err
 returns-in-Ok-clause-err c =
-    err_weaker c.name_after.result _ _
+    IfErr-weaker c.name_after.result _ _
     (λ stop s. (left_of_left c.args.bytes.now c.in-Ok.rest.now stop.rest.now c.in-Ok.ensures.ok s.0, s.1)) c.name_after.ensures.err
 
 pub returns-in-Err-clause-err : goal.returns-in-Err-clause-err

@@ -1,6 +1,6 @@
-use Rattle.iloc_lint.proofs.Common.{refl, IfOk-weaker}
+use Rattle.iloc_lint.proofs.Common.{refl, IfErr-weaker, IfOk-weaker}
 use Rattle.iloc_lint.specs.declared.row.Wanted.TheVariants.{LineEnd}
-use Rattle.iloc_lint.proofs.Stopping.{err_weaker, in_cycles, in_head, in_row, in_total}
+use Rattle.iloc_lint.proofs.Stopping.{in_cycles, in_head, in_row, in_total}
 use Rattle.iloc_lint.proofs.row.said_at.Goals as goal
 
 pub returns-in-Some-clause-ok : goal.returns-in-Some-clause-ok
@@ -11,7 +11,7 @@ returns-in-Some-clause-ok c =
 
 pub returns-in-Some-clause-err : goal.returns-in-Some-clause-err
 returns-in-Some-clause-err c =
-    err_weaker c.slots_at.result _ _
+    IfErr-weaker c.slots_at.result _ _
     (λ stop s. in_row c.args.line.now c.after_blanks-rest.result.now c.in-Some.slots.now stop.rest.now stop.wanted
     c.after_blanks-rest.ensures.blanks c.in-Some.ensures s) c.slots_at.ensures.err
 
@@ -23,7 +23,7 @@ returns-in-Some-after_text-clause-ok c =
 
 pub returns-in-Some-after_text-clause-err : goal.returns-in-Some-after_text-clause-err
 returns-in-Some-after_text-clause-err c =
-    err_weaker c.head_at.result _ _
+    IfErr-weaker c.head_at.result _ _
     (λ stop s. in_head c.args.line.now c.after_blanks-rest.result.now c.in-Some-after_text.head.now stop.rest.now stop.wanted
     c.after_blanks-rest.ensures.blanks c.in-Some-after_text.ensures s) c.head_at.ensures.err
 
@@ -35,7 +35,7 @@ returns-in-Some-after_text-2-clause-ok c =
 
 pub returns-in-Some-after_text-2-clause-err : goal.returns-in-Some-after_text-2-clause-err
 returns-in-Some-after_text-2-clause-err c =
-    err_weaker c.number_after.result _ _
+    IfErr-weaker c.number_after.result _ _
     (λ stop s. in_cycles c.args.line.now c.after_blanks-rest.result.now c.in-Some-after_text-2.claim.now stop.rest.now stop.wanted
     c.after_blanks-rest.ensures.blanks c.in-Some-after_text-2.ensures s) c.number_after.ensures.err
 
@@ -47,6 +47,6 @@ returns-in-Some-after_text-3-clause-ok c =
 
 pub returns-in-Some-after_text-3-clause-err : goal.returns-in-Some-after_text-3-clause-err
 returns-in-Some-after_text-3-clause-err c =
-    err_weaker c.number_after-in-Some-after_text-3.result _ _
+    IfErr-weaker c.number_after-in-Some-after_text-3.result _ _
     (λ stop s. in_total c.args.line.now c.after_blanks-rest.result.now c.in-Some-after_text-3.claim.now stop.rest.now stop.wanted
     c.after_blanks-rest.ensures.blanks c.in-Some-after_text-3.ensures s) c.number_after-in-Some-after_text-3.ensures.err

@@ -1,5 +1,4 @@
-use Rattle.iloc_rows.proofs.Common.{◌+◌, length, Some, None, Err, sym, ap, ◌∙◌, subst, arith, lines_left, HaveFirstFault, Propose, told_of}
-use Rattle.std.proofs.lemmas.Result.{err_from_is_err_and}
+use Rattle.iloc_rows.proofs.Common.{◌+◌, length, Some, None, Err, sym, ap, ◌∙◌, subst, arith, err_from_is_err_and, lines_left, HaveFirstFault, Propose, told_of}
 use Rattle.iloc_rows.proofs.Reading.{Progress, progress_begins, progress_step, progress_number, progress_room, progress_ends, fault_here, added_faulty, err_is}
 use Rattle.iloc_rows.proofs.Within.{proposed_numbered}
 use Rattle.iloc_rows.proofs.reader.read_proposals.Goals as goal

@@ -1,5 +1,4 @@
-use Rattle.iloc_rows.proofs.Common.{◌≡◌, ◌<◌, ◌≤◌, Bool, true, false, List, [], ◌∷◌, length, nat_eq, Err, sym, ap, ◌∙◌, subst, arith, eqb-true, Block, lines_left, HaveFirstFault, IsRefused, Propose, Read}
-use Rattle.std.proofs.lemmas.Result.{err_from_is_err_and}
+use Rattle.iloc_rows.proofs.Common.{◌≡◌, ◌<◌, ◌≤◌, Bool, true, false, List, [], ◌∷◌, length, nat_eq, Err, sym, ap, ◌∙◌, subst, arith, eqb-true, err_from_is_err_and, Block, lines_left, HaveFirstFault, IsRefused, Propose, Read}
 use Rattle.iloc_rows.proofs.Reading.{err_is, cut_number, no_blocks, denoted, blocks_refused, rows_refused}
 use Rattle.iloc_rows.proofs.reader.read_submission.Goals as goal
 
