@@ -18,6 +18,7 @@ use Rattle.iloc_rules.specs.declared.delay_pairs.TheConstants.{LONGEST_DELAY}
 use Rattle.iloc_rules.specs.declared.heuristic.Heuristic.{Heuristic}
 use Rattle.iloc_rules.specs.declared.memory_rule.MemoryRule.{MemoryRule}
 use Rattle.iloc_rules.specs.declared.memory_rule.MemoryRule.TheVariants.{Book}
+use Rattle.iloc_rules.specs.Delays.{Counts, all_count}
 use Rattle.iloc_rules.specs.Rule.{counts_by}
 use Rattle.iloc_rules.specs.Greedy.{IsGreedyBy, IsGreedyWhere}
 use Rattle.iloc_rules.specs.Heuristics.{priorities_by}
@@ -26,7 +27,7 @@ use Rattle.iloc_rules.specs.Renaming.{renamed}
 use Rattle.iloc_rules.proofs.Basics.IssueCycles.{issue_cycle_within}
 use Rattle.iloc_rules.proofs.Basics.Maxima.{fold_max_reached}
 use Rattle.iloc_rules.proofs.Basics.Members.{from_map}
-use Rattle.iloc_rules.proofs.Bounds.BusyCycles.{busy_bound_by}
+use Rattle.iloc_rules.proofs.Bounds.BusyCycles.{busy_bound_where}
 use Rattle.iloc_rules.proofs.Choice.OneGreedy.{greedy_same_as, greedy_same_where}
 use Rattle.iloc_rules.proofs.Outcome.LawfulOutcomes.{lawful_same_outcome}
 use Rattle.iloc_listing.specs.Listing.{cycles_of, total_cycles}
@@ -109,11 +110,12 @@ latencies_at_most lat (op ∷ ops) =
 renamed_fits : (block : List Op) → length (renamed block) ≤ length block
 renamed_fits block = grind (arith, length-renamed_by, length-filter, count_by-le-length)
 
-pub cycles_few_by : (prios : List ℕ) (lat : Latencies) (block : List Op) (s : Table)
-    → IsGreedyBy prios lat block s.ops s.rows → length block ≤ MAX_OPS → cycles_of lat s ≤ most_cycles
-cycles_few_by prios lat block s greedy short =
+-- a greedy schedule takes few cycles, whichever pairs count
+pub cycles_few_where : (counts : Counts) (prios : List ℕ) (lat : Latencies) (block : List Op) (s : Table)
+    → IsGreedyWhere counts prios lat block s.ops s.rows → length block ≤ MAX_OPS → cycles_of lat s ≤ most_cycles
+cycles_few_where counts prios lat block s greedy short =
     let busy : cycles lat s.ops s.rows ≤ sum_by (latency lat) s.ops =
-    busy_bound_by prios lat block s.ops s.rows greedy in
+    busy_bound_where counts prios lat block s.ops s.rows greedy in
     let most : sum_by (latency lat) s.ops ≤ LONGEST_DELAY * length s.ops = latencies_at_most lat s.ops in
     let longest : length s.ops ≤ length block = rw greedy.lawful.names (renamed_fits block) in
     omega arith
@@ -126,7 +128,7 @@ total_few heuristic lat [] (s ∷ schedules) greedy short = absurd greedy
 total_few heuristic lat (b ∷ blocks) [] greedy short = absurd greedy
 total_few heuristic lat (b ∷ blocks) (s ∷ schedules) greedy short =
     let head : cycles_of lat s ≤ most_cycles =
-    cycles_few_by (priorities_by heuristic lat s.ops) lat b.ops s greedy.0 short.0 in
+    cycles_few_where all_count (priorities_by heuristic lat s.ops) lat b.ops s greedy.0 short.0 in
     let tail : total_cycles lat schedules ≤ most_cycles * length blocks =
     total_few heuristic lat blocks schedules greedy.1 short.1 in
     rw (sum_by-cons (cycles_of lat) s schedules) (omega arith)

@@ -1,7 +1,6 @@
 -- What is said of proposals.
-use Rattle.std.proofs.Common.{◌≡◌, ◌≤◌, ℕ, ◌+◌, ◌*◌, List, ◌++◌, length, sum_by, arith, refl, ap, ◌∙◌, subst, append_assoc, Option, Some, None}
+use Rattle.std.proofs.Common.{◌≡◌, ◌≤◌, ℕ, ◌+◌, List, ◌++◌, length, arith, refl, ap, ◌∙◌, subst, append_assoc, Option, Some, None}
 use Rattle.std.specs.Prelude.{ℤ}
-use Rattle.std.proofs.lemmas.List.Sums.{length-filter, count_by-le-length}
 use Rattle.iloc_ops.specs.Limits.{MAX_OPS}
 use Rattle.iloc_ops.specs.declared.op.Op.{Op}
 use Rattle.iloc_ops.specs.declared.file.Block.{Block}
@@ -9,17 +8,13 @@ use Rattle.iloc_timed.specs.Limits.{MAX_ROWS}
 use Rattle.iloc_timed.specs.Schedule.{Table}
 use Rattle.iloc_timed.specs.declared.latencies.Latencies.{Latencies}
 use Rattle.iloc_timed.specs.Cycles.{cycles}
-use Rattle.iloc_timed.specs.Latency.{latency}
 use Rattle.iloc_rows.specs.declared.proposal.Proposed.{Proposed}
 use Rattle.iloc_rows.specs.declared.proposal.unread.Unread.{Unread}
 use Rattle.iloc_rules.specs.declared.heuristic.Heuristic.TheVariants.{Chain}
 use Rattle.iloc_rules.specs.declared.delay_pairs.TheConstants.{LONGEST_DELAY}
 use Rattle.iloc_rules.specs.declared.memory_rule.MemoryRule.{MemoryRule}
 use Rattle.iloc_rules.specs.Greedy.{IsGreedy, IsGreedyWhere}
-use Rattle.iloc_rules.specs.Renaming.{renamed}
 use Rattle.iloc_rules.specs.Rule.{counts_by, priorities_under}
-use Rattle.iloc_rules.proofs.Bounds.BusyCycles.{busy_bound_where}
-use Rattle.iloc_rules.proofs.Renamed.MentionedSources.{length-renamed_by}
 use Rattle.iloc_bound.specs.Bound.{least_under}
 use Rattle.iloc_bound.proofs.LeastBound.{ruled_least_bound}
 use Rattle.iloc_listing.specs.Limits.{most_cycles}
@@ -29,25 +24,12 @@ use Rattle.iloc_comparison.specs.declared.task.CheckOptions.{CheckOptions}
 use Rattle.iloc_row_commands.specs.Check.{IsCheckEntry, IsSaid, check_head, IsSmall}
 use Rattle.iloc_optimum.specs.Optimum.{IsSoughtIf}
 use Rattle.iloc_driver.specs.Entries.{Adds}
-use Rattle.iloc_listing.proofs.Schedules.{the_greedy, the_greedy_under, cycles_within, latencies_at_most}
+use Rattle.iloc_listing.proofs.Schedules.{cycles_few_where, cycles_within, the_greedy, the_greedy_under}
 
 -- a schedule by a rule of memory: the cycles are few, and so is the bound
 abbrev pub IsRuled : MemoryRule → Latencies → List Op → Table → Type 0
 IsRuled rule lat block s =
     IsGreedyWhere (counts_by rule s.ops) (priorities_under rule Chain lat s.ops) lat block s.ops s.rows
-
--- renaming adds no operation
-renamed_fits : (block : List Op) → length (renamed block) ≤ length block
-renamed_fits block = grind (arith, length-renamed_by, length-filter, count_by-le-length)
-
-ruled_few : (rule : MemoryRule) (lat : Latencies) (block : List Op) (s : Table) → IsRuled rule lat block s
-    → length block ≤ MAX_OPS → cycles lat s.ops s.rows ≤ most_cycles
-ruled_few rule lat block s greedy short =
-    let busy : cycles lat s.ops s.rows ≤ sum_by (latency lat) s.ops =
-    busy_bound_where (counts_by rule s.ops) (priorities_under rule Chain lat s.ops) lat block s.ops s.rows greedy in
-    let most : sum_by (latency lat) s.ops ≤ LONGEST_DELAY * length s.ops = latencies_at_most lat s.ops in
-    let longest : length s.ops ≤ length block = rw greedy.lawful.names (renamed_fits block) in
-    omega arith
 
 -- what was said gives the cycles of the proposal
 said_cycles : (u : Option Unread) (options : CheckOptions) (lat : Latencies) (memory : List ℤ) (block : List Op) (s : Table)
@@ -64,7 +46,8 @@ pub small_check : (options : CheckOptions) (rule : MemoryRule) (lat : Latencies)
 small_check options rule lat memory block s ruled p c entry said greedy counted least short few =
     let theirs : c.cycles ≡ cycles lat p.ops p.rows = said_cycles p.unread options lat memory block s p c entry said in
     let within : cycles lat p.ops p.rows ≤ length p.rows + LONGEST_DELAY = cycles_within lat p.ops p.rows in
-    let most : cycles lat ruled.ops ruled.rows ≤ most_cycles = ruled_few rule lat block ruled greedy short in
+    let most : cycles lat ruled.ops ruled.rows ≤ most_cycles =
+    cycles_few_where (counts_by rule ruled.ops) (priorities_under rule Chain lat ruled.ops) lat block ruled greedy short in
     let bound : least_under rule lat block ≤ cycles lat ruled.ops ruled.rows =
     ruled_least_bound rule lat block ruled.ops ruled.rows greedy.lawful in
     record {
