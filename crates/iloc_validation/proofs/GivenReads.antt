@@ -27,6 +27,7 @@ use Rattle.iloc_rules.proofs.Renamed.RenamedBlocks.{defined_at, named_defined}
 use Rattle.iloc_facts.specs.Readings.{issued_before, due, last_of, defining, arrived, read, result_in, given}
 use Rattle.iloc_facts.proofs.Issues.{numbers_from_issued, issued_from_numbers}
 use Rattle.iloc_facts.proofs.ReadValues.{only_one}
+use Rattle.iloc_validation.proofs.Labels.{kind-with_registers}
 
 -- the operations of a block without `nop`s, renamed
 abbrev pub new : List Op → List Op
@@ -35,6 +36,12 @@ new block = renamed_by block (numbering block)
 -- the name of what operation i of the block reads in register r
 abbrev pub name_at : List Op → ℕ → Reg → Reg
 name_at block i r = name_of (numbering block) (source block i r)
+
+pub length-new : (block : List Op) → length (new block) ≡ length block
+length-new block = length-renamed_by block (numbering block)
+
+pub kind_new : (block : List Op) (i : ℕ) → i < length block → kind (op_at (new block) i) ≡ kind (op_at block i)
+kind_new block i below = ap kind (renamed_op_at block (numbering block) i below) ∙ kind-with_registers _ _ (op_at block i)
 
 pub used_new : (block : List Op) (i : ℕ) → i < length block
     → used (op_at (new block) i) ≡ map (name_at block i) (used (op_at block i))

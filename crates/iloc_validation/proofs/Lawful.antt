@@ -1,42 +1,32 @@
 -- A lawful schedule is by the book: each of its operations is the block's with the same number;
 -- `laws::lawful_schedules_are_by_the_book`.
-use Rattle.std.proofs.Common.{◌≡◌, ℕ, ◌<◌, List, map, length, Option, Some, None, option_map, refl, ap, ap₂, sym, ◌∙◌, subst, arith}
+use Rattle.std.proofs.Common.{◌≡◌, ◌<◌, List, map, length, option_map, ap, ap₂, sym, ◌∙◌, subst, arith}
+use Rattle.std.proofs.lemmas.Iterator.Adapters.{option_map_id}
 use Rattle.std.proofs.lemmas.Simd.{map-map}
 use Rattle.iloc_ops.specs.declared.op.Op.{Op}
 use Rattle.iloc_ops.specs.Registers.{used}
 use Rattle.iloc_meaning.specs.Trace.{op_at}
 use Rattle.iloc_timed.specs.declared.latencies.Latencies.{Latencies}
 use Rattle.iloc_timed.specs.declared.row.Row.{Row}
-use Rattle.iloc_timed.specs.Kinds.{kind}
 use Rattle.iloc_timed.specs.Latency.{latency}
 use Rattle.iloc_timed.specs.Rows.{issue_cycle, IsTable}
 use Rattle.iloc_rules.specs.Delays.{uses_result, memory_delays, delays, when}
 use Rattle.iloc_rules.specs.Lawful.{IsLawful}
-use Rattle.iloc_rules.specs.Renaming.{numbering, without_nops, IsRenamed}
+use Rattle.iloc_rules.specs.Renaming.{without_nops, IsRenamed}
 use Rattle.iloc_rules.specs.Steps.Members.{In}
 use Rattle.iloc_rules.proofs.Basics.Members.{in_from, contains_from, in_right, map_same}
 use Rattle.iloc_rules.proofs.DelayPairs.WaitedFor.{Waits}
-use Rattle.iloc_rules.proofs.Renamed.MentionedSources.{renamed_op_at, length-renamed_by}
+use Rattle.iloc_rules.proofs.Renamed.MentionedSources.{renamed_op_at}
 use Rattle.iloc_rules.proofs.Renamed.RenamedBlocks.{renamed_is_renamed}
 use Rattle.iloc_facts.specs.Readings.{read, given}
 use Rattle.iloc_validation.specs.ByTheBook.{ArePaired, IsScheduleUnder, IsByTheBook}
-use Rattle.iloc_validation.proofs.Labels.{kind-with_registers, label-with_registers}
-use Rattle.iloc_validation.proofs.GivenReads.{new, name_at, used_new, read_is_given}
+use Rattle.iloc_validation.proofs.Labels.{label-with_registers}
+use Rattle.iloc_validation.proofs.GivenReads.{new, name_at, length-new, kind_new, used_new, read_is_given}
 use Rattle.iloc_validation.specs.Steps.Waits.{memory_by}
 
-itself : (o : Option ℕ) → option_map (λ i. i) o ≡ o
-itself None = refl
-itself (Some i) = refl
-
 module _ (lat : Latencies) (block : List Op) (rows : List Row) where
-  size : length (new block) ≡ length block
-  size = length-renamed_by block (numbering block)
-
-  own_kind : (i : ℕ) → i < length block → kind (op_at (new block) i) ≡ kind (op_at block i)
-  own_kind i here = ap kind (renamed_op_at block (numbering block) i here) ∙ kind-with_registers _ _ (op_at block i)
-
   pub are_paired : ArePaired block (new block) (λ k. k) (λ i. i)
-  are_paired = grind (arith, label-with_registers, renamed_op_at, size)
+  are_paired = grind (arith, label-with_registers, renamed_op_at, length-new block)
 
   pub under_itself : IsRenamed (new block) → IsTable (new block) rows → Waits lat (new block) rows
       → IsScheduleUnder lat block (new block) rows (λ k. k) (λ i. i)
@@ -44,23 +34,23 @@ module _ (lat : Latencies) (block : List Op) (rows : List Row) where
     table = table;
     paired = are_paired;
     reads = λ k here.
-        let inside : k < length block = omega (arith, size) in
+        let inside : k < length block = omega (arith, length-new block) in
         ap (map (λ r. option_map (λ i. i) (read lat (new block) rows (issue_cycle rows k) r))) (used_new block k inside)
         ∙ map-map (λ r. option_map (λ i. i) (read lat (new block) rows (issue_cycle rows k) r)) (name_at block k)
         (used (op_at block k))
         ∙ map_same (λ r. option_map (λ i. i) (read lat (new block) rows (issue_cycle rows k) (name_at block k r)))
         (given block k) (used (op_at block k))
-        (λ r there. itself (read lat (new block) rows (issue_cycle rows k) (name_at block k r))
+        (λ r there. option_map_id (read lat (new block) rows (issue_cycle rows k) (name_at block k r))
         ∙ read_is_given lat block rows names table waits k r inside there);
     waits = λ i j d order here delay.
         let same : memory_delays lat (op_at (new block) i) (op_at (new block) j)
         ≡ memory_delays lat (op_at block i) (op_at block j) =
-        ap₂ (memory_by lat) (own_kind i (omega arith)) (own_kind j here) in
+        ap₂ (memory_by lat) (kind_new block i (omega arith)) (kind_new block j here) in
         let there : In (memory_delays lat (op_at (new block) i) (op_at (new block) j)) d =
         subst (λ xs. In xs d) (sym same) (in_from (memory_delays lat (op_at block i) (op_at block j)) d delay) in
         waits i j d record {
           order = order;
-          within = omega (arith, size);
+          within = omega (arith, length-new block);
           delay = contains_from (delays lat (op_at (new block) i) (op_at (new block) j)) d
               (in_right (when (uses_result (op_at (new block) i) (op_at (new block) j)) (latency lat (op_at (new block) i)))
               (memory_delays lat (op_at (new block) i) (op_at (new block) j)) d there);

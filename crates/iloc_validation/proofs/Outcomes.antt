@@ -30,7 +30,7 @@ use Rattle.iloc_rules.proofs.Basics.Registers.{is_register_same}
 use Rattle.iloc_rules.proofs.Basics.Slots.{within, issued_early}
 use Rattle.iloc_rules.proofs.DelayPairs.WaitedFor.{Waits}
 use Rattle.iloc_rules.proofs.Outcome.LawfulOutcomes.{lawful_same_outcome}
-use Rattle.iloc_rules.proofs.Renamed.MentionedSources.{renamed_op_at, length-renamed_by}
+use Rattle.iloc_rules.proofs.Renamed.MentionedSources.{renamed_op_at}
 use Rattle.iloc_rules.proofs.Renamed.RenamedBlocks.{renamed_is_renamed}
 use Rattle.iloc_rules.proofs.DelayPairs.DelayBounds.{from_when}
 use Rattle.iloc_facts.specs.Readings.{due, read, given, result_in}
@@ -41,7 +41,7 @@ use Rattle.iloc_validation.proofs.Labels.{kind-with_registers, same_kind, same_e
 use Rattle.iloc_validation.proofs.Alike.{AlikeAll, alike_map, words_alike, arrived_alike, outcome_alike}
 use Rattle.iloc_facts.proofs.Issues.{issued_at, log_is, numbers_from_issued}
 use Rattle.iloc_facts.proofs.ReadValues.{value_of, register_is_read, read_in}
-use Rattle.iloc_validation.proofs.GivenReads.{new, name_at, used_new, named_source, read_is_given}
+use Rattle.iloc_validation.proofs.GivenReads.{new, name_at, length-new, kind_new, used_new, named_source, read_is_given}
 use Rattle.iloc_validation.proofs.Renumbered.{length-renumber, row_at-map, slots_at-map, numbers_before-map, AreApartBelow, AreBelow, times_same, cycle_same, units_same}
 
 some_mapped : (f : ℕ → ℕ) (o : Option ℕ) (i : ℕ) → option_map f o ≡ Some i → (k : ℕ) × (o ≡ Some k) × (f k ≡ i)
@@ -56,9 +56,6 @@ moved e e' f (Some k) same = ap result_of (same k refl)
 
 module _ (lat : Latencies) (block ops : List Op) (rows : List Row) (origin partner : ℕ → ℕ) (names : IsRenamed (new block))
     (by : IsScheduleUnder lat block ops rows origin partner) where
-  size : length (new block) ≡ length block
-  size = length-renamed_by block (numbering block)
-
   -- the block's own numbers in the same slots
   abbrev pub own_rows : List Row
   own_rows = map (renumber origin) rows
@@ -72,18 +69,15 @@ module _ (lat : Latencies) (block ops : List Op) (rows : List Row) (origin partn
   kinds : (k : ℕ) → k < length ops → kind (op_at (new block) (origin k)) ≡ kind (op_at ops k)
   kinds k here = grind (arith, kind-with_registers, renamed_op_at, same_kind)
 
-  own_kinds : (i : ℕ) → i < length block → kind (op_at (new block) i) ≡ kind (op_at block i)
-  own_kinds i here = ap kind (renamed_op_at block (numbering block) i here) ∙ kind-with_registers _ _ (op_at block i)
-
   own_table : IsTable (new block) own_rows
   own_table = record {
     in_range = λ c i there.
         let at = from_map origin (slots (row_at rows c)) i
         (subst (λ xs. In xs i) (slots_at-map origin rows c) (in_from (slots (row_at own_rows c)) i there)) in
         let early : origin at.0 < length block = by.paired.there at.0 (below c at.0 at.1) in
-        subst (λ m. m < length (new block)) at.2 (omega (arith, size));
+        subst (λ m. m < length (new block)) at.2 (omega (arith, length-new block));
     once = λ i here.
-        let inside : i < length block = omega (arith, size) in
+        let inside : i < length block = omega (arith, length-new block) in
         let other : partner i < length ops = by.paired.there_too i inside in
         subst (λ m. times_issued own_rows m ≡ 1) (by.paired.back_too i inside)
         (times_same (length ops) origin apart (partner i) other rows below ∙ by.table.once (partner i) other);
@@ -143,7 +137,7 @@ module _ (lat : Latencies) (block ops : List Op) (rows : List Row) (origin partn
 
   own_waits : Waits lat (new block) own_rows
   own_waits i j d pair =
-      let second : j < length block = let far : j < length (new block) = pair.within in omega (arith, size) in
+      let second : j < length block = let far : j < length (new block) = pair.within in omega (arith, length-new block) in
       let first : i < length block = let order : i < j = pair.order in omega arith in
       let kept : issue_cycle rows (partner i) + d ≤ issue_cycle rows (partner j) =
       elim (from_append (when (uses_result (op_at (new block) i) (op_at (new block) j)) (latency lat (op_at (new block) i)))
@@ -153,7 +147,7 @@ module _ (lat : Latencies) (block ops : List Op) (rows : List Row) (origin partn
         | inr there ↦
             let same : memory_delays lat (op_at (new block) i) (op_at (new block) j)
             ≡ memory_delays lat (op_at block i) (op_at block j) =
-            ap₂ (memory_by lat) (own_kinds i first) (own_kinds j second) in
+            ap₂ (memory_by lat) (kind_new block i first) (kind_new block j second) in
             by.waits i j d pair.order second (contains_from (memory_delays lat (op_at block i) (op_at block j)) d
             (subst (λ xs. In xs d) same there))
       ] in
@@ -255,7 +249,7 @@ module _ (lat : Latencies) (block ops : List Op) (rows : List Row) (origin partn
             let at = from_map (λ i. issue_cycle own_rows i + latency lat (op_at (new block) i))
             (range_with_len 0 (length (new block))) _ some in
             let inside : (0 ≤ at.0) × (at.0 < 0 + length (new block)) = from_range 0 (length (new block)) at.0 at.1 in
-            let here : at.0 < length block = omega (arith, size, inside.1) in
+            let here : at.0 < length block = omega (arith, length-new block, inside.1) in
             let other : partner at.0 < length ops = by.paired.there_too at.0 here in
             let level : issue_cycle own_rows at.0 + latency lat (op_at (new block) at.0)
             ≡ issue_cycle rows (partner at.0) + latency lat (op_at ops (partner at.0)) =
