@@ -31,12 +31,9 @@ same_next : (ops : List Op) (row : Row) (a b : Option (ℕ × ℕ)) (left : Opti
 same_next ops row a b None same = ap (next_text ops row None) (same refl)
 same_next ops row a b (Some j) same = refl
 
-joined : (old front taken mark active end : List ℕ) → ((((old ++ front) ++ taken) ++ mark) ++ active) ++ end
+pub joined : (old front taken mark active end : List ℕ) → ((((old ++ front) ++ taken) ++ mark) ++ active) ++ end
     ≡ old ++ ((((front ++ taken) ++ mark) ++ active) ++ end)
-joined old front taken mark active end =
-    ap (λ xs. xs ++ end) (ap (λ xs. xs ++ active) (ap (λ xs. xs ++ mark) (append_assoc old front taken)
-    ∙ append_assoc old (front ++ taken) mark) ∙ append_assoc old ((front ++ taken) ++ mark) active)
-    ∙ append_assoc old (((front ++ taken) ++ mark) ++ active) end
+joined old front taken mark active end = simp append_assoc
 
 module _ (prios : List ℕ) (rule : MemoryRule) (lat : Latencies) (ops : List Op) (rows : List Row) (table : IsTable ops rows) (list : ReadyList) (c : ℕ)
     (known : IsKnown prios rule lat ops rows c list) (order : IsInOrder list) (within : c < length rows) where

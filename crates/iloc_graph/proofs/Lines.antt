@@ -1,6 +1,7 @@
 -- The lines of operations, one after another.
 use Rattle.std.proofs.Common.{◌∙◌, ap, arith, ◌≡◌, ◌<◌, ℕ, ◌+◌, List, ◌∷◌, ◌++◌, length, drop, get_or, append_assoc, add-one, drop-cons}
 use Rattle.iloc_ops.specs.declared.op.Op.{Op}
+use Rattle.iloc_explain.proofs.ReadyLines.{joined}
 use Rattle.iloc_graph.specs.Listing.{node_line, node_lines}
 
 -- one more line
@@ -20,13 +21,9 @@ pub operation_joined : (text a node b i c op d priority e colour f : List ℕ)
     ≡ text ++ ((((((((((a ++ node) ++ b) ++ i) ++ c) ++ op) ++ d) ++ priority) ++ e) ++ colour) ++ f)
 operation_joined text a node b i c op d priority e colour f = simp append_assoc
 
-cluster_joined : (text head nodes edges chain end : List ℕ)
-    → ((((text ++ head) ++ nodes) ++ edges) ++ chain) ++ end ≡ text ++ ((((head ++ nodes) ++ edges) ++ chain) ++ end)
-cluster_joined text head nodes edges chain end = simp append_assoc
-
 pub cluster_grown : (text headed with_nodes with_edges with_chain whole head nodes edges chain end : List ℕ)
     → headed ≡ text ++ head → with_nodes ≡ headed ++ nodes → with_edges ≡ with_nodes ++ edges → with_chain ≡ with_edges ++ chain
     → whole ≡ with_chain ++ end → whole ≡ text ++ ((((head ++ nodes) ++ edges) ++ chain) ++ end)
 cluster_grown text headed with_nodes with_edges with_chain whole head nodes edges chain end h n e c all =
     all ∙ (ap (λ t. t ++ end) (c ∙ ap (λ t. t ++ chain) (e ∙ ap (λ t. t ++ edges) (n ∙ ap (λ t. t ++ nodes) h)))
-    ∙ cluster_joined text head nodes edges chain end)
+    ∙ joined text head nodes edges chain end)
