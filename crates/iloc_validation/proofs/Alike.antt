@@ -1,12 +1,7 @@
 -- Logs whose entries arrive at the same cycles with the same effects, one by one.
-use Rattle.std.proofs.Common.{◌≡◌, ℕ, ℤ, Bool, ◌||◌, List, [], ◌∷◌, ◌++◌, map, Option, Some, None, inl, inr, refl, ap, ap₂, arith}
-use Rattle.std.specs.Prelude.{filter, option_map, nat_le}
-use Rattle.std.proofs.Math.Path.{fun_ext}
+use Rattle.iloc_validation.proofs.Common.{◌≡◌, ℕ, Bool, ◌||◌, List, [], ◌∷◌, ◌++◌, map, ℤ, nat_le, Some, None, filter, Option, option_map, refl, ap, ap₂, inl, inr, arith, fun_ext, emitted, emitted_by, has_fault, is_fault, is_write_to, writes_to, written_or, Issued, executed_in, last_due, later, timed_outcome_of, word_in, In}
 use Rattle.iloc_meaning.specs.Memory.{word_at}
-use Rattle.iloc_meaning.specs.Trace.{is_write_to, writes_to, written_or}
-use Rattle.iloc_meaning.specs.Outcome.{is_fault, emitted_by, has_fault, emitted}
-use Rattle.iloc_timed.specs.Timed.{Issued, arrived, later, last_due, word_in, executed_in, timed_outcome_of}
-use Rattle.iloc_rules.specs.Steps.Members.{In}
+use Rattle.iloc_timed.specs.Timed.{arrived}
 
 pub record Alike (x y : Issued) : Type 0 where
   pub due : x.due ≡ y.due

@@ -1,14 +1,6 @@
 -- A pass backwards keeps colours: what reads operations reads those that they are paired with too, at the same use.
-use Rattle.std.proofs.Common.{◌≡◌, ◌<◌, ◌≤◌, ℕ, zero, suc, ◌+◌, ◌-◌, List, length, Option, Some, None, option_map, refl, sym, ap, ap₂, ◌∙◌, subst, arith, eq-eqb, inl, inr}
-use Rattle.std.specs.Prelude.{slice_index, IfSome, ◌%◌, ◌^◌}
-use Rattle.std.specs.List.{range_with_len}
-use Rattle.std.proofs.lemmas.Bool.{cases_eq, ne_eqb}
-use Rattle.std.proofs.lemmas.List.Sums.{sum_by-cons}
-use Rattle.std.proofs.Math.Nat.{mod-add-mod, add_comm}
-use Rattle.iloc_facts.specs.declared.reading.sources.Sources.{Sources}
-use Rattle.iloc_validation.specs.Steps.Colours.{mixed, said, heard_of, heard, IsBelow, AreBelow, AreBackwards, ReadAlike, HaveColours}
-use Rattle.iloc_validation.specs.Steps.Sources.{by_numbers}
-use Rattle.iloc_facts.specs.Readings.{sources_at}
+use Rattle.iloc_validation.proofs.Common.{◌≡◌, ℕ, zero, suc, ◌+◌, ◌-◌, ◌%◌, ◌^◌, ◌<◌, ◌≤◌, List, length, IfSome, slice_index, Some, None, Option, option_map, sym, refl, ap, ◌∙◌, subst, ap₂, inl, inr, arith, eq-eqb, ne_eqb, add_comm, mod-add-mod, cases_eq, sum_by-cons, range_with_len, sources_at, Sources, AreBackwards, HaveColours, IsBelow, ReadAlike, heard, heard_of, mixed, said, by_numbers}
+use Rattle.iloc_validation.specs.Steps.Colours.{AreBelow}
 use Rattle.iloc_validation.proofs.ColourSums.{ranges_paired}
 
 -- nothing is heard of what isn't read

@@ -1,19 +1,8 @@
 -- From which cycle on memory and outputs let an operation be issued: it waits for what it has to wait for, and for no more.
-use Rattle.std.proofs.Common.{◌≡◌, ◌<◌, ◌≤◌, ℕ, zero, suc, ◌+◌, List, map, inl, inr, refl, subst, arith, add-one}
-use Rattle.std.specs.Prelude.{max, fold}
-use Rattle.std.proofs.lemmas.Bool.{cases_eq}
-use Rattle.iloc_ops.specs.declared.op.Op.{Op}
-use Rattle.iloc_meaning.specs.Trace.{op_at}
-use Rattle.iloc_timed.specs.declared.kind.Kind.{Kind}
+use Rattle.iloc_validation.proofs.Common.{◌≡◌, ℕ, zero, suc, ◌+◌, ◌<◌, ◌≤◌, max, List, map, fold, refl, subst, inl, inr, add-one, arith, cases_eq, Op, op_at, kind, Kind, Latencies, fold_max_each, fold_max_reached, from_map, in_map, In, earliest, memory_by, noted, wait_of}
 use Rattle.iloc_timed.specs.declared.kind.Kind.TheVariants as K
-use Rattle.iloc_timed.specs.declared.latencies.Latencies.{Latencies}
-use Rattle.iloc_timed.specs.Kinds.{kind}
 use Rattle.iloc_timed.proofs.Greatest.{le_fold_max}
-use Rattle.iloc_rules.specs.Steps.Members.{In}
-use Rattle.iloc_rules.proofs.Basics.Members.{in_map, from_map}
-use Rattle.iloc_rules.proofs.Basics.Maxima.{fold_max_each, fold_max_reached}
 use Rattle.iloc_validation.specs.declared.verification.waits.Waits.{Waits}
-use Rattle.iloc_validation.specs.Steps.Waits.{memory_by, earliest, wait_of, noted}
 
 -- an operation that is noted raises the waits by its delays
 pub wait_of-noted : (lat : Latencies) (a : Kind) (cycle : ℕ) (waits : Waits) (k : Kind)

@@ -1,15 +1,5 @@
 -- Lists of numbers that differ, led one to one into others, are no longer than those; and numbers that are counted.
-use Rattle.std.proofs.Common.{◌≡◌, ◌<◌, ◌≤◌, ℕ, zero, suc, ◌+◌, ◌==◌, Bool, cond, if◌then◌else◌, List, [], ◌∷◌, ◌++◌, length, inl, inr, refl, sym, ap, ◌∙◌, arith, eq-eqb, ne_eqb}
-use Rattle.std.specs.Prelude.{count_by}
-use Rattle.std.proofs.lemmas.Bool.{cases_eq, cases_lt}
-use Rattle.std.proofs.lemmas.List.Sums.{sum_by-append, sum_by-cons}
-use Rattle.iloc_timed.specs.declared.row.Row.{Row}
-use Rattle.iloc_rules.specs.Steps.Members.{In}
-use Rattle.iloc_rules.proofs.Basics.Members.{from_append, in_left, in_right}
-use Rattle.iloc_rules.proofs.Basics.Ordered.{Ordered, ordered_append}
-use Rattle.iloc_rules.proofs.Basics.Slots.{numbers_before}
-use Rattle.iloc_facts.specs.Readings.{issued_before}
-use Rattle.iloc_validation.specs.Steps.FirstColours.{numbers_below}
+use Rattle.iloc_validation.proofs.Common.{◌≡◌, ℕ, zero, suc, ◌+◌, ◌<◌, ◌≤◌, Bool, cond, List, [], ◌∷◌, ◌++◌, length, if◌then◌else◌, ◌==◌, count_by, sym, refl, ap, ◌∙◌, inl, inr, arith, eq-eqb, ne_eqb, cases_eq, cases_lt, sum_by-append, sum_by-cons, Row, from_append, in_left, in_right, Ordered, ordered_append, numbers_before, In, issued_before, numbers_below}
 
 abbrev pub Apart : ℕ → ℕ → Type 0
 Apart j k = j ≡ k → ⊥

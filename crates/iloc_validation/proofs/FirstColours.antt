@@ -1,20 +1,7 @@
 -- Every pairing keeps the first colours.
-use Rattle.std.proofs.Common.{◌≡◌, ℕ, List, Option, Some, None, ap}
-use Rattle.std.specs.Prelude.{unwrap_or}
+use Rattle.iloc_validation.proofs.Common.{◌≡◌, ℕ, List, Some, None, Option, unwrap_or, ap, Op, Table, Latencies, label, ByLabel, Reading, Sources, AreColoured, AreKept, AreKeptColours, label_colour, AreSides, Coloured}
 use Rattle.std.specs.BTreeMap.{get}
-use Rattle.iloc_ops.specs.declared.op.Op.{Op}
 use Rattle.iloc_ops.specs.contracts.op.OpOrd.TheImpl as in_order
-use Rattle.iloc_timed.specs.declared.latencies.Latencies.{Latencies}
-use Rattle.iloc_timed.specs.Schedule.{Table}
-use Rattle.iloc_facts.specs.declared.by_label.ByLabel.{ByLabel}
-use Rattle.iloc_validation.specs.declared.colours.Coloured.{Coloured}
-use Rattle.iloc_facts.specs.declared.reading.Reading.{Reading}
-use Rattle.iloc_facts.specs.declared.reading.sources.Sources.{Sources}
-use Rattle.iloc_facts.specs.Labels.{label}
-use Rattle.iloc_validation.specs.Steps.Colours.{AreKept, AreColoured}
-use Rattle.iloc_validation.specs.Steps.Decisions.{AreKeptColours}
-use Rattle.iloc_validation.specs.Steps.FirstColours.{label_colour}
-use Rattle.iloc_validation.specs.Steps.Sides.{AreSides}
 use Rattle.iloc_facts.proofs.LabelKeys.{same_key}
 
 pub same_label_colour : (labels : ByLabel) (a b : Op) → label a ≡ label b → label_colour labels a ≡ label_colour labels b

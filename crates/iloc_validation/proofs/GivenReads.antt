@@ -1,32 +1,11 @@
 -- In a lawful schedule each operation reads what it reads in its block; for both directions of the laws.
-use Rattle.std.proofs.Common.{◌≡◌, ℕ, zero, suc, ◌<◌, ◌≤◌, ◌+◌, true, List, map, fold, length, Option, Some, None, option_map, refl, ap, sym, ◌∙◌, arith}
-use Rattle.std.specs.Prelude.{nat_le}
-use Rattle.std.proofs.lemmas.Bool.{le-leb}
-use Rattle.iloc_ops.specs.declared.op.Reg.{Reg}
-use Rattle.iloc_ops.specs.declared.op.Op.{Op}
-use Rattle.iloc_ops.specs.Registers.{used, defined}
+use Rattle.iloc_validation.proofs.Common.{◌≡◌, ℕ, zero, suc, ◌+◌, ◌<◌, ◌≤◌, true, List, map, length, nat_le, Some, None, fold, Option, option_map, sym, refl, ap, ◌∙◌, arith, le-leb, defined, used, Op, Reg, by_bool, is_register, op_at, kind, latency, IsTable, issue_cycle, Latencies, Row, empty_from, from_filter, in_filter, in_map, is_register_from, is_register_same, early_issued, definition_numbered, length-renamed_by, renamed_op_at, source_earlier, use_numbered, defined_at, named_defined, IsRenamed, Source, name_of, numbering, renamed_by, source, Result, Start, In, issued_from_numbers, numbers_from_issued, only_one, defining, due, given, issued_before, last_of, read, result_in}
 use Rattle.iloc_ops.proofs.Renaming.{used-with_registers}
-use Rattle.iloc_meaning.specs.Trace.{op_at, is_register}
-use Rattle.iloc_meaning.proofs.Cases.{by_bool}
-use Rattle.iloc_timed.specs.declared.latencies.Latencies.{Latencies}
-use Rattle.iloc_timed.specs.declared.row.Row.{Row}
-use Rattle.iloc_timed.specs.Latency.{latency}
-use Rattle.iloc_timed.specs.Kinds.{kind}
-use Rattle.iloc_timed.specs.Rows.{issue_cycle, IsTable}
 use Rattle.iloc_timed.proofs.WholeRuns.{some_latency}
-use Rattle.iloc_rules.specs.Renaming.{Source, source, numbering, name_of, renamed_by, IsRenamed}
-use Rattle.iloc_rules.specs.Renaming.Source.{Start, Result}
-use Rattle.iloc_rules.specs.Steps.Members.{In}
-use Rattle.iloc_rules.proofs.Basics.Members.{in_filter, from_filter, empty_from, in_map}
-use Rattle.iloc_rules.proofs.Basics.Registers.{is_register_same, is_register_from}
-use Rattle.iloc_rules.proofs.Basics.Slots.{early_issued, issued_early}
+use Rattle.iloc_rules.proofs.Basics.Slots.{issued_early}
 use Rattle.iloc_rules.proofs.Renamed.Sources.{name_apart}
-use Rattle.iloc_rules.proofs.Renamed.MentionedSources.{source_earlier, use_numbered, definition_numbered, renamed_op_at, length-renamed_by}
 use Rattle.iloc_rules.proofs.DelayPairs.WaitedFor.{Waits, used_in_time}
-use Rattle.iloc_rules.proofs.Renamed.RenamedBlocks.{defined_at, named_defined}
-use Rattle.iloc_facts.specs.Readings.{issued_before, due, last_of, defining, arrived, read, result_in, given}
-use Rattle.iloc_facts.proofs.Issues.{numbers_from_issued, issued_from_numbers}
-use Rattle.iloc_facts.proofs.ReadValues.{only_one}
+use Rattle.iloc_facts.specs.Readings.{arrived}
 use Rattle.iloc_validation.proofs.Labels.{kind-with_registers}
 
 -- the operations of a block without `nop`s, renamed

@@ -1,23 +1,7 @@
 -- A lawful schedule is one under the pairing of each operation with the one of its number, however that is said.
-use Rattle.std.proofs.Common.{◌≡◌, ℕ, ◌<◌, List, length, map, Option, Some, None, option_map, refl, sym, ap, ◌∙◌, subst, arith}
-use Rattle.iloc_ops.specs.declared.op.Op.{Op}
-use Rattle.iloc_ops.specs.Registers.{used}
-use Rattle.iloc_meaning.specs.Trace.{op_at}
-use Rattle.iloc_timed.specs.declared.latencies.Latencies.{Latencies}
-use Rattle.iloc_timed.specs.declared.row.Row.{Row}
-use Rattle.iloc_timed.specs.Rows.{issue_cycle, IsTable}
-use Rattle.iloc_rules.specs.Lawful.{IsLawful}
-use Rattle.iloc_rules.specs.Renaming.{without_nops, numbering}
+use Rattle.iloc_validation.proofs.Common.{◌≡◌, ℕ, ◌<◌, List, map, length, Some, None, Option, option_map, sym, refl, ap, ◌∙◌, subst, arith, used, Op, op_at, IsTable, issue_cycle, Latencies, Row, map_same, length-renamed_by, renamed_is_renamed, IsLawful, numbering, without_nops, numbers_from_issued, read_in, label, given, read, IsScheduleUnder}
 use Rattle.iloc_rules.proofs.Basics.Slots.{issued_early}
 use Rattle.iloc_rules.proofs.DelayPairs.WaitedFor.{Waits}
-use Rattle.iloc_rules.proofs.Renamed.MentionedSources.{length-renamed_by}
-use Rattle.iloc_rules.proofs.Basics.Members.{map_same}
-use Rattle.iloc_rules.proofs.Renamed.RenamedBlocks.{renamed_is_renamed}
-use Rattle.iloc_facts.specs.Labels.{label}
-use Rattle.iloc_facts.specs.Readings.{read, given}
-use Rattle.iloc_validation.specs.ByTheBook.{IsScheduleUnder}
-use Rattle.iloc_facts.proofs.Issues.{numbers_from_issued}
-use Rattle.iloc_facts.proofs.ReadValues.{read_in}
 use Rattle.iloc_validation.proofs.Lawful.{under_itself}
 
 mapped_same : (f g : ℕ → ℕ) (o : Option ℕ) → ((k : ℕ) → o ≡ Some k → f k ≡ g k) → option_map f o ≡ option_map g o

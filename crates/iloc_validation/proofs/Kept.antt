@@ -1,27 +1,8 @@
 -- What is tested of each operation is that the rows are a schedule under the pairing.
-use Rattle.std.proofs.Common.{◌≡◌, ℕ, ◌<◌, ◌≤◌, ◌+◌, List, length, option_map, sym, ap, ◌∙◌, subst, arith}
-use Rattle.std.specs.Prelude.{slice_index}
-use Rattle.iloc_ops.specs.declared.op.Op.{Op}
-use Rattle.iloc_ops.specs.Registers.{used}
-use Rattle.iloc_meaning.specs.Trace.{op_at}
-use Rattle.iloc_timed.specs.declared.latencies.Latencies.{Latencies}
-use Rattle.iloc_timed.specs.Kinds.{kind}
+use Rattle.iloc_validation.proofs.Common.{◌≡◌, ℕ, ◌+◌, ◌<◌, ◌≤◌, List, length, slice_index, option_map, sym, ap, ◌∙◌, subst, arith, used, Op, op_at, kind, issue_cycle, Table, Latencies, contains_from, in_from, issued_within, memory_delays, few_used, lists_same, sources_from_lists, given, read, reading_at, sources_of, Reading, Sources, IsScheduleUnder, AreSides, IsKept, by_numbers, earliest}
 use Rattle.iloc_timed.specs.Limits.{MAX_ROWS}
-use Rattle.iloc_timed.specs.Rows.{issue_cycle}
-use Rattle.iloc_timed.specs.Schedule.{Table}
-use Rattle.iloc_rules.specs.Delays.{memory_delays}
-use Rattle.iloc_rules.proofs.Basics.Members.{in_from, contains_from}
-use Rattle.iloc_rules.proofs.Basics.Slots.{issued_within}
-use Rattle.iloc_facts.specs.declared.reading.Reading.{Reading}
-use Rattle.iloc_facts.specs.declared.reading.sources.Sources.{Sources}
-use Rattle.iloc_facts.specs.Readings.{read, given, reading_at, sources_of}
-use Rattle.iloc_validation.specs.ByTheBook.{IsScheduleUnder}
 use Rattle.iloc_validation.specs.Steps.Pairing.{LeadsBack}
-use Rattle.iloc_validation.specs.Steps.Sides.{AreSides, IsKept}
-use Rattle.iloc_validation.specs.Steps.Sources.{by_numbers}
-use Rattle.iloc_validation.specs.Steps.Waits.{earliest}
 use Rattle.iloc_validation.proofs.EarliestCycles.{waited_for, waits_no_more}
-use Rattle.iloc_facts.proofs.SourceLists.{few_used, lists_same, sources_from_lists}
 use Rattle.iloc_validation.proofs.OtherNumbers.{by_numbers_of}
 
 module _ (lat : Latencies) (block : List Op) (givens : List Sources) (schedule : Table) (readings : List Reading)

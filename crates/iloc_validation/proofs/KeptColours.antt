@@ -1,24 +1,8 @@
 -- Colours by the order of issue, and those of operations: what a pairing keeps of the ones it keeps of the others.
-use Rattle.std.proofs.Common.{◌≡◌, ◌<◌, ℕ, List, length, Option, Some, None, option_map, refl, sym, ap, ◌∙◌, arith}
-use Rattle.std.specs.Prelude.{slice_index, IfSome}
-use Rattle.iloc_ops.specs.declared.op.Reg.{Reg}
-use Rattle.iloc_ops.specs.declared.op.Op.{Op}
-use Rattle.iloc_timed.specs.declared.latencies.Latencies.{Latencies}
-use Rattle.iloc_timed.specs.Schedule.{Table}
-use Rattle.iloc_rules.specs.Renaming.{Source}
-use Rattle.iloc_rules.specs.Renaming.Source.{Start, Result}
-use Rattle.iloc_rules.proofs.Renamed.MentionedSources.{source_earlier}
-use Rattle.iloc_validation.specs.declared.colours.Coloured.{Coloured}
+use Rattle.iloc_validation.proofs.Common.{◌≡◌, ℕ, ◌<◌, List, length, IfSome, slice_index, Some, None, Option, option_map, sym, refl, ap, ◌∙◌, arith, Op, Reg, Table, Latencies, source_earlier, Source, Result, Start, sources_from_lists, reading_at, result_in, sources_at, sources_of, Reading, Sources, IsScheduleUnder, AreColoured, ArePassed, ArePassedTo, HaveColours, IsBelow, IsOrderOf, ReadAlike, AreSides, by_numbers, Coloured}
 use Rattle.iloc_validation.specs.declared.colours.issue_order.IssueOrder.{IssueOrder}
-use Rattle.iloc_facts.specs.declared.reading.Reading.{Reading}
-use Rattle.iloc_facts.specs.declared.reading.sources.Sources.{Sources}
-use Rattle.iloc_facts.specs.Readings.{result_in, reading_at, sources_of, sources_at}
-use Rattle.iloc_validation.specs.ByTheBook.{IsScheduleUnder}
-use Rattle.iloc_validation.specs.Steps.Colours.{IsBelow, AreBelow, ReadAlike, HaveColours, ArePassed, ArePassedTo, IsOrderOf, AreColoured}
-use Rattle.iloc_validation.specs.Steps.Sides.{AreSides}
-use Rattle.iloc_validation.specs.Steps.Sources.{by_numbers}
+use Rattle.iloc_validation.specs.Steps.Colours.{AreBelow}
 use Rattle.iloc_validation.proofs.Renumbered.{mapped_twice}
-use Rattle.iloc_facts.proofs.SourceLists.{sources_from_lists}
 use Rattle.iloc_validation.proofs.OtherNumbers.{by_numbers_of}
 
 by_numbers_twice : (f g : ℕ → ℕ) (s : Sources) → by_numbers f (by_numbers g s) ≡ by_numbers (λ k. f (g k)) s

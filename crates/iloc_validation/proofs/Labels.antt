@@ -1,13 +1,6 @@
 -- What operations of one label have in common.
-use Rattle.std.proofs.Common.{◌≡◌, ℕ, ℤ, pos, List, map, get_or, refl, arith}
-use Rattle.std.proofs.Math.Path.{fun_ext}
-use Rattle.iloc_ops.specs.declared.op.Reg.{Reg}
-use Rattle.iloc_ops.specs.declared.op.Op.{Op}
-use Rattle.iloc_ops.specs.declared.op.Op.TheVariants.{Load, LoadI, Store, Add, Sub, Mult, Lshift, Rshift, Output, Nop, AddI, SubI, MultI, LshiftI, RshiftI, LoadAI, StoreAI}
-use Rattle.iloc_ops.specs.Registers.{used, with_registers}
-use Rattle.iloc_meaning.specs.Effect.{effect}
-use Rattle.iloc_timed.specs.Kinds.{kind}
-use Rattle.iloc_facts.specs.Labels.{label}
+use Rattle.iloc_validation.proofs.Common.{◌≡◌, ℕ, List, map, get_or, ℤ, pos, refl, arith, fun_ext, used, with_registers, Op, Add, AddI, LoadAI, LoadI, Lshift, LshiftI, Mult, MultI, Nop, Rshift, RshiftI, StoreAI, Sub, SubI, Reg, effect, kind, label}
+use Rattle.iloc_ops.specs.declared.op.Op.TheVariants.{Load, Store, Output}
 
 pub kind-with_registers : (new : Reg → Reg) (own : Reg) (op : Op) → kind (with_registers new own op) ≡ kind op
 kind-with_registers new own Nop = refl

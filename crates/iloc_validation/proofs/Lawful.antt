@@ -1,28 +1,10 @@
 -- A lawful schedule is by the book: each of its operations is the block's with the same number;
 -- `laws::lawful_schedules_are_by_the_book`.
-use Rattle.std.proofs.Common.{◌≡◌, ◌<◌, List, map, length, option_map, ap, ap₂, sym, ◌∙◌, subst, arith}
+use Rattle.iloc_validation.proofs.Common.{◌≡◌, ◌<◌, List, map, length, option_map, sym, ap, ◌∙◌, subst, ap₂, arith, map-map, used, Op, op_at, latency, IsTable, issue_cycle, Latencies, Row, contains_from, in_from, in_right, map_same, renamed_op_at, renamed_is_renamed, delays, memory_delays, uses_result, when, IsLawful, IsRenamed, without_nops, In, given, read, ArePaired, IsByTheBook, IsScheduleUnder, memory_by}
 use Rattle.std.proofs.lemmas.Iterator.Adapters.{option_map_id}
-use Rattle.std.proofs.lemmas.Simd.{map-map}
-use Rattle.iloc_ops.specs.declared.op.Op.{Op}
-use Rattle.iloc_ops.specs.Registers.{used}
-use Rattle.iloc_meaning.specs.Trace.{op_at}
-use Rattle.iloc_timed.specs.declared.latencies.Latencies.{Latencies}
-use Rattle.iloc_timed.specs.declared.row.Row.{Row}
-use Rattle.iloc_timed.specs.Latency.{latency}
-use Rattle.iloc_timed.specs.Rows.{issue_cycle, IsTable}
-use Rattle.iloc_rules.specs.Delays.{uses_result, memory_delays, delays, when}
-use Rattle.iloc_rules.specs.Lawful.{IsLawful}
-use Rattle.iloc_rules.specs.Renaming.{without_nops, IsRenamed}
-use Rattle.iloc_rules.specs.Steps.Members.{In}
-use Rattle.iloc_rules.proofs.Basics.Members.{in_from, contains_from, in_right, map_same}
 use Rattle.iloc_rules.proofs.DelayPairs.WaitedFor.{Waits}
-use Rattle.iloc_rules.proofs.Renamed.MentionedSources.{renamed_op_at}
-use Rattle.iloc_rules.proofs.Renamed.RenamedBlocks.{renamed_is_renamed}
-use Rattle.iloc_facts.specs.Readings.{read, given}
-use Rattle.iloc_validation.specs.ByTheBook.{ArePaired, IsScheduleUnder, IsByTheBook}
 use Rattle.iloc_validation.proofs.Labels.{label-with_registers}
 use Rattle.iloc_validation.proofs.GivenReads.{new, name_at, length-new, kind_new, used_new, read_is_given}
-use Rattle.iloc_validation.specs.Steps.Waits.{memory_by}
 
 module _ (lat : Latencies) (block : List Op) (rows : List Row) where
   pub are_paired : ArePaired block (new block) (λ k. k) (λ i. i)

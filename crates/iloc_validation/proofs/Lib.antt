@@ -1,3 +1,4 @@
+pub mod Common
 pub mod Labels
 pub mod Alike
 pub mod GivenReads

@@ -1,19 +1,7 @@
 -- Where an operation is no pair with any of the rows, no pairing keeps the colours.
-use Rattle.std.proofs.Common.{◌≡◌, ◌<◌, ℕ, ◌+◌, List, length, Option, Some, None, inl, inr, sym, ap, ◌∙◌, subst, arith, get_or-set_same, get_or-set_other}
-use Rattle.std.specs.Prelude.{slice_index}
-use Rattle.std.proofs.lemmas.Bool.{cases_eq, cases_lt}
-use Rattle.iloc_ops.specs.declared.op.Op.{Op}
-use Rattle.iloc_timed.specs.declared.latencies.Latencies.{Latencies}
-use Rattle.iloc_timed.specs.Schedule.{Table}
-use Rattle.iloc_validation.specs.declared.colours.Coloured.{Coloured}
+use Rattle.iloc_validation.proofs.Common.{◌≡◌, ℕ, ◌+◌, ◌<◌, List, length, slice_index, Some, None, Option, sym, ap, ◌∙◌, subst, inl, inr, arith, get_or-set_other, get_or-set_same, cases_eq, cases_lt, Op, Table, Latencies, Reading, Sources, ArePaired, AreColoured, AreKept, AreKeptByNone, HaveColours, IsNoPair, IsPairColoured, marked, IsDecisionAmong, IsDecisionOf, AreSides, Coloured}
 use Rattle.iloc_validation.specs.declared.decision.Decision.{Decision}
 use Rattle.iloc_validation.specs.declared.decision.Decision.TheVariants.{Lawful, Unlawful, Undecided}
-use Rattle.iloc_facts.specs.declared.reading.Reading.{Reading}
-use Rattle.iloc_facts.specs.declared.reading.sources.Sources.{Sources}
-use Rattle.iloc_validation.specs.ByTheBook.{ArePaired}
-use Rattle.iloc_validation.specs.Steps.Colours.{marked, HaveColours, AreKept, AreKeptByNone, AreColoured, IsNoPair, IsPairColoured}
-use Rattle.iloc_validation.specs.Steps.Decisions.{IsDecisionAmong, IsDecisionOf}
-use Rattle.iloc_validation.specs.Steps.Sides.{AreSides}
 
 module _ (block ops : List Op) (origin partner : ℕ → ℕ) (paired : ArePaired block ops origin partner) (here there : List ℕ)
     (size : length here ≡ length block) (size_too : length there ≡ length ops) (i : ℕ) (within : i < length block)

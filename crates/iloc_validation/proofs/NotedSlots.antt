@@ -1,12 +1,5 @@
 -- What is noted of operations row by row, at their numbers.
-use Rattle.std.proofs.Common.{rules, ◌≡◌, ◌<◌, ◌≤◌, ℕ, ◌+◌, List, length, Option, Some, None, arith, refl, ◌⊎◌, get_or-set_same, get_or-set_other, slice_index}
-use Rattle.std.proofs.lemmas.Bool.{cases_lt}
-use Rattle.iloc_ops.specs.declared.op.Op.{Op}
-use Rattle.iloc_timed.specs.declared.row.Row.{Row}
-use Rattle.iloc_timed.specs.Rows.{row_at, slots, issue_cycle, times_issued, IsTable}
-use Rattle.iloc_rules.specs.Steps.Members.{In}
-use Rattle.iloc_rules.proofs.Basics.Slots.{issued_within, stands_there, cycle_is, count_in, count_in_twice, count_in_within}
-use Rattle.iloc_validation.specs.Steps.Numbers.{with_number, AreNotedBefore}
+use Rattle.iloc_validation.proofs.Common.{◌≡◌, ℕ, ◌+◌, ◌<◌, ◌≤◌, ◌⊎◌, List, length, slice_index, Some, None, Option, refl, arith, get_or-set_other, get_or-set_same, rules, cases_lt, Op, IsTable, issue_cycle, row_at, slots, times_issued, Row, count_in, count_in_twice, count_in_within, cycle_is, issued_within, stands_there, In, AreNotedBefore, with_number}
 use Rattle.iloc_validation.proofs.SameIssues.{slot_cases, in_first, in_second}
 
 pub length-with_number : (numbers : List ℕ) (slot : Option ℕ) (n : ℕ) → length (with_number numbers slot n) ≡ length numbers

@@ -1,46 +1,16 @@
 -- What rows by the book have in common with the lawful schedule that has the block's own operations in their slots; for
 -- `laws::by_the_book_keeps_the_outcome`, and in the judge for `laws::by_the_book_takes_the_least`.
-use Rattle.std.proofs.Common.{◌≡◌, ℕ, zero, suc, ◌+◌, ◌<◌, ◌≤◌, ℤ, IsTrue, List, map, length, Option, Some, None, option_map, inl, inr, refl, ap, ap₂, sym, ◌∙◌, subst, arith, leb-true}
-use Rattle.std.specs.List.{range_with_len}
-use Rattle.std.proofs.lemmas.Bool.{cases_eq}
-use Rattle.std.proofs.lemmas.Simd.{map-map}
-use Rattle.iloc_ops.specs.declared.op.Reg.{Reg}
-use Rattle.iloc_ops.specs.declared.op.Op.{Op}
-use Rattle.iloc_ops.specs.Registers.{used}
-use Rattle.iloc_meaning.specs.Effect.{effect}
-use Rattle.iloc_meaning.specs.Trace.{op_at, result_of}
-use Rattle.iloc_meaning.specs.Outcome.{outcome}
+use Rattle.iloc_validation.proofs.Common.{◌≡◌, ℕ, zero, suc, ◌+◌, ◌<◌, ◌≤◌, List, map, length, ℤ, IsTrue, Some, None, Option, option_map, sym, refl, ap, ◌∙◌, subst, ap₂, inl, inr, arith, leb-true, cases_eq, map-map, range_with_len, used, Op, Reg, effect, outcome, op_at, result_of, kind, latency, latency_of, IsTable, issue_cycle, keeps_units, row_at, slots, times_issued, Issued, register_in, timed_outcome, word_in, Latencies, Row, fold_max_each, fold_max_reached, contains_from, from_any, from_append, from_map, from_range, in_from, in_map, in_range_from, map_same, is_register_same, within, renamed_op_at, renamed_is_renamed, delays, memory_delays, uses_result, when, IsLawful, IsRenamed, name_of, numbering, renamed, source, without_nops, Result, In, log_is, numbers_from_issued, read_in, register_is_read, value_of, due, given, read, result_in, IsByTheBook, IsScheduleUnder, renumber, memory_by}
 use Rattle.iloc_meaning.proofs.Effects.{effect-with_registers}
-use Rattle.iloc_timed.specs.declared.latencies.Latencies.{Latencies}
-use Rattle.iloc_timed.specs.declared.row.Row.{Row}
-use Rattle.iloc_timed.specs.Kinds.{kind}
-use Rattle.iloc_timed.specs.Latency.{latency, latency_of}
 use Rattle.iloc_timed.specs.Cycles.{cycles}
-use Rattle.iloc_timed.specs.Rows.{row_at, slots, issue_cycle, times_issued, keeps_units, IsTable}
 use Rattle.iloc_timed.specs.Timed as timed
-use Rattle.iloc_timed.specs.Timed.{Issued, register_in, word_in, timed_outcome}
-use Rattle.iloc_rules.specs.Delays.{uses_result, when, memory_delays, delays}
-use Rattle.iloc_rules.specs.Lawful.{IsLawful}
-use Rattle.iloc_rules.specs.Renaming.{source, numbering, name_of, without_nops, renamed, IsRenamed}
-use Rattle.iloc_rules.specs.Renaming.Source.{Result}
-use Rattle.iloc_rules.specs.Steps.Members.{In}
-use Rattle.iloc_rules.proofs.Basics.Members.{in_from, contains_from, from_append, from_map, in_map, from_any, in_range_from, from_range, map_same}
-use Rattle.iloc_rules.proofs.Basics.Maxima.{fold_max_each, fold_max_reached}
-use Rattle.iloc_rules.proofs.Basics.Registers.{is_register_same}
-use Rattle.iloc_rules.proofs.Basics.Slots.{within, issued_early}
+use Rattle.iloc_rules.proofs.Basics.Slots.{issued_early}
 use Rattle.iloc_rules.proofs.DelayPairs.WaitedFor.{Waits}
 use Rattle.iloc_rules.proofs.Outcome.LawfulOutcomes.{lawful_same_outcome}
-use Rattle.iloc_rules.proofs.Renamed.MentionedSources.{renamed_op_at}
-use Rattle.iloc_rules.proofs.Renamed.RenamedBlocks.{renamed_is_renamed}
 use Rattle.iloc_rules.proofs.DelayPairs.DelayBounds.{from_when}
-use Rattle.iloc_facts.specs.Readings.{due, read, given, result_in}
-use Rattle.iloc_validation.specs.ByTheBook.{IsScheduleUnder, IsByTheBook}
-use Rattle.iloc_validation.specs.OwnRows.{renumber}
-use Rattle.iloc_validation.specs.Steps.Waits.{memory_by}
 use Rattle.iloc_validation.proofs.Labels.{kind-with_registers, same_kind, same_effect}
 use Rattle.iloc_validation.proofs.Alike.{AlikeAll, alike_map, words_alike, arrived_alike, outcome_alike}
-use Rattle.iloc_facts.proofs.Issues.{issued_at, log_is, numbers_from_issued}
-use Rattle.iloc_facts.proofs.ReadValues.{value_of, register_is_read, read_in}
+use Rattle.iloc_facts.proofs.Issues.{issued_at}
 use Rattle.iloc_validation.proofs.GivenReads.{new, name_at, length-new, kind_new, used_new, named_source, read_is_given}
 use Rattle.iloc_validation.proofs.Renumbered.{length-renumber, row_at-map, slots_at-map, numbers_before-map, AreApartBelow, AreBelow, times_same, cycle_same, units_same}
 

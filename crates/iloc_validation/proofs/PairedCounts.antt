@@ -1,15 +1,6 @@
 -- Where operations are paired by label, both sides have as many of each label; so where they haven't, none are paired.
-use Rattle.std.proofs.Common.{◌≡◌, ◌≢◌, ◌<◌, ◌≤◌, ℕ, suc, ◌+◌, Bool, true, false, cond, List, [], ◌∷◌, length, get_or, map, sym, ap, ◌∙◌, subst, arith}
-use Rattle.std.specs.Prelude.{count_by, slice_set}
-use Rattle.std.proofs.lemmas.List.{length-set, length-map, get_or-map, get_or-set_other}
-use Rattle.std.proofs.lemmas.List.Sums.{sum_by-cons, sum_by-set}
-use Rattle.iloc_ops.specs.declared.op.Op.{Op}
-use Rattle.iloc_ops.specs.declared.op.Op.TheVariants.{Nop}
+use Rattle.iloc_validation.proofs.Common.{◌≡◌, ℕ, suc, ◌+◌, ◌<◌, ◌≤◌, Bool, true, false, cond, ◌≢◌, List, [], ◌∷◌, map, length, get_or, slice_set, count_by, sym, ap, ◌∙◌, subst, arith, length-set, get_or-set_other, get_or-map, length-map, sum_by-cons, sum_by-set, Op, Nop, by_bool, op_at, label, ArePaired}
 use Rattle.iloc_ops.specs.contracts.op.OpPartialEq.TheImpl as of_ops
-use Rattle.iloc_meaning.specs.Trace.{op_at}
-use Rattle.iloc_meaning.proofs.Cases.{by_bool}
-use Rattle.iloc_facts.specs.Labels.{label}
-use Rattle.iloc_validation.specs.ByTheBook.{ArePaired}
 use Rattle.iloc_facts.specs.Counts.{are_alike, count_like}
 use Rattle.iloc_facts.proofs.CountsLike.{counts_same}
 

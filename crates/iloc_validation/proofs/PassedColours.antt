@@ -1,13 +1,8 @@
 -- Where a pairing keeps colours, a pass keeps them, and their sums are one.
-use Rattle.std.proofs.Common.{◌≡◌, ℕ, ◌%◌, ◌^◌, List, length, Option, Some, None, ap, ◌<◌, zero, suc, option_map, refl, sym, ◌∙◌, subst, arith}
-use Rattle.std.specs.Prelude.{sum_by, slice_index, IfSome}
-use Rattle.iloc_validation.specs.declared.colours.Coloured.{Coloured}
-use Rattle.iloc_facts.specs.declared.reading.sources.Sources.{Sources}
-use Rattle.iloc_validation.specs.Steps.Colours.{mixed, AreForwards, AreBackwards, ReadAlike, HaveColours, ArePassed, ArePassedTo, told, with_told, IsBelow, AreBelow}
+use Rattle.iloc_validation.proofs.Common.{◌≡◌, ℕ, zero, suc, ◌%◌, ◌^◌, ◌<◌, List, length, IfSome, slice_index, Some, None, sum_by, Option, option_map, sym, refl, ap, ◌∙◌, subst, arith, sources_at, Sources, AreBackwards, AreForwards, ArePassed, ArePassedTo, HaveColours, IsBelow, ReadAlike, mixed, told, with_told, by_numbers, Coloured}
+use Rattle.iloc_validation.specs.Steps.Colours.{AreBelow}
 use Rattle.iloc_validation.proofs.ColourSums.{values_paired}
 use Rattle.iloc_validation.proofs.BackwardColours.{backwards_keep}
-use Rattle.iloc_validation.specs.Steps.Sources.{by_numbers}
-use Rattle.iloc_facts.specs.Readings.{sources_at}
 
 -- A pass forwards keeps colours: what operations read, those that they are paired with read too.
 module _ (f g : ℕ → ℕ) where

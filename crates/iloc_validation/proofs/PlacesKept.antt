@@ -1,31 +1,8 @@
 -- Every pairing keeps the places of loads, stores and outputs, and so the first colours.
-use Rattle.std.proofs.Common.{◌≡◌, ◌<◌, ◌≤◌, ℕ, suc, ◌+◌, ◌%◌, ◌^◌, ◌⊎◌, Bool, true, List, [], ◌∷◌, ◌++◌, length, Option, Some, None, slice_index, inl, refl, sym, ap, ap₂, ◌∙◌, subst, arith}
-use Rattle.std.specs.Prelude.{filter, option_to_list}
-use Rattle.std.proofs.lemmas.Bool.{cases_lt}
-use Rattle.std.proofs.lemmas.List.{append-nil, append_assoc}
-use Rattle.std.proofs.lemmas.List.Sums.{length-filter}
-use Rattle.std.proofs.Math.Nat.{mod-add-mod}
-use Rattle.iloc_ops.specs.declared.op.Op.{Op}
-use Rattle.iloc_meaning.specs.Trace.{op_at}
-use Rattle.iloc_timed.specs.declared.kind.Kind.{Kind}
+use Rattle.iloc_validation.proofs.Common.{◌≡◌, ℕ, suc, ◌+◌, ◌%◌, ◌^◌, ◌<◌, ◌≤◌, Bool, true, ◌⊎◌, List, [], ◌∷◌, ◌++◌, length, slice_index, Some, None, filter, Option, option_to_list, sym, refl, ap, ◌∙◌, subst, ap₂, inl, append_assoc, append-nil, arith, mod-add-mod, cases_lt, length-filter, Op, op_at, is_output, is_store, kind, IsTable, issue_cycle, row_at, Kind, Latencies, Row, output_is, store_is, from_filter, in_filter, Ordered, ordered_filter, ComesLater, early_issued, issued_in_order, numbers_before, In, issued_before, ByLabel, IsScheduleUnder, AreKept, ArePlaces, colour_in, count_of, counted, first_here, first_there, label_colour, numbers_below, with_op, with_place, with_slot, AreNotedBefore, with_number, memory_by}
 use Rattle.iloc_timed.specs.declared.kind.Kind.TheVariants as K
-use Rattle.iloc_timed.specs.declared.latencies.Latencies.{Latencies}
-use Rattle.iloc_timed.specs.declared.row.Row.{Row}
-use Rattle.iloc_timed.specs.Kinds.{kind, is_store, is_output}
-use Rattle.iloc_timed.specs.Rows.{row_at, issue_cycle, IsTable}
-use Rattle.iloc_rules.specs.Steps.Members.{In}
-use Rattle.iloc_rules.proofs.Basics.Members.{in_filter, from_filter}
-use Rattle.iloc_rules.proofs.Basics.Ordered.{Ordered, ordered_filter}
-use Rattle.iloc_rules.proofs.Basics.Slots.{numbers_before, ComesLater, issued_in_order, issued_early, early_issued}
-use Rattle.iloc_rules.proofs.Basics.Kinds.{store_is, output_is}
-use Rattle.iloc_facts.specs.declared.by_label.ByLabel.{ByLabel}
+use Rattle.iloc_rules.proofs.Basics.Slots.{issued_early}
 use Rattle.iloc_validation.specs.declared.decision.first_colours.Places.{Places}
-use Rattle.iloc_facts.specs.Readings.{issued_before}
-use Rattle.iloc_validation.specs.ByTheBook.{IsScheduleUnder}
-use Rattle.iloc_validation.specs.Steps.Colours.{AreKept}
-use Rattle.iloc_validation.specs.Steps.FirstColours.{label_colour, with_place, colour_in, counted, with_op, with_slot, count_of, ArePlaces, numbers_below, first_here, first_there}
-use Rattle.iloc_validation.specs.Steps.Numbers.{with_number, AreNotedBefore}
-use Rattle.iloc_validation.specs.Steps.Waits.{memory_by}
 use Rattle.iloc_validation.proofs.FewerNumbers.{Apart, fewer, below_from, in_below, below_apart, count_append, count_single, count_issued}
 use Rattle.iloc_validation.proofs.FirstColours.{same_label_colour}
 use Rattle.iloc_validation.proofs.NotedSlots.{at_zero, at_one, one_row}

@@ -1,18 +1,5 @@
 -- Rows in which each number is another, one to one: what stands where stays.
-use Rattle.std.proofs.Common.{◌≡◌, ℕ, zero, suc, ◌+◌, ◌<◌, ◌==◌, cond, List, [], ◌∷◌, ◌++◌, map, length, Option, Some, None, option_map, option_to_list, inl, inr, refl, ap, ap₂, sym, ◌∙◌, eq-eqb, ne_eqb, arith}
-use Rattle.std.specs.Prelude.{count_by}
-use Rattle.std.specs.List.{list_any}
-use Rattle.std.proofs.lemmas.Bool.{cases_eq}
-use Rattle.std.proofs.lemmas.List.{map-append}
-use Rattle.iloc_ops.specs.declared.op.Op.{Op}
-use Rattle.iloc_meaning.specs.Trace.{op_at}
-use Rattle.iloc_timed.specs.declared.row.Row.{Row}
-use Rattle.iloc_timed.specs.Kinds.{kind}
-use Rattle.iloc_timed.specs.Rows.{row_at, slots, holds, issue_cycle, times_issued, kind_in, keeps_units}
-use Rattle.iloc_rules.specs.Steps.Members.{In}
-use Rattle.iloc_rules.proofs.Basics.Members.{in_left, in_right}
-use Rattle.iloc_rules.proofs.Basics.Slots.{numbers_before, count_by-cons, times_issued-cons}
-use Rattle.iloc_validation.specs.OwnRows.{renumber}
+use Rattle.iloc_validation.proofs.Common.{◌≡◌, ℕ, zero, suc, ◌+◌, ◌<◌, cond, List, [], ◌∷◌, ◌++◌, map, length, ◌==◌, Some, None, count_by, Option, option_map, option_to_list, sym, refl, ap, ◌∙◌, ap₂, inl, inr, arith, eq-eqb, ne_eqb, cases_eq, map-append, list_any, Op, op_at, kind, holds, issue_cycle, keeps_units, kind_in, row_at, slots, times_issued, Row, in_left, in_right, count_by-cons, numbers_before, times_issued-cons, In, renumber}
 
 pub slots_of : (f : ℕ → ℕ) (one zero : Option ℕ)
     → option_to_list (option_map f one) ++ option_to_list (option_map f zero)

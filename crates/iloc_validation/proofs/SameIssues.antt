@@ -1,29 +1,9 @@
 -- Rows that issue the same as others, with other numbers, are by the book where those are;
 -- `laws::own_rows_are_by_the_book`.
-use Rattle.std.proofs.Common.{◌≡◌, ℕ, zero, suc, ◌+◌, ◌<◌, ◌≤◌, Bool, true, false, if◌then◌else◌, List, [], ◌∷◌, ◌++◌, map, fold, length, Option, Some, None, unwrap_or, option_map, option_to_list, inl, inr, ◌⊎◌, refl, ap, ap₂, sym, ◌∙◌, subst, arith, eq-eqb, ne_eqb}
-use Rattle.std.specs.Prelude.{filter, nat_lt, nat_le, IsTrue}
-use Rattle.std.proofs.lemmas.List.{ext_get_or, length-map, map-append}
-use Rattle.iloc_ops.specs.declared.op.Reg.{Reg}
-use Rattle.iloc_ops.specs.declared.op.Op.{Op}
-use Rattle.iloc_ops.specs.Registers.{used, defined}
-use Rattle.iloc_meaning.specs.Trace.{op_at, is_register}
-use Rattle.iloc_meaning.proofs.Cases.{by_bool}
-use Rattle.iloc_timed.specs.declared.latencies.Latencies.{Latencies}
-use Rattle.iloc_timed.specs.declared.row.Row.{Row}
-use Rattle.iloc_timed.specs.Kinds.{kind}
-use Rattle.iloc_timed.specs.Latency.{latency}
-use Rattle.iloc_timed.specs.Rows.{empty_row, row_at, slots, issue_cycle, times_issued, keeps_units, AreNumbered, IsTable}
-use Rattle.iloc_rules.specs.Renaming.{without_nops}
-use Rattle.iloc_rules.specs.Steps.Members.{In}
-use Rattle.iloc_rules.proofs.Basics.Members.{contains_from, in_left, in_right, from_filter, map_same}
-use Rattle.iloc_rules.proofs.Basics.Slots.{count_in, count_in_twice, count_in_within, issued_early, issued_there, stands_there, is_issued}
-use Rattle.iloc_facts.specs.Readings.{issued_before, due, last_of, defining, arrived, read}
-use Rattle.iloc_facts.specs.Labels.{label}
-use Rattle.iloc_validation.specs.ByTheBook.{issued_in, IssueTheSame, IsScheduleUnder}
+use Rattle.iloc_validation.proofs.Common.{◌≡◌, ℕ, zero, suc, ◌+◌, ◌<◌, ◌≤◌, Bool, true, false, ◌⊎◌, List, [], ◌∷◌, ◌++◌, map, length, if◌then◌else◌, IsTrue, nat_lt, nat_le, Some, None, fold, filter, Option, option_map, option_to_list, unwrap_or, sym, refl, ap, ◌∙◌, subst, ap₂, inl, inr, arith, ext_get_or, eq-eqb, ne_eqb, length-map, map-append, defined, used, Op, Reg, by_bool, is_register, op_at, kind, latency, AreNumbered, IsTable, empty_row, issue_cycle, keeps_units, row_at, slots, times_issued, Latencies, Row, contains_from, from_filter, in_left, in_right, map_same, count_in, count_in_twice, count_in_within, is_issued, issued_there, stands_there, without_nops, In, numbers_from_issued, label, defining, due, issued_before, last_of, read, IsScheduleUnder, IssueTheSame, issued_in, renumber, in_slot, is_in, number_in}
+use Rattle.iloc_rules.proofs.Basics.Slots.{issued_early}
+use Rattle.iloc_facts.specs.Readings.{arrived}
 use Rattle.iloc_validation.specs.Laws.{OwnRowsAreByTheBook}
-use Rattle.iloc_validation.specs.OwnRows.{renumber}
-use Rattle.iloc_validation.specs.Steps.Numbers.{is_in, in_slot, number_in}
-use Rattle.iloc_facts.proofs.Issues.{numbers_from_issued}
 use Rattle.iloc_validation.proofs.Lawful.{lawful_by_the_book}
 use Rattle.iloc_validation.proofs.Renumbered.{slots_of, mapped_twice, length-renumber, row_at-map, cycle_same, units_same}
 

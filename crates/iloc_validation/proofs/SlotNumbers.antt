@@ -1,16 +1,5 @@
 -- The numbers that operations have in other rows that issue the same, noted row by row; and the pairing by them.
-use Rattle.std.proofs.Common.{◌≡◌, ◌<◌, ℕ, ◌+◌, List, length, unwrap_or, arith, refl, sym, ◌∙◌, slice_index}
-use Rattle.iloc_ops.specs.declared.op.Op.{Op}
-use Rattle.iloc_timed.specs.declared.latencies.Latencies.{Latencies}
-use Rattle.iloc_timed.specs.declared.row.Row.{Row}
-use Rattle.iloc_timed.specs.Rows.{row_at, IsTable, AreNumbered}
-use Rattle.iloc_timed.proofs.Arrivals.{table_numbered}
-use Rattle.iloc_rules.specs.Lawful.{IsLawful}
-use Rattle.iloc_rules.specs.Renaming.{without_nops}
-use Rattle.iloc_validation.specs.declared.pairing.Pairing.{Pairing}
-use Rattle.iloc_validation.specs.ByTheBook.{IssueTheSame}
-use Rattle.iloc_validation.specs.Decision.{IsScheduleBy}
-use Rattle.iloc_validation.specs.Steps.Numbers.{number_in, with_number, AreNumbersIn}
+use Rattle.iloc_validation.proofs.Common.{◌≡◌, ℕ, ◌+◌, ◌<◌, List, length, slice_index, unwrap_or, sym, refl, ◌∙◌, arith, Op, table_numbered, AreNumbered, IsTable, row_at, Latencies, Row, IsLawful, without_nops, IssueTheSame, IsScheduleBy, AreNumbersIn, number_in, with_number, Pairing}
 use Rattle.iloc_validation.proofs.NotedSlots.{one_row}
 use Rattle.iloc_validation.proofs.InOrder.{under_same, lawful_count, lawful_in_order}
 use Rattle.iloc_validation.proofs.SameIssues.{zero_moved, one_moved, under_others}

@@ -1,21 +1,6 @@
 -- What a row issues while a store is under way; for `is_under_way`.
-use Rattle.std.proofs.Common.{◌≡◌, ◌<◌, ℕ, ◌+◌, ◌⊎◌, ◌||◌, Bool, true, List, length, Option, Some, None, inl, inr, refl, ap, arith}
-use Rattle.std.proofs.lemmas.Bool.{false≢true, or_cases}
-use Rattle.iloc_ops.specs.declared.op.Op.{Op}
-use Rattle.iloc_meaning.specs.Trace.{op_at}
-use Rattle.iloc_timed.specs.declared.kind.Kind.{Kind}
+use Rattle.iloc_validation.proofs.Common.{◌≡◌, ℕ, ◌+◌, ◌<◌, Bool, true, ◌||◌, ◌⊎◌, List, length, Some, None, Option, refl, ap, inl, inr, arith, false≢true, or_cases, Op, op_at, is_store, kind, latency_of, IsTable, is_some_kind, issue_cycle, kind_in, row_at, slots, Kind, Latencies, Row, store_is, cycle_is, within, reads_stored, In, IsUnderWay, IsStoredUntil}
 use Rattle.iloc_timed.specs.declared.kind.Kind.TheVariants as K
-use Rattle.iloc_timed.specs.declared.latencies.Latencies.{Latencies}
-use Rattle.iloc_timed.specs.declared.row.Row.{Row}
-use Rattle.iloc_timed.specs.Kinds.{kind, is_store}
-use Rattle.iloc_timed.specs.Latency.{latency_of}
-use Rattle.iloc_timed.specs.Rows.{row_at, slots, issue_cycle, kind_in, is_some_kind, IsTable}
-use Rattle.iloc_rules.specs.Delays.{reads_stored}
-use Rattle.iloc_rules.specs.Steps.Members.{In}
-use Rattle.iloc_rules.proofs.Basics.Slots.{within, cycle_is}
-use Rattle.iloc_rules.proofs.Basics.Kinds.{store_is}
-use Rattle.iloc_facts.specs.UnderWay.{IsUnderWay}
-use Rattle.iloc_validation.specs.Steps.Stores.{IsStoredUntil}
 use Rattle.iloc_validation.proofs.SameIssues.{in_first, in_second}
 
 is_of_reader : (k : Kind) → reads_stored K.Store k ≡ true → (k ≡ K.Load) ⊎ (k ≡ K.Output)

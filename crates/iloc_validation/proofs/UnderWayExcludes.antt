@@ -1,21 +1,6 @@
 -- What is issued while a store is under way leaves no pairing.
-use Rattle.std.proofs.Common.{◌≡◌, ◌<◌, ◌≤◌, ℕ, ◌+◌, ◌⊎◌, List, length, inl, inr, refl, sym, ap, ◌∙◌, arith}
-use Rattle.std.proofs.lemmas.Bool.{cases_lt}
-use Rattle.iloc_ops.specs.declared.op.Op.{Op}
-use Rattle.iloc_meaning.specs.Trace.{op_at}
-use Rattle.iloc_timed.specs.declared.kind.Kind.{Kind}
+use Rattle.iloc_validation.proofs.Common.{◌≡◌, ℕ, ◌+◌, ◌<◌, ◌≤◌, ◌⊎◌, List, length, sym, refl, ap, ◌∙◌, inl, inr, arith, cases_lt, Op, op_at, kind, latency, latency_of, issue_cycle, Kind, Latencies, Row, contains_from, memory_delays, In, IsUnderWay, IsScheduleUnder, memory_by}
 use Rattle.iloc_timed.specs.declared.kind.Kind.TheVariants.{Load, Store, Output}
-use Rattle.iloc_timed.specs.declared.latencies.Latencies.{Latencies}
-use Rattle.iloc_timed.specs.declared.row.Row.{Row}
-use Rattle.iloc_timed.specs.Kinds.{kind}
-use Rattle.iloc_timed.specs.Latency.{latency, latency_of}
-use Rattle.iloc_timed.specs.Rows.{issue_cycle}
-use Rattle.iloc_rules.specs.Delays.{memory_delays}
-use Rattle.iloc_rules.specs.Steps.Members.{In}
-use Rattle.iloc_rules.proofs.Basics.Members.{contains_from}
-use Rattle.iloc_validation.specs.ByTheBook.{IsScheduleUnder}
-use Rattle.iloc_facts.specs.UnderWay.{IsUnderWay}
-use Rattle.iloc_validation.specs.Steps.Waits.{memory_by}
 use Rattle.iloc_validation.proofs.Labels.{same_kind}
 
 -- a store keeps what reads memory behind it waiting for its latency

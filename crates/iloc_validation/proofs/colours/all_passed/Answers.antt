@@ -1,6 +1,4 @@
-use Rattle.std.proofs.Common.{Some, None, sym, ◌∙◌, subst}
-use Rattle.std.proofs.lemmas.Bool.{true≢false}
-use Rattle.iloc_validation.specs.Steps.Colours.{ArePassed}
+use Rattle.iloc_validation.proofs.Common.{Some, None, sym, ◌∙◌, subst, true≢false, ArePassed}
 use Rattle.iloc_validation.proofs.PassedColours.{differing, then_passed}
 use Rattle.iloc_validation.proofs.colours.all_passed.Goals as goal
 

@@ -1,7 +1,4 @@
-use Rattle.std.proofs.Common.{refl, ◌∙◌, ap, subst, length}
-use Rattle.std.specs.Prelude.{IfSome}
-use Rattle.iloc_validation.specs.declared.colours.Coloured.{Coloured}
-use Rattle.iloc_validation.specs.Steps.Colours.{ArePassed, IsOrderOf}
+use Rattle.iloc_validation.proofs.Common.{length, IfSome, refl, ap, ◌∙◌, subst, ArePassed, IsOrderOf, Coloured}
 use Rattle.iloc_validation.proofs.KeptColours.{none_coloured, all_coloured}
 use Rattle.iloc_validation.proofs.colours.kept_colours.Goals as goal
 

@@ -1,7 +1,4 @@
-use Rattle.std.proofs.Common.{Some, None, sym, ◌∙◌}
-use Rattle.std.proofs.lemmas.Bool.{true≢false}
-use Rattle.iloc_validation.specs.declared.colours.Coloured.{Coloured}
-use Rattle.iloc_validation.specs.Steps.Colours.{ArePassedTo}
+use Rattle.iloc_validation.proofs.Common.{Some, None, sym, ◌∙◌, true≢false, ArePassedTo, Coloured}
 use Rattle.iloc_validation.proofs.PassedColours.{differing, then_passed, forwards_passed, backwards_passed}
 use Rattle.iloc_validation.proofs.colours.passed.Goals as goal
 

@@ -1,5 +1,4 @@
-use Rattle.std.proofs.Common.{refl}
-use Rattle.std.proofs.lemmas.Result.{IfOk-weaker}
+use Rattle.iloc_validation.proofs.Common.{refl, IfOk-weaker}
 use Rattle.iloc_validation.proofs.InOrder.{lawful_count, lawful_in_order}
 use Rattle.iloc_validation.proofs.decision.decide.Goals as goal
 

@@ -1,5 +1,4 @@
-use Rattle.std.proofs.lemmas.Result.{IfOk-weaker}
-use Rattle.iloc_validation.specs.Steps.Decisions.{KeptColours}
+use Rattle.iloc_validation.proofs.Common.{IfOk-weaker, KeptColours}
 use Rattle.iloc_validation.proofs.NoPartner.{among_all}
 use Rattle.iloc_validation.proofs.decision.decided.Goals as goal
 

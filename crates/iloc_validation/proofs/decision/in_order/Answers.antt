@@ -1,5 +1,4 @@
-use Rattle.std.proofs.Common.{◌≡◌, true, slice_index, sym, ◌∙◌, arith}
-use Rattle.std.proofs.lemmas.Bool.{true≢false}
+use Rattle.iloc_validation.proofs.Common.{◌≡◌, true, slice_index, sym, ◌∙◌, true≢false, arith}
 use Rattle.iloc_validation.proofs.InOrder.{under_same}
 use Rattle.iloc_validation.proofs.decision.in_order.Goals as goal
 

@@ -1,11 +1,6 @@
-use Rattle.std.proofs.Common.{◌≡◌, length, arith, ◌<◌, ◌≤◌, ℕ, zero, suc, ◌==◌, List, [], ◌∷◌, inl, inr, refl, ap, subst, eq-eqb}
+use Rattle.iloc_validation.proofs.Common.{◌≡◌, ℕ, zero, suc, ◌<◌, ◌≤◌, List, [], ◌∷◌, length, ◌==◌, refl, ap, subst, inl, inr, arith, eq-eqb, cases_lt, Op, any_at, In, ArePaired}
 use Rattle.iloc_validation.proofs.UnderWayExcludes.{none_under_way}
-use Rattle.std.proofs.lemmas.Bool.{cases_lt}
 use Rattle.std.proofs.lemmas.Map.Steps.{le-length_from_below}
-use Rattle.iloc_ops.specs.declared.op.Op.{Op}
-use Rattle.iloc_rules.specs.Steps.Members.{In}
-use Rattle.iloc_rules.proofs.Basics.Members.{any_at}
-use Rattle.iloc_validation.specs.ByTheBook.{ArePaired}
 use Rattle.iloc_validation.proofs.decision.is_excluded.Goals as goal
 
 -- Where operations are paired, there are as many on both sides.

@@ -1,5 +1,4 @@
-use Rattle.std.proofs.Common.{sym}
-use Rattle.iloc_rules.specs.Renaming.{without_nops}
+use Rattle.iloc_validation.proofs.Common.{sym, without_nops}
 use Rattle.iloc_validation.proofs.PairedCounts.{paired_counts}
 use Rattle.iloc_validation.proofs.laws.counts_that_differ_exclude_by_the_book.Goals as goal
 

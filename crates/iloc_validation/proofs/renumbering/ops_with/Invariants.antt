@@ -1,5 +1,4 @@
-use Rattle.std.proofs.Common.{◌≡◌, map, take}
-use Rattle.iloc_meaning.specs.Trace.{op_at}
+use Rattle.iloc_validation.proofs.Common.{◌≡◌, map, take, op_at}
 use Rattle.iloc_validation.proofs.renumbering.ops_with.Given as goal
 
 abbrev pub invariant-loop-number : goal.invariant-loop-number

@@ -1,17 +1,4 @@
-use Rattle.std.proofs.Common.{◌∙◌, ◌≡◌, List, map, arith}
-use Rattle.std.specs.Prelude.{slice_index}
-use Rattle.std.proofs.lemmas.List.{get_or-map, length-map}
-use Rattle.iloc_ops.specs.declared.op.Op.{Op}
-use Rattle.iloc_meaning.specs.Trace.{op_at}
-use Rattle.iloc_timed.specs.declared.latencies.Latencies.{Latencies}
-use Rattle.iloc_timed.specs.declared.row.Row.{Row}
-use Rattle.iloc_timed.specs.Rows.{IsTable}
-use Rattle.iloc_timed.specs.Schedule.{Table}
-use Rattle.iloc_rules.specs.Renaming.{renamed, without_nops}
-use Rattle.iloc_rules.proofs.Renamed.MentionedSources.{length-renamed_by}
-use Rattle.iloc_validation.specs.declared.pairing.Pairing.{Pairing}
-use Rattle.iloc_validation.specs.OwnRows.{renumber, AreOwnRows}
-use Rattle.iloc_validation.specs.Decision.{IsScheduleBy}
+use Rattle.iloc_validation.proofs.Common.{◌≡◌, List, map, slice_index, ◌∙◌, arith, get_or-map, length-map, Op, op_at, IsTable, Table, Latencies, Row, length-renamed_by, renamed, without_nops, IsScheduleBy, AreOwnRows, renumber, Pairing}
 use Rattle.iloc_validation.proofs.Outcomes.{own_lawful}
 use Rattle.iloc_validation.proofs.renumbering.own_rows.Goals as goal
 

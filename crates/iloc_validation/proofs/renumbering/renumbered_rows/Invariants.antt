@@ -1,5 +1,4 @@
-use Rattle.std.proofs.Common.{◌≡◌, map, slice_index, take}
-use Rattle.iloc_validation.specs.OwnRows.{renumber}
+use Rattle.iloc_validation.proofs.Common.{◌≡◌, map, take, slice_index, renumber}
 use Rattle.iloc_validation.proofs.renumbering.renumbered_rows.Given as goal
 
 abbrev pub invariant-loop-row : goal.invariant-loop-row

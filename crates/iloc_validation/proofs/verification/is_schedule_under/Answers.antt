@@ -1,5 +1,4 @@
-use Rattle.std.proofs.Common.{◌≡◌, true, refl, sym, ◌∙◌, arith, below_more}
-use Rattle.std.proofs.lemmas.Bool.{true≢false, false≢true}
+use Rattle.iloc_validation.proofs.Common.{◌≡◌, true, sym, refl, ◌∙◌, true≢false, arith, below_more, false≢true}
 use Rattle.iloc_validation.proofs.Kept.{issued_early, are_kept, is_under}
 use Rattle.iloc_validation.proofs.verification.is_schedule_under.Goals as goal
 

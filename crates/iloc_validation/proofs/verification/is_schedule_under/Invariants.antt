@@ -1,5 +1,4 @@
-use Rattle.std.proofs.Common.{◌<◌, ℕ}
-use Rattle.iloc_validation.specs.Steps.Sides.{IsKept}
+use Rattle.iloc_validation.proofs.Common.{ℕ, ◌<◌, IsKept}
 use Rattle.iloc_validation.proofs.verification.is_schedule_under.Given as goal
 
 abbrev pub invariant-loop-k : goal.invariant-loop-k

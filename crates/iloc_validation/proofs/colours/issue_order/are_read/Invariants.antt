@@ -1,5 +1,4 @@
-use Rattle.std.proofs.Common.{◌<◌, ℕ}
-use Rattle.iloc_validation.specs.Steps.Colours.{AreReadAt}
+use Rattle.iloc_validation.proofs.Common.{ℕ, ◌<◌, AreReadAt}
 use Rattle.iloc_validation.proofs.colours.issue_order.are_read.Given as goal
 
 abbrev pub invariant-loop-p : goal.invariant-loop-p

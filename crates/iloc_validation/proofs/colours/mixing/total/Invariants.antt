@@ -1,5 +1,4 @@
-use Rattle.std.proofs.Common.{◌≡◌, ◌%◌, ◌^◌, take, sum_by}
-use Rattle.iloc_validation.specs.Steps.Colours.{mixed}
+use Rattle.iloc_validation.proofs.Common.{◌≡◌, ◌%◌, ◌^◌, take, sum_by, mixed}
 use Rattle.iloc_validation.proofs.colours.mixing.total.Given as goal
 
 abbrev pub invariant-loop-colour : goal.invariant-loop-colour

@@ -1,9 +1,4 @@
-use Rattle.std.proofs.Common.{◌≡◌, ◌≢◌, ◌<◌, ◌≤◌, ◌+◌, ◌-◌, ◌%◌, ◌^◌, ℕ, List, length, slice_index, sym, ap, ◌∙◌, subst, arith, inl, inr, get_or-set_same, get_or-set_other}
-use Rattle.std.specs.Prelude.{slice_set}
-use Rattle.std.proofs.lemmas.Bool.{cases_lt}
-use Rattle.std.proofs.lemmas.List.{get_or_default, length-set}
-use Rattle.iloc_validation.specs.Steps.Colours.{mixed, heard, heard_of}
-use Rattle.iloc_facts.specs.Readings.{sources_at}
+use Rattle.iloc_validation.proofs.Common.{◌≡◌, ℕ, ◌+◌, ◌-◌, ◌%◌, ◌^◌, ◌<◌, ◌≤◌, ◌≢◌, List, length, slice_index, slice_set, sym, ap, ◌∙◌, subst, inl, inr, arith, length-set, get_or-set_other, get_or-set_same, cases_lt, get_or_default, sources_at, heard, heard_of, mixed}
 use Rattle.iloc_validation.proofs.BackwardColours.{heard_more, heard_stays}
 use Rattle.iloc_validation.proofs.colours.passes.backwards.Goals as goal
 

@@ -1,5 +1,4 @@
-use Rattle.std.proofs.Common.{◌≡◌, ◌<◌, ◌≤◌, ◌+◌, ◌-◌, ◌%◌, ◌^◌, ℕ, length, slice_index}
-use Rattle.iloc_validation.specs.Steps.Colours.{mixed, heard}
+use Rattle.iloc_validation.proofs.Common.{◌≡◌, ℕ, ◌+◌, ◌-◌, ◌%◌, ◌^◌, ◌<◌, ◌≤◌, length, slice_index, heard, mixed}
 use Rattle.iloc_validation.proofs.colours.passes.backwards.Given as goal
 
 abbrev pub invariant-loop-k : goal.invariant-loop-k

@@ -1,6 +1,4 @@
-use Rattle.std.proofs.Common.{◌≡◌, ◌<◌, ℕ, length, slice_index}
-use Rattle.iloc_validation.specs.Steps.Colours.{with_told, IsBelow}
-use Rattle.iloc_facts.specs.Readings.{sources_at}
+use Rattle.iloc_validation.proofs.Common.{◌≡◌, ℕ, ◌<◌, length, slice_index, sources_at, IsBelow, with_told}
 use Rattle.iloc_validation.proofs.colours.passes.forwards.Given as goal
 
 abbrev pub invariant-loop-k : goal.invariant-loop-k

@@ -1,10 +1,4 @@
-use Rattle.std.proofs.Common.{◌≡◌, ℕ, ◌+◌, length, get_or, ap, ap₂, ◌∙◌, arith}
-use Rattle.std.proofs.lemmas.List.{get_or_default, length_push}
-use Rattle.iloc_ops.specs.declared.op.Op.{Op}
-use Rattle.iloc_ops.specs.declared.op.Op.TheVariants.{Nop}
-use Rattle.iloc_meaning.specs.Trace.{op_at}
-use Rattle.iloc_validation.specs.Steps.FirstColours.{first_colour, first_here, with_op}
-use Rattle.iloc_facts.proofs.GivenSources.{push_more}
+use Rattle.iloc_validation.proofs.Common.{◌≡◌, ℕ, ◌+◌, length, get_or, ap, ◌∙◌, ap₂, arith, get_or_default, length_push, Op, Nop, op_at, push_more, first_colour, first_here, with_op}
 use Rattle.iloc_validation.proofs.PlacesKept.{places_next}
 use Rattle.iloc_validation.proofs.decision.first_colours.first_here.Goals as goal
 

@@ -1,5 +1,4 @@
-use Rattle.std.proofs.Common.{◌≡◌, ◌<◌, ℕ, length, slice_index}
-use Rattle.iloc_validation.specs.Steps.FirstColours.{ArePlaces, numbers_below, first_here}
+use Rattle.iloc_validation.proofs.Common.{◌≡◌, ℕ, ◌<◌, length, slice_index, ArePlaces, first_here, numbers_below}
 use Rattle.iloc_validation.proofs.decision.first_colours.first_here.Given as goal
 
 abbrev pub invariant-loop-i : goal.invariant-loop-i

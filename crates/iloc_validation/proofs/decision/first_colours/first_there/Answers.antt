@@ -1,6 +1,4 @@
-use Rattle.std.proofs.Common.{◌≤◌, length}
-use Rattle.iloc_timed.proofs.Arrivals.{zero_known, one_known}
-use Rattle.iloc_validation.specs.Steps.FirstColours.{first_there}
+use Rattle.iloc_validation.proofs.Common.{◌≤◌, length, one_known, zero_known, first_there}
 use Rattle.iloc_validation.proofs.NotedSlots.{all_noted}
 use Rattle.iloc_validation.proofs.PlacesKept.{row_coloured, row_placed}
 use Rattle.iloc_validation.proofs.decision.first_colours.first_there.Goals as goal

@@ -1,7 +1,4 @@
-use Rattle.std.proofs.Common.{length}
-use Rattle.iloc_facts.specs.Readings.{issued_before}
-use Rattle.iloc_validation.specs.Steps.FirstColours.{ArePlaces, first_there}
-use Rattle.iloc_validation.specs.Steps.Numbers.{AreNotedBefore}
+use Rattle.iloc_validation.proofs.Common.{length, issued_before, ArePlaces, first_there, AreNotedBefore}
 use Rattle.iloc_validation.proofs.decision.first_colours.first_there.Given as goal
 
 abbrev pub invariant-loop-row : goal.invariant-loop-row

@@ -1,6 +1,4 @@
-use Rattle.std.proofs.Common.{sym, ap, ◌∙◌, ◌≡◌, Option, option_map}
-use Rattle.iloc_ops.specs.declared.op.Op.{Op}
-use Rattle.iloc_meaning.specs.Trace.{op_at}
+use Rattle.iloc_validation.proofs.Common.{◌≡◌, Option, option_map, sym, ap, ◌∙◌, Op, op_at}
 use Rattle.iloc_validation.proofs.SameRows.{slot_same}
 use Rattle.iloc_validation.proofs.decision.ours.are_alike.Goals as goal
 

@@ -1,5 +1,4 @@
-use Rattle.std.proofs.Common.{arith, refl, sym, ap, ◌∙◌, ◌≡◌, ◌<◌, length}
-use Rattle.std.proofs.lemmas.Bool.{true≢false}
+use Rattle.iloc_validation.proofs.Common.{◌≡◌, ◌<◌, length, sym, refl, ap, ◌∙◌, true≢false, arith}
 use Rattle.iloc_validation.proofs.SameRows.{each_there, issue_each}
 use Rattle.iloc_validation.proofs.decision.ours.issue_the_same.Goals as goal
 

@@ -1,6 +1,4 @@
-use Rattle.std.proofs.Common.{◌≡◌, ◌<◌, ℕ}
-use Rattle.iloc_timed.specs.Rows.{row_at}
-use Rattle.iloc_validation.specs.ByTheBook.{issued_in}
+use Rattle.iloc_validation.proofs.Common.{◌≡◌, ℕ, ◌<◌, row_at, issued_in}
 use Rattle.iloc_validation.proofs.decision.ours.issue_the_same.Given as goal
 
 abbrev pub invariant-loop-c : goal.invariant-loop-c

@@ -1,8 +1,5 @@
-use Rattle.std.proofs.Common.{refl, ap, ◌∙◌, ◌≤◌, length}
-use Rattle.iloc_timed.specs.Rows.{row_at}
-use Rattle.iloc_timed.proofs.Arrivals.{zero_known, one_known}
+use Rattle.iloc_validation.proofs.Common.{◌≤◌, length, refl, ap, ◌∙◌, one_known, zero_known, row_at, number_in}
 use Rattle.iloc_facts.proofs.ReadingRows.{slot_known}
-use Rattle.iloc_validation.specs.Steps.Numbers.{number_in}
 use Rattle.iloc_validation.proofs.NotedSlots.{length-with_number, all_noted}
 use Rattle.iloc_validation.proofs.SlotNumbers.{row_numbered}
 use Rattle.iloc_validation.proofs.decision.ours.numbers_in.Goals as goal

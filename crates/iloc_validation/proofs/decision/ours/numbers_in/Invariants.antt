@@ -1,6 +1,4 @@
-use Rattle.std.proofs.Common.{◌≡◌, length}
-use Rattle.iloc_validation.specs.ByTheBook.{IssueTheSame}
-use Rattle.iloc_validation.specs.Steps.Numbers.{AreNumbersIn}
+use Rattle.iloc_validation.proofs.Common.{◌≡◌, length, IssueTheSame, AreNumbersIn}
 use Rattle.iloc_validation.proofs.decision.ours.numbers_in.Given as goal
 
 abbrev pub invariant-loop-c : goal.invariant-loop-c

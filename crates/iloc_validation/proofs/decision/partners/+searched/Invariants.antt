@@ -1,5 +1,4 @@
-use Rattle.std.proofs.Common.{◌<◌, ℕ}
-use Rattle.iloc_validation.specs.Steps.Colours.{IsNoPair}
+use Rattle.iloc_validation.proofs.Common.{ℕ, ◌<◌, IsNoPair}
 use Rattle.iloc_validation.proofs.decision.partners.+searched.Given as goal
 
 abbrev pub decreases-searched : goal.decreases-searched

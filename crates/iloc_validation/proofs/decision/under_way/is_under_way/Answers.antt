@@ -1,5 +1,4 @@
-use Rattle.std.proofs.Common.{◌<◌, ◌+◌, inl, inr, sym, ◌∙◌, arith}
-use Rattle.iloc_validation.specs.Steps.Stores.{IsStoredUntil}
+use Rattle.iloc_validation.proofs.Common.{◌+◌, ◌<◌, sym, ◌∙◌, inl, inr, arith, IsStoredUntil}
 use Rattle.iloc_validation.proofs.StoresUnderWay.{row_stored, row_reads}
 use Rattle.iloc_validation.proofs.decision.under_way.is_under_way.Goals.{then-issues_store, else-issues_store}
 use Rattle.iloc_validation.proofs.decision.under_way.is_under_way.Goals as goal

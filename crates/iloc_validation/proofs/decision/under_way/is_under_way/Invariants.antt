@@ -1,5 +1,4 @@
-use Rattle.std.proofs.Common.{◌<◌}
-use Rattle.iloc_validation.specs.Steps.Stores.{IsStoredUntil}
+use Rattle.iloc_validation.proofs.Common.{◌<◌, IsStoredUntil}
 use Rattle.iloc_validation.proofs.decision.under_way.is_under_way.Given as goal
 
 abbrev pub invariant-loop-cycle : goal.invariant-loop-cycle

@@ -1,12 +1,5 @@
-use Rattle.std.proofs.Common.{◌≡◌, ℕ, ◌+◌, length, slice_index, refl, ap, ◌∙◌}
-use Rattle.std.proofs.lemmas.List.{get_or_default, length_push}
-use Rattle.iloc_ops.specs.declared.op.Op.TheVariants.{Nop}
-use Rattle.iloc_meaning.specs.Trace.{op_at}
-use Rattle.iloc_timed.specs.Kinds.{kind}
-use Rattle.iloc_facts.specs.Readings.{reading_at}
-use Rattle.iloc_validation.specs.Steps.Waits.{earliest, wait_of}
+use Rattle.iloc_validation.proofs.Common.{◌≡◌, ℕ, ◌+◌, length, slice_index, refl, ap, ◌∙◌, get_or_default, length_push, Nop, op_at, kind, push_more, reading_at, earliest, wait_of}
 use Rattle.iloc_validation.proofs.EarliestCycles.{noted_next}
-use Rattle.iloc_facts.proofs.GivenSources.{push_more}
 use Rattle.iloc_validation.proofs.verification.waits.waits_of.Goals as goal
 
 pub loop-i-preserved : goal.loop-i-preserved

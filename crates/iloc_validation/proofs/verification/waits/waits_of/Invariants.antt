@@ -1,9 +1,4 @@
-use Rattle.std.proofs.Common.{◌≡◌, ◌<◌, ℕ, length, slice_index}
-use Rattle.iloc_meaning.specs.Trace.{op_at}
-use Rattle.iloc_timed.specs.declared.kind.Kind.{Kind}
-use Rattle.iloc_timed.specs.Kinds.{kind}
-use Rattle.iloc_facts.specs.Readings.{reading_at}
-use Rattle.iloc_validation.specs.Steps.Waits.{earliest, wait_of}
+use Rattle.iloc_validation.proofs.Common.{◌≡◌, ℕ, ◌<◌, length, slice_index, op_at, kind, Kind, reading_at, earliest, wait_of}
 use Rattle.iloc_validation.proofs.verification.waits.waits_of.Given as goal
 
 abbrev pub invariant-loop-i : goal.invariant-loop-i

@@ -1,6 +1,4 @@
-use Rattle.std.proofs.Common.{ap, ◌+◌, map, ◌∙◌}
-use Rattle.std.specs.Prelude.{max, fold}
-use Rattle.iloc_validation.specs.Steps.Waits.{memory_by, wait_of}
+use Rattle.iloc_validation.proofs.Common.{◌+◌, max, map, fold, ap, ◌∙◌, memory_by, wait_of}
 use Rattle.iloc_validation.proofs.EarliestCycles.{wait_of-noted}
 use Rattle.iloc_validation.proofs.verification.waits.Waits.after.Goals as goal
 
