@@ -1,21 +1,9 @@
 -- What is claimed of operations of rows is a fact, where it was seen to hold.
-use Rattle.std.proofs.Common.{◌≡◌, ◌≢◌, ◌<◌, ◌≤◌, ℕ, zero, suc, List, [], ◌∷◌, length, map, Option, Some, sym, ap, ◌∙◌, arith}
-use Rattle.std.specs.Prelude.{slice_get, Contains}
+use Rattle.iloc_reasons.proofs.Common.{◌≡◌, ℕ, zero, suc, ◌<◌, ◌≤◌, ◌≢◌, List, [], ◌∷◌, map, length, slice_get, Some, Contains, Option, sym, ap, ◌∙◌, arith, defined, used, Op, Reg, op_at, issue_cycle, Latencies, Row, AreAllSources, HasBeenThere, IsCounterpart, IsFact, IsIssued, due, given, read, reading_of, sources_of, Reading, AreAllRead, source_at}
 use Rattle.std.proofs.lemmas.Option.{get_or_from_slice_get, slice_get_within}
-use Rattle.iloc_ops.specs.declared.op.Reg.{Reg}
-use Rattle.iloc_ops.specs.declared.op.Op.{Op}
-use Rattle.iloc_ops.specs.Registers.{used, defined}
-use Rattle.iloc_meaning.specs.Trace.{op_at}
-use Rattle.iloc_timed.specs.declared.latencies.Latencies.{Latencies}
-use Rattle.iloc_timed.specs.declared.row.Row.{Row}
-use Rattle.iloc_timed.specs.Rows.{issue_cycle}
 use Rattle.iloc_facts.specs.declared.lawfulness.Issue.{Issue}
-use Rattle.iloc_facts.specs.declared.reading.Reading.{Reading}
-use Rattle.iloc_facts.specs.Readings.{due, given, read, reading_of, sources_of}
 use Rattle.iloc_facts.proofs.SourceLists.{few_used}
 use Rattle.iloc_facts.specs.declared.fact.Fact.TheVariants.{Brings, Replaced, See}
-use Rattle.iloc_facts.specs.Facts.{AreAllSources, IsCounterpart, IsIssued, HasBeenThere, IsFact}
-use Rattle.iloc_reasons.specs.Steps.Sides.{AreAllRead, source_at}
 
 -- what stands at a place of a list is in it
 pub contained : {X : Type 0} (xs : List X) (place : ℕ) (x : X) → slice_get xs place ≡ Some x → Contains xs x

@@ -1,5 +1,4 @@
-use Rattle.std.proofs.Common.{rules, ◌≡◌, Some}
-use Rattle.iloc_ops.specs.Registers.{defined}
+use Rattle.iloc_reasons.proofs.Common.{◌≡◌, Some, rules, defined}
 use Rattle.iloc_reasons.proofs.Claims.{brings_fact}
 use Rattle.iloc_reasons.proofs.claim.brings.Goals as goal
 

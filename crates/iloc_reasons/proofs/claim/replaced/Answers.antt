@@ -1,5 +1,4 @@
-use Rattle.std.proofs.Common.{◌≡◌, Some, sym, ◌∙◌}
-use Rattle.iloc_reasons.specs.Steps.Sides.{source_at}
+use Rattle.iloc_reasons.proofs.Common.{◌≡◌, Some, sym, ◌∙◌, source_at}
 use Rattle.iloc_reasons.proofs.Claims.{replaced_fact}
 use Rattle.iloc_reasons.proofs.claim.replaced.Goals as goal
 

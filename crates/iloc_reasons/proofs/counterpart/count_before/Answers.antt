@@ -1,12 +1,5 @@
-use Rattle.std.proofs.Common.{◌≡◌, ◌+◌, ◌<◌, get_or, length, ap, sym, ◌∙◌, arith}
-use Rattle.std.proofs.lemmas.Bool.{true≢false}
-use Rattle.std.proofs.lemmas.List.{get_or_default}
-use Rattle.iloc_ops.specs.declared.op.Op.{Op}
-use Rattle.iloc_ops.specs.declared.op.Op.TheVariants.{Nop}
-use Rattle.iloc_meaning.specs.Trace.{op_at}
+use Rattle.iloc_reasons.proofs.Common.{◌≡◌, ◌+◌, ◌<◌, length, get_or, sym, ap, ◌∙◌, true≢false, arith, get_or_default, Op, Nop, op_at, are_alike, label}
 use Rattle.iloc_meaning.proofs.Cases.{by_bool}
-use Rattle.iloc_facts.specs.Labels.{label}
-use Rattle.iloc_facts.specs.Counts.{are_alike}
 use Rattle.iloc_facts.proofs.AlikeOps.{alike_test}
 use Rattle.iloc_facts.proofs.CountsLike.{one_more, no_more}
 use Rattle.iloc_reasons.proofs.counterpart.count_before.Goals as goal

@@ -1,6 +1,4 @@
-use Rattle.std.proofs.Common.{◌≡◌, ◌≤◌, take}
-use Rattle.iloc_meaning.specs.Trace.{op_at}
-use Rattle.iloc_facts.specs.Counts.{count_like}
+use Rattle.iloc_reasons.proofs.Common.{◌≡◌, ◌≤◌, take, op_at, count_like}
 use Rattle.iloc_reasons.proofs.counterpart.count_before.Given as goal
 
 abbrev pub invariant-loop-j : goal.invariant-loop-j

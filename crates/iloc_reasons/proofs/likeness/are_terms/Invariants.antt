@@ -1,8 +1,4 @@
-use Rattle.iloc_reasons.specs.Steps.Terms.{behind, label_number, values_of}
-use Rattle.std.proofs.Common.{◌≡◌, ◌<◌, ℕ}
-use Rattle.std.specs.Prelude.{slice_index}
-use Rattle.iloc_meaning.specs.Trace.{op_at}
-use Rattle.iloc_facts.specs.Readings.{sources_at}
+use Rattle.iloc_reasons.proofs.Common.{◌≡◌, ℕ, ◌<◌, slice_index, op_at, sources_at, behind, label_number, values_of}
 use Rattle.iloc_reasons.proofs.likeness.are_terms.Given as goal
 
 abbrev pub invariant-loop-k : goal.invariant-loop-k

@@ -1,5 +1,4 @@
-use Rattle.std.proofs.Common.{◌≢◌, ◌<◌, ℕ, None}
-use Rattle.std.specs.Prelude.{slice_index}
+use Rattle.iloc_reasons.proofs.Common.{ℕ, ◌<◌, ◌≢◌, slice_index, None}
 use Rattle.std.specs.Ordering.{nat_cmp}
 use Rattle.std.specs.BTreeMap.{get}
 use Rattle.iloc_reasons.proofs.likeness.looked_up.Given as goal

@@ -1,5 +1,4 @@
-use Rattle.std.proofs.Common.{◌≡◌, map, take}
-use Rattle.iloc_facts.specs.declared.reading.Reading.{Reading}
+use Rattle.iloc_reasons.proofs.Common.{◌≡◌, map, take, Reading}
 use Rattle.iloc_reasons.proofs.likeness.sources_of.Given as goal
 
 abbrev pub invariant-loop-reading : goal.invariant-loop-reading

@@ -1,16 +1,4 @@
-use Rattle.std.proofs.Common.{◌≡◌, ◌≢◌, ◌<◌, ℕ, None, length, ap, ◌∙◌, arith, zero, suc, ◌+◌, ◌%◌, ◌^◌, List, [], ◌∷◌, map, Option, Some, refl, sym, ap₂}
-use Rattle.std.specs.Prelude.{slice_index, IfSome}
-use Rattle.iloc_ops.specs.Registers.{used}
-use Rattle.iloc_meaning.specs.Trace.{op_at}
-use Rattle.iloc_timed.specs.Rows.{issue_cycle, IsTable}
-use Rattle.iloc_facts.specs.declared.reading.Reading.{Reading}
-use Rattle.iloc_facts.specs.Readings.{read, given, result_in, sources_at, sources_of, reading_at}
-use Rattle.iloc_facts.specs.Labels.{label}
-use Rattle.iloc_reasons.specs.Steps.Terms.{AreTerms, behind, label_number, mixed, opcode_number, value_of, values_of}
-use Rattle.iloc_ops.specs.declared.op.Reg.{Reg}
-use Rattle.iloc_ops.specs.declared.op.Op.{Op}
-use Rattle.iloc_timed.specs.declared.latencies.Latencies.{Latencies}
-use Rattle.iloc_timed.specs.declared.row.Row.{Row}
+use Rattle.iloc_reasons.proofs.Common.{◌≡◌, ℕ, zero, suc, ◌+◌, ◌%◌, ◌^◌, ◌<◌, ◌≢◌, List, [], ◌∷◌, map, length, IfSome, slice_index, Some, None, Option, sym, refl, ap, ◌∙◌, ap₂, arith, used, Op, Reg, op_at, IsTable, issue_cycle, Latencies, Row, AreAlike, AreAllSources, AreSources, AreUnlike, label, given, read, reading_at, result_in, sources_at, sources_of, Reading, AreTerms, behind, label_number, mixed, opcode_number, value_of, values_of}
 use Rattle.iloc_rules.specs.Renaming.{Source, source}
 use Rattle.iloc_rules.specs.Renaming.Source.{Start, Result}
 use Rattle.iloc_rules.proofs.Basics.Slots.{issued_early}
@@ -20,7 +8,6 @@ use Rattle.iloc_facts.proofs.Issues.{numbers_from_issued}
 use Rattle.iloc_facts.proofs.LabelKeys.{same_constant, same_opcode}
 use Rattle.iloc_facts.proofs.ReadValues.{read_in}
 use Rattle.iloc_reasons.specs.declared.terms.Values.TheVariants.{One, Two}
-use Rattle.iloc_facts.specs.Facts.{AreAlike, AreAllSources, AreSources, AreUnlike}
 use Rattle.iloc_reasons.proofs.likeness.terms_of.Goals as goal
 
 -- Operations that are alike to every depth have one term.

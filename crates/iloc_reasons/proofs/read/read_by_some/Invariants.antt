@@ -1,6 +1,4 @@
-use Rattle.std.proofs.Common.{◌<◌, ℕ}
-use Rattle.iloc_facts.specs.Readings.{reading_at}
-use Rattle.iloc_reasons.specs.Steps.Sides.{IsNoted, source_at}
+use Rattle.iloc_reasons.proofs.Common.{ℕ, ◌<◌, reading_at, IsNoted, source_at}
 use Rattle.iloc_reasons.proofs.read.read_by_some.Given as goal
 
 abbrev pub invariant-loop-k : goal.invariant-loop-k

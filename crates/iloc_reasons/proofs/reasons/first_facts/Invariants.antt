@@ -1,6 +1,4 @@
-use Rattle.std.proofs.Common.{◌≡◌, ◌<◌, ◌≤◌, length}
-use Rattle.std.specs.Prelude.{All}
-use Rattle.iloc_facts.specs.Facts.{IsFact}
+use Rattle.iloc_reasons.proofs.Common.{◌≡◌, ◌<◌, ◌≤◌, length, All, IsFact}
 use Rattle.iloc_reasons.proofs.reasons.first_facts.Given as goal
 
 abbrev pub invariant-loop-claim : goal.invariant-loop-claim

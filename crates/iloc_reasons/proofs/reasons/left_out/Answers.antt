@@ -1,8 +1,4 @@
-use Rattle.std.proofs.Common.{◌≡◌, get_or}
-use Rattle.std.proofs.lemmas.List.{get_or_default}
-use Rattle.iloc_ops.specs.declared.op.Op.{Op}
-use Rattle.iloc_ops.specs.declared.op.Op.TheVariants.{Nop}
-use Rattle.iloc_meaning.specs.Trace.{op_at}
+use Rattle.iloc_reasons.proofs.Common.{◌≡◌, get_or, get_or_default, Op, Nop, op_at}
 use Rattle.iloc_facts.proofs.Changes.{left_out_is}
 use Rattle.iloc_reasons.proofs.reasons.left_out.Goals as goal
 
