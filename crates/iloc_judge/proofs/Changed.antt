@@ -1,22 +1,7 @@
 -- Rows by the book keep the operations of their block.
-use Rattle.std.proofs.Common.{◌≡◌, ◌≤◌, ◌<◌, ◌+◌, ◌==◌, ◌&&◌, ℕ, zero, suc, true, false, List, length, take, get_or, ap, ap₂, sym, ◌∙◌, count_by, arith}
-use Rattle.std.specs.List.{range_with_len}
-use Rattle.std.proofs.Math.Seq.{take-length}
-use Rattle.std.proofs.lemmas.Bool.{leb-true}
-use Rattle.std.proofs.lemmas.List.FromFn.{length-range_with_len, get_or-range_with_len}
+use Rattle.iloc_judge.proofs.Common.{◌≡◌, ℕ, zero, suc, ◌+◌, ◌<◌, ◌≤◌, true, false, ◌&&◌, List, length, get_or, take, ◌==◌, count_by, sym, ap, ◌∙◌, ap₂, arith, leb-true, take-length, get_or-range_with_len, length-range_with_len, range_with_len, Op, by_bool, op_at, Latencies, Row, without_nops, alike_itself, one_counted, count_like, lacking, lacks_counterpart, IsByTheBook, has_operations}
 use Rattle.std.proofs.lemmas.List.Sums.{count_by_more_no}
-use Rattle.iloc_ops.specs.declared.op.Op.{Op}
-use Rattle.iloc_meaning.specs.Trace.{op_at}
-use Rattle.iloc_meaning.proofs.Cases.{by_bool}
-use Rattle.iloc_rules.specs.Renaming.{without_nops}
-use Rattle.iloc_timed.specs.declared.latencies.Latencies.{Latencies}
-use Rattle.iloc_timed.specs.declared.row.Row.{Row}
-use Rattle.iloc_validation.specs.ByTheBook.{IsByTheBook}
-use Rattle.iloc_facts.specs.Counts.{count_like, lacks_counterpart, lacking}
-use Rattle.iloc_facts.proofs.AlikeOps.{alike_itself}
-use Rattle.iloc_facts.proofs.CountsLike.{one_counted}
 use Rattle.iloc_validation.proofs.PairedCounts.{paired_counts}
-use Rattle.iloc_verdict.specs.Kept.{has_operations}
 
 -- where there are as many of each label, none lacks a counterpart
 module _ (ops others : List Op) (same : (op : Op) → count_like op ops ≡ count_like op others) where

@@ -1,28 +1,15 @@
 -- Places can be counted: no more is emitted than is issued, and that in a row.
-use Rattle.std.proofs.Common.{◌≡◌, ◌<◌, ◌≤◌, Bool, ℕ, zero, suc, ◌+◌, ◌*◌, ◌^◌, List, [], ◌∷◌, length, length-append, Option, Some, None, option_to_list, arith, refl, ap}
-use Rattle.std.specs.Prelude.{ℤ, slice_get}
-use Rattle.std.proofs.lemmas.Bool.{cases_lt}
+use Rattle.iloc_judge.proofs.Common.{◌≡◌, ℕ, zero, suc, ◌+◌, ◌*◌, ◌^◌, ◌<◌, ◌≤◌, Bool, List, [], ◌∷◌, length, ℤ, slice_get, Some, None, Option, option_to_list, refl, ap, arith, length-append, cases_lt, Op, emitted, emitted_by, outcome, Executed, before, Outcome, slots, Latencies, Row, IsComparison, Comparison, Verdict, IsVerdict}
 use Rattle.std.proofs.lemmas.List.{length-map}
 use Rattle.std.proofs.lemmas.Option.{slice_get_past}
 use Rattle.iloc_ops.specs.Limits.{MAX_OPS}
-use Rattle.iloc_ops.specs.declared.op.Op.{Op}
 use Rattle.iloc_meaning.specs.declared.effect.Effect.{Effect}
 use Rattle.iloc_meaning.specs.declared.effect.Effect.TheVariants.{Faults}
-use Rattle.iloc_meaning.specs.declared.outcome.Outcome.{Outcome}
 use Rattle.iloc_meaning.specs.declared.outcome.Outcome.TheVariants as O
-use Rattle.iloc_meaning.specs.Outcome.{outcome, emitted, emitted_by}
-use Rattle.iloc_meaning.specs.Trace.{Executed, before}
 use Rattle.iloc_timed.specs.Limits.{MAX_ROWS}
-use Rattle.iloc_timed.specs.declared.latencies.Latencies.{Latencies}
-use Rattle.iloc_timed.specs.declared.row.Row.{Row}
-use Rattle.iloc_timed.specs.Rows.{slots}
 use Rattle.iloc_timed.specs.Timed.{issued_before, timed_outcome}
-use Rattle.iloc_comparison.specs.declared.comparison.Comparison.{Comparison}
 use Rattle.iloc_comparison.specs.declared.difference.Difference.{Difference}
-use Rattle.iloc_verdict.specs.declared.verdict.Verdict.{Verdict}
-use Rattle.iloc_comparison.specs.Comparison.{IsComparison}
 use Rattle.iloc_comparison.specs.Difference.{IsDifference}
-use Rattle.iloc_judge.specs.Verdict.{IsVerdict}
 use Rattle.iloc_verdict.specs.Counted.{IsCounted, CanBeCompared, CanBeListed}
 
 -- at most n words are emitted

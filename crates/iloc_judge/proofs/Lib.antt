@@ -1,3 +1,4 @@
+pub mod Common
 pub mod OwnRows
 pub mod Changed
 pub mod Sameness

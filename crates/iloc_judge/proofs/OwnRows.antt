@@ -1,13 +1,7 @@
 -- Rows that issue what a schedule of ours does keep the rules of the units.
-use Rattle.std.proofs.Common.{ℕ, List, length, arith}
-use Rattle.iloc_ops.specs.declared.op.Op.{Op}
-use Rattle.iloc_timed.specs.declared.latencies.Latencies.{Latencies}
-use Rattle.iloc_timed.specs.declared.row.Row.{Row}
-use Rattle.iloc_timed.specs.Rows.{IsTable}
-use Rattle.iloc_timed.specs.Schedule.{AreInRange, AreOnce, IsFirstBadRow}
+use Rattle.iloc_judge.proofs.Common.{ℕ, List, length, arith, Op, IsTable, AreInRange, AreOnce, IsFirstBadRow, Latencies, Row, IsByTheBook, IssueTheSame}
 use Rattle.iloc_timed.proofs.Standing.{numbered_from}
 use Rattle.iloc_rules.specs.Lawful.{IsLawful}
-use Rattle.iloc_validation.specs.ByTheBook.{IsByTheBook, IssueTheSame}
 use Rattle.iloc_validation.proofs.SameIssues.{own_by_the_book}
 
 no_bad_row : (ops : List Op) (rows : List Row) (c : ℕ) → IsTable ops rows → AreInRange (length ops) rows

@@ -1,39 +1,13 @@
 -- Rows that are found to be the same do what the block does, and rows pass only if they may.
-use Rattle.std.proofs.Common.{◌≡◌, ◌⊎◌, ◌&&◌, Bool, true, false, List, ℕ, sym, ap, ◌∙◌, inl, inr, ◌==◌, ◌<◌, ◌≤◌, zero, suc, ◌+◌, length, take, get_or, subst, arith}
-use Rattle.std.specs.Prelude.{ℤ, count_by}
-use Rattle.std.proofs.lemmas.Bool.{true≢false, and_from, and_parts, eqb-true, le-leb, cases_lt}
-use Rattle.iloc_ops.specs.declared.op.Op.{Op}
-use Rattle.iloc_meaning.specs.declared.outcome.Outcome.{Outcome}
-use Rattle.iloc_meaning.specs.Outcome.{shown}
-use Rattle.iloc_timed.specs.declared.latencies.Latencies.{Latencies}
-use Rattle.iloc_timed.specs.declared.row.Row.{Row}
-use Rattle.iloc_timed.specs.Rows.{IsTable}
-use Rattle.iloc_timed.specs.Schedule.{Table}
+use Rattle.iloc_judge.proofs.Common.{◌≡◌, ℕ, zero, suc, ◌+◌, ◌<◌, ◌≤◌, Bool, true, false, ◌&&◌, ◌⊎◌, List, length, get_or, take, ℤ, ◌==◌, count_by, sym, ap, ◌∙◌, subst, inl, inr, true≢false, arith, eqb-true, le-leb, take-length, and_from, and_parts, cases_lt, get_or-range_with_len, length-range_with_len, range_with_len, Op, by_bool, shown, op_at, Outcome, IsTable, Table, Latencies, Row, without_nops, count_same, counted, no_more, one_more, are_alike, count_like, lacking, lacks_counterpart, IsByTheBook, AgreesOnAll, IsComparison, Comparison, compared_kind, is_passing, kind_of, passes, AreItsOperations, keeps_operations, Checked, Verdict, IsVerdict}
 use Rattle.iloc_rows.specs.declared.proposal.Proposed.{Proposed}
-use Rattle.iloc_validation.specs.ByTheBook.{IsByTheBook}
 use Rattle.iloc_validation.proofs.Outcomes.{keeps_the_outcome}
-use Rattle.iloc_comparison.specs.declared.comparison.Comparison.{Comparison}
-use Rattle.iloc_comparison.specs.Comparison.{AgreesOnAll, IsComparison}
 use Rattle.iloc_terms.specs.Agreement.{AreAlike}
-use Rattle.iloc_verdict.specs.declared.verdict.Verdict.{Verdict}
 use Rattle.iloc_verdict.specs.declared.verdict.kind.VerdictKind.{VerdictKind}
 use Rattle.iloc_comparison.specs.Void.{CanBeJudged}
-use Rattle.iloc_judge.specs.Verdict.{IsVerdict}
-use Rattle.iloc_verdict.specs.declared.checked.Checked.{Checked}
-use Rattle.iloc_verdict.specs.Checked.{compared_kind, is_passing, kind_of, passes}
 use Rattle.iloc_judge.specs.Checked.{DoEnough, DoTheSame, IsCheck}
 use Rattle.iloc_comparison.specs.declared.task.CheckOptions.{CheckOptions}
-use Rattle.iloc_verdict.specs.Kept.{keeps_operations, AreItsOperations}
 use Rattle.iloc_judge.specs.Laws.{PassedRowsMayPass, SameRowsDoTheSame}
-use Rattle.std.specs.List.{range_with_len}
-use Rattle.std.proofs.Math.Seq.{take-length}
-use Rattle.std.proofs.lemmas.List.FromFn.{length-range_with_len, get_or-range_with_len}
-use Rattle.iloc_meaning.specs.Trace.{op_at}
-use Rattle.iloc_meaning.proofs.Cases.{by_bool}
-use Rattle.iloc_rules.specs.Renaming.{without_nops}
-use Rattle.iloc_facts.specs.Counts.{are_alike, count_like, lacks_counterpart, lacking}
-use Rattle.iloc_facts.proofs.AlikeOps.{count_same}
-use Rattle.iloc_facts.proofs.CountsLike.{counted, one_more, no_more}
 
 -- Operations of which none lacks a counterpart on either side are as many of each label.
 module _ (ops others : List Op) (none : lacking ops others ≡ 0) (op : Op) where

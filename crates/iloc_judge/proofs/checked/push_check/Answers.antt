@@ -1,7 +1,4 @@
-use Rattle.std.proofs.Common.{refl}
-use Rattle.iloc_verdict.specs.declared.checked.Checked.{Checked}
-use Rattle.iloc_verdict.specs.Checked.{passes}
-use Rattle.iloc_verdict.specs.Entry.{entry_as}
+use Rattle.iloc_judge.proofs.Common.{refl, passes, entry_as, Checked}
 use Rattle.iloc_judge.proofs.Counted.{verdict_listed}
 use Rattle.iloc_judge.proofs.checked.push_check.Goals as goal
 

@@ -1,7 +1,5 @@
-use Rattle.std.proofs.Common.{refl}
+use Rattle.iloc_judge.proofs.Common.{refl, passes, entry_as}
 use Rattle.iloc_verdict.specs.declared.verdict.Verdict.TheVariants.{Units}
-use Rattle.iloc_verdict.specs.Checked.{passes}
-use Rattle.iloc_verdict.specs.Entry.{entry_as}
 use Rattle.iloc_judge.proofs.OwnRows.{own_rows_keep_units}
 use Rattle.iloc_judge.proofs.checked.push_units.Goals as goal
 

@@ -1,5 +1,4 @@
-use Rattle.std.proofs.Common.{◌≡◌, ◌∙◌, true, false, refl, sym}
-use Rattle.iloc_verdict.specs.Kept.{has_operations}
+use Rattle.iloc_judge.proofs.Common.{◌≡◌, true, false, sym, refl, ◌∙◌, has_operations}
 use Rattle.iloc_judge.proofs.Changed.{changed_excludes}
 use Rattle.iloc_judge.proofs.Sameness.{kept}
 use Rattle.iloc_judge.proofs.verdict.decided.Goals as goal
