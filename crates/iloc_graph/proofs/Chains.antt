@@ -1,18 +1,6 @@
 -- A longest chain of delays runs along nearest pairs: where it went by way of an operation between, that would come first.
-use Rattle.std.proofs.Common.{◌≡◌, ℕ, ◌+◌, ◌<◌, ◌≤◌, List, [], ◌∷◌, inl, inr, arith}
-use Rattle.std.specs.Prelude.{Contains}
-use Rattle.iloc_ops.specs.declared.op.Op.{Op}
-use Rattle.iloc_meaning.specs.Trace.{op_at}
-use Rattle.iloc_timed.specs.declared.latencies.Latencies.{Latencies}
-use Rattle.iloc_rules.specs.declared.memory_rule.MemoryRule.{MemoryRule}
-use Rattle.iloc_rules.specs.Delays.{delays_where}
-use Rattle.iloc_rules.specs.Rule.{counts_by}
-use Rattle.iloc_rules.proofs.Basics.Maxima.{fold_max_each}
-use Rattle.iloc_rules.proofs.Basics.Members.{in_from}
-use Rattle.iloc_explain.specs.Chain.{Continues, IsChainFrom, IsNext, chain_by}
+use Rattle.iloc_graph.proofs.Common.{◌≡◌, ℕ, ◌+◌, ◌<◌, ◌≤◌, List, [], ◌∷◌, Contains, inl, inr, arith, Op, op_at, Latencies, fold_max_each, in_from, delays_where, counts_by, MemoryRule, Continues, IsChainFrom, IsNext, chain_by, ChainsRunAlongNearestPairs, RunsAlong, longest_delay, nearest_pairs}
 use Rattle.iloc_explain.proofs.ChainLengths.{is_chain}
-use Rattle.iloc_graph.specs.Laws.{ChainsRunAlongNearestPairs, RunsAlong}
-use Rattle.iloc_graph.specs.Nearest.{longest_delay, nearest_pairs}
 use Rattle.iloc_graph.proofs.Waiting.{in_nearest, near_or_by_way, nearest, nearest_is_delay}
 
 module _ (rule : MemoryRule) (lat : Latencies) (ops : List Op) where

@@ -1,8 +1,6 @@
 -- The lines of operations, one after another.
-use Rattle.std.proofs.Common.{◌∙◌, ap, arith, ◌≡◌, ◌<◌, ℕ, ◌+◌, List, ◌∷◌, ◌++◌, length, drop, get_or, append_assoc, add-one, drop-cons}
-use Rattle.iloc_ops.specs.declared.op.Op.{Op}
+use Rattle.iloc_graph.proofs.Common.{◌≡◌, ℕ, ◌+◌, ◌<◌, List, ◌∷◌, ◌++◌, length, get_or, drop, ap, ◌∙◌, append_assoc, add-one, arith, drop-cons, Op, node_line, node_lines}
 use Rattle.iloc_explain.proofs.ReadyLines.{joined}
-use Rattle.iloc_graph.specs.Listing.{node_line, node_lines}
 
 -- one more line
 pub line_more : (text new all : List ℕ) (k i : ℕ) (left rest : List Op) (prios : List ℕ) (op : Op) (d : ℕ)

@@ -1,10 +1,5 @@
 -- Members of joined lists, and rising lists; for the other proofs.
-use Rattle.std.proofs.Common.{◌≡◌, ℕ, ◌<◌, suc, Bool, false, List, [], ◌∷◌, length, get_or, inl, inr, refl, sym, subst, arith}
-use Rattle.std.specs.Prelude.{Contains}
-use Rattle.std.specs.List.{AllPairs, flat_map, list_any}
-use Rattle.iloc_rules.specs.Steps.Members.{In}
-use Rattle.iloc_rules.proofs.Basics.Members.{contains_from, in_left, in_right, from_append}
-use Rattle.iloc_rules.proofs.Basics.Rising.{Rises}
+use Rattle.iloc_graph.proofs.Common.{◌≡◌, ℕ, suc, ◌<◌, Bool, false, List, [], ◌∷◌, length, get_or, Contains, sym, refl, subst, inl, inr, arith, AllPairs, flat_map, list_any, contains_from, from_append, in_left, in_right, Rises, In}
 
 pub in_flat_map : {X Y : Type 0} (f : X → List Y) (xs : List X) (x : X) (y : Y) → In xs x → In (f x) y
     → In (flat_map f xs) y

@@ -1,22 +1,6 @@
 -- The operations from which kept edges lead to another, in order, are those from which nearest pairs do.
-use Rattle.std.proofs.Common.{◌≡◌, ℕ, ◌+◌, ◌<◌, ◌≤◌, true, List, length, map, subst, arith}
-use Rattle.std.specs.Prelude.{All, Any, Contains, slice_index}
-use Rattle.std.specs.List.{range_with_len}
-use Rattle.std.proofs.lemmas.List.Kept.{AllPairs-from_increasing}
-use Rattle.iloc_ops.specs.declared.op.Op.{Op}
-use Rattle.iloc_meaning.specs.Trace.{op_at}
-use Rattle.iloc_timed.specs.declared.latencies.Latencies.{Latencies}
-use Rattle.iloc_rules.specs.declared.memory_rule.MemoryRule.{MemoryRule}
-use Rattle.iloc_rules.specs.Delays.{delays_where}
-use Rattle.iloc_rules.specs.Rule.{counts_by}
-use Rattle.iloc_sched.specs.Graph.Near.{IsNearPairBy}
-use Rattle.iloc_sched.specs.declared.edges.Edge.{Edge}
-use Rattle.iloc_rules.specs.Steps.Members.{In}
-use Rattle.iloc_rules.proofs.Basics.Members.{contains_from, from_filter, from_map, from_range, in_at, in_filter, in_from, in_map, in_range_from}
+use Rattle.iloc_graph.proofs.Common.{◌≡◌, ℕ, ◌+◌, ◌<◌, ◌≤◌, true, List, map, length, slice_index, All, Contains, Any, subst, arith, AllPairs-from_increasing, range_with_len, Op, op_at, Latencies, contains_from, from_filter, from_map, from_range, in_at, in_filter, in_from, in_map, in_range_from, rises_range, rises_same, delays_where, counts_by, In, MemoryRule, IsNearPairBy, Edge, is_nearest, sources, IsInOrder}
 use Rattle.iloc_rules.proofs.Basics.Ordered.{ordered_filter}
-use Rattle.iloc_rules.proofs.Basics.Rising.{rises_range, rises_same}
-use Rattle.iloc_graph.specs.Nearest.{is_nearest, sources}
-use Rattle.iloc_graph.specs.Steps.InOrder.{IsInOrder}
 use Rattle.iloc_graph.proofs.Lists.{rises_from}
 use Rattle.iloc_graph.proofs.Waiting.{delayed, near_by, near_under, nearest}
 

@@ -1,32 +1,13 @@
 -- Rows that wait for the nearest pairs wait for all delays, and the other way round.
-use Rattle.std.proofs.Common.{◌≡◌, ℕ, zero, suc, ◌+◌, ◌-◌, ◌<◌, ◌≤◌, not, true, false, List, length, inl, inr, refl, sym, ◌∙◌, ap, subst, arith, ◌⊎◌, ◌&&◌, Bool}
-use Rattle.std.specs.Prelude.{IsTrue}
-use Rattle.std.specs.Prelude.{Contains}
-use Rattle.std.specs.List.{range_with_len}
-use Rattle.std.proofs.lemmas.Bool.{and_from, and_parts, false≢true, not-true, not_from_false, or_cases, or_left, or_right, false_from_ne_true}
-use Rattle.iloc_ops.specs.declared.op.Op.{Op}
-use Rattle.iloc_meaning.specs.Trace.{op_at}
-use Rattle.iloc_timed.specs.declared.latencies.Latencies.{Latencies}
+use Rattle.iloc_graph.proofs.Common.{◌≡◌, ℕ, zero, suc, ◌+◌, ◌-◌, ◌<◌, ◌≤◌, Bool, true, false, not, ◌&&◌, ◌⊎◌, List, length, IsTrue, Contains, sym, refl, ap, ◌∙◌, subst, inl, inr, arith, and_from, and_parts, false_from_ne_true, false≢true, not-true, not_from_false, or_cases, or_left, or_right, range_with_len, Op, op_at, latency, Latencies, fold_max_each, fold_max_reached, any_at, contains_from, from_append, from_filter, from_map, from_range, in_filter, in_from, in_left, in_map, in_range_from, in_right, delay_at_least_where, from_when, in_when, IsDelayPairWhere, delays_where, keeps_order_where, memory_delays_where, reads_stored, uses_result, when, counts_by, In, Pair, MemoryRule, IsNearBy, NearestPairsImplyAll, WaitsForNearest, is_nearest, is_ordered, is_taken_over, longest_delay, nearest_pairs, nearest_to, pair_of, sources, takes_over_by}
 use Rattle.iloc_timed.specs.declared.row.Row.{Row}
 use Rattle.iloc_timed.specs.Kinds.{kind}
-use Rattle.iloc_timed.specs.Latency.{latency}
 use Rattle.iloc_timed.specs.Rows.{issue_cycle}
-use Rattle.iloc_rules.specs.declared.memory_rule.MemoryRule.{MemoryRule}
 use Rattle.iloc_rules.specs.declared.memory_rule.MemoryRule.TheVariants.{Address, Book}
 use Rattle.iloc_rules.specs.Apart.{by_address}
-use Rattle.iloc_rules.specs.Rule.{counts_by}
 use Rattle.iloc_rules.specs.Steps.Ways.{GoesBy}
-use Rattle.iloc_rules.specs.declared.delay_pairs.Pair.{Pair}
-use Rattle.iloc_rules.specs.Delays.{IsDelayPairWhere, delays_where, keeps_order_where, memory_delays_where, reads_stored, uses_result, when}
-use Rattle.iloc_rules.specs.Steps.Members.{In}
-use Rattle.iloc_rules.proofs.Basics.Maxima.{fold_max_each, fold_max_reached}
-use Rattle.iloc_rules.proofs.Basics.Members.{any_at, contains_from, from_append, from_filter, from_map, from_range, in_filter, in_from, in_left, in_map, in_range_from, in_right}
-use Rattle.iloc_rules.proofs.DelayPairs.DelayBounds.{delay_at_least_where, from_when, in_when}
 use Rattle.iloc_addresses.proofs.FarPairs as by_addresses
-use Rattle.iloc_sched.specs.Graph.Near.{IsNearBy}
 use Rattle.iloc_sched.proofs.KeptEdges.FarPairs as by_the_book
-use Rattle.iloc_graph.specs.Laws.{NearestPairsImplyAll, WaitsForNearest}
-use Rattle.iloc_graph.specs.Nearest.{is_nearest, is_ordered, is_taken_over, longest_delay, nearest_pairs, nearest_to, pair_of, sources, takes_over_by}
 use Rattle.iloc_graph.proofs.Lists.{any_none, from_flat_map, in_flat_map}
 
 -- by a rule of memory operation j uses the result of operation i, or comes after it with none between that takes its place

@@ -1,12 +1,8 @@
-use Rattle.std.proofs.lemmas.Grind.{common_steps}
-use Rattle.std.proofs.Common.{◌++◌, ◌∙◌, ap, arith, refl}
+use Rattle.iloc_graph.proofs.Common.{◌++◌, refl, ap, ◌∙◌, arith, common_steps, chains_by, head_lines, nearest_pairs}
 use Rattle.iloc_rules.specs.declared.heuristic.Heuristic.TheVariants.{Chain}
 use Rattle.iloc_rules.proofs.PriorityValues.LongestWhere.{length_where}
 use Rattle.iloc_rules.proofs.PriorityValues.Named.{ruled_priorities}
 use Rattle.iloc_rules.proofs.Renamed.MentionedSources.{length-renamed_by}
-use Rattle.iloc_explain.specs.Chain.{chains_by}
-use Rattle.iloc_graph.specs.Listing.{head_lines}
-use Rattle.iloc_graph.specs.Nearest.{nearest_pairs}
 use Rattle.iloc_graph.proofs.Lines.{cluster_grown}
 use Rattle.iloc_graph.proofs.cluster.push_cluster.Goals as goal
 

@@ -1,6 +1,4 @@
-use Rattle.std.specs.Prelude.{◌≡◌, ◌++◌, take}
-use Rattle.std.specs.List.{flat_map}
-use Rattle.iloc_graph.specs.Listing.{edge_line}
+use Rattle.iloc_graph.proofs.Common.{◌≡◌, ◌++◌, take, flat_map, edge_line}
 use Rattle.iloc_graph.proofs.cluster.push_edges.Given as goal
 
 abbrev pub invariant-loop-pair : goal.invariant-loop-pair

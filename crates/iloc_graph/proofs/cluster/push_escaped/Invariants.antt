@@ -1,6 +1,4 @@
-use Rattle.std.specs.Prelude.{◌≡◌, ◌++◌, take}
-use Rattle.std.specs.List.{flat_map}
-use Rattle.iloc_graph.specs.Listing.{escaped_byte}
+use Rattle.iloc_graph.proofs.Common.{◌≡◌, ◌++◌, take, flat_map, escaped_byte}
 use Rattle.iloc_graph.proofs.cluster.push_escaped.Given as goal
 
 abbrev pub invariant-loop-byte : goal.invariant-loop-byte

@@ -1,6 +1,4 @@
-use Rattle.std.specs.Prelude.{◌≡◌, ◌++◌, codes, take}
-use Rattle.std.specs.List.{flat_map}
-use Rattle.iloc_graph.specs.Listing.{node}
+use Rattle.iloc_graph.proofs.Common.{◌≡◌, ◌++◌, take, codes, flat_map, node}
 use Rattle.iloc_graph.proofs.cluster.push_links.Given as goal
 
 abbrev pub invariant-loop-i : goal.invariant-loop-i

@@ -1,6 +1,4 @@
-use Rattle.std.specs.Prelude.{◌≡◌, ◌++◌, take}
-use Rattle.std.specs.List.{flat_map}
-use Rattle.iloc_graph.specs.Listing.{indent, marked, node}
+use Rattle.iloc_graph.proofs.Common.{◌≡◌, ◌++◌, take, flat_map, indent, marked, node}
 use Rattle.iloc_graph.proofs.cluster.push_marked.Given as goal
 
 abbrev pub invariant-loop-i : goal.invariant-loop-i

@@ -1,5 +1,4 @@
-use Rattle.std.proofs.Common.{◌≡◌, ◌<◌, ◌+◌, length, drop, ap, arith}
-use Rattle.iloc_rules.specs.Renaming.{without_nops}
+use Rattle.iloc_graph.proofs.Common.{◌≡◌, ◌+◌, ◌<◌, length, drop, ap, arith, without_nops}
 use Rattle.iloc_explain.proofs.Lines.{nop_passed, op_taken}
 use Rattle.iloc_graph.proofs.Lines.{line_more}
 use Rattle.iloc_graph.proofs.cluster.push_operations.Goals as goal

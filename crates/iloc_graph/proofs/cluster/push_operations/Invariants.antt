@@ -1,6 +1,4 @@
-use Rattle.std.proofs.Common.{◌≡◌, ◌+◌, ◌++◌, drop, length}
-use Rattle.iloc_rules.specs.Renaming.{without_nops}
-use Rattle.iloc_graph.specs.Listing.{node_lines}
+use Rattle.iloc_graph.proofs.Common.{◌≡◌, ◌+◌, ◌++◌, length, drop, without_nops, node_lines}
 use Rattle.iloc_graph.proofs.cluster.push_operations.Given as goal
 
 abbrev pub invariant-loop-op : goal.invariant-loop-op

@@ -1,16 +1,5 @@
-use Rattle.std.proofs.Common.{◌≡◌, ℕ, ◌≤◌, Bool, List, ap, inl, inr, sym, subst, ◌∙◌, arith}
-use Rattle.std.specs.Prelude.{Contains}
-use Rattle.std.proofs.lemmas.Bool.{false≢true}
-use Rattle.std.proofs.lemmas.List.{get_or_default}
-use Rattle.iloc_ops.specs.declared.op.Op.{Op}
+use Rattle.iloc_graph.proofs.Common.{◌≡◌, ℕ, ◌≤◌, Bool, List, Contains, sym, ap, ◌∙◌, subst, inl, inr, arith, false≢true, get_or_default, Op, latency, Latencies, fold_max_each, fold_max_reached, contains_from, in_from, delay_at_most_where, delay_is_where, delays_where, longest_delay}
 use Rattle.iloc_ops.specs.declared.op.Op.TheVariants.{Nop}
-use Rattle.iloc_timed.specs.declared.latencies.Latencies.{Latencies}
-use Rattle.iloc_timed.specs.Latency.{latency}
-use Rattle.iloc_rules.specs.Delays.{delays_where}
-use Rattle.iloc_rules.proofs.Basics.Maxima.{fold_max_each, fold_max_reached}
-use Rattle.iloc_rules.proofs.Basics.Members.{contains_from, in_from}
-use Rattle.iloc_rules.proofs.DelayPairs.DelayBounds.{delay_at_most_where, delay_is_where}
-use Rattle.iloc_graph.specs.Nearest.{longest_delay}
 use Rattle.iloc_graph.proofs.nearest.longest_delay.Goals as goal
 
 -- A delay is the latency of the first or a cycle, so the longest is the latency where that is one of them.

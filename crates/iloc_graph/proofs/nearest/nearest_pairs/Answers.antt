@@ -1,5 +1,4 @@
-use Rattle.std.proofs.lemmas.Grind.{common_steps}
-use Rattle.std.proofs.Common.{arith, ◌∙◌}
+use Rattle.iloc_graph.proofs.Common.{◌∙◌, arith, common_steps}
 use Rattle.iloc_graph.proofs.Pairs.{one_more}
 use Rattle.iloc_graph.proofs.Sources.{source_earlier}
 use Rattle.iloc_graph.proofs.nearest.nearest_pairs.Goals as goal

@@ -1,6 +1,4 @@
-use Rattle.std.specs.Prelude.{◌≡◌}
-use Rattle.std.specs.List.{flat_map, range_with_len}
-use Rattle.iloc_graph.specs.Nearest.{nearest_to}
+use Rattle.iloc_graph.proofs.Common.{◌≡◌, flat_map, range_with_len, nearest_to}
 use Rattle.iloc_graph.proofs.nearest.nearest_pairs.Given as goal
 
 abbrev pub invariant-loop-second : goal.invariant-loop-second

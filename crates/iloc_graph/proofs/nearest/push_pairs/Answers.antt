@@ -1,6 +1,4 @@
-use Rattle.std.proofs.lemmas.Grind.{common_steps}
-use Rattle.std.proofs.lemmas.List.{get_or_default}
-use Rattle.std.proofs.Common.{arith}
+use Rattle.iloc_graph.proofs.Common.{arith, common_steps, get_or_default}
 use Rattle.iloc_graph.proofs.Pairs.{pair_added}
 use Rattle.iloc_graph.proofs.nearest.push_pairs.Goals as goal
 

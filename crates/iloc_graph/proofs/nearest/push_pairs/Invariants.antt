@@ -1,5 +1,4 @@
-use Rattle.std.specs.Prelude.{◌≡◌, ◌++◌, map, take}
-use Rattle.iloc_graph.specs.Nearest.{pair_of}
+use Rattle.iloc_graph.proofs.Common.{◌≡◌, ◌++◌, map, take, pair_of}
 use Rattle.iloc_graph.proofs.nearest.push_pairs.Given as goal
 
 abbrev pub invariant-loop-first : goal.invariant-loop-first

@@ -1,14 +1,9 @@
-use Rattle.std.proofs.Common.{◌≡◌, map, eqb, ap, subst, ◌∙◌, ℕ, List, sym}
-use Rattle.std.proofs.lemmas.List.{take_all}
+use Rattle.iloc_graph.proofs.Common.{◌≡◌, ℕ, eqb, List, map, sym, ap, ◌∙◌, subst, take_all, Contains-dedup_nat, Contains-from_dedup, dedup, Edge, IsInOrder}
 use Rattle.std.proofs.lemmas.List.Filters.{dedup_is}
-use Rattle.iloc_sched.specs.declared.edges.Edge.{Edge}
-use Rattle.iloc_graph.specs.Steps.InOrder.{IsInOrder}
 use Rattle.iloc_graph.proofs.Sources.{sources_are}
-use Rattle.std.specs.List.{dedup}
 use Rattle.std.specs.List.Sorted.{IsPermutation, IsSorted}
 use Rattle.std.specs.Ordering.{nat_cmp}
 use Rattle.std.proofs.lemmas.List.Sorted.{Contains-permutation, IsPermutation-sym}
-use Rattle.std.proofs.lemmas.List.Kept.{Contains-dedup_nat, Contains-from_dedup}
 use Rattle.std.proofs.lemmas.Map.Keys.{IsStrictlyIncreasing-dedup}
 use Rattle.iloc_graph.proofs.nearest.sources.Goals as goal
 

@@ -1,5 +1,4 @@
-use Rattle.std.specs.Prelude.{◌≡◌, map, take}
-use Rattle.iloc_sched.specs.declared.edges.Edge.{Edge}
+use Rattle.iloc_graph.proofs.Common.{◌≡◌, map, take, Edge}
 use Rattle.iloc_graph.proofs.nearest.sources.Given as goal
 
 abbrev pub invariant-loop-edge : goal.invariant-loop-edge
