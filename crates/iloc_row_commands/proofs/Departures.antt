@@ -1,26 +1,19 @@
 -- Until rows leave the greedy choice they take what the greedy schedule takes; for `departure_of`.
-use Rattle.std.proofs.Common.{◌≡◌, ◌<◌, ◌≤◌, ℕ, ◌+◌, zero, suc, Bool, true, false, List, [], ◌∷◌, length, Option, Some, None, ◌⊎◌, inl, inr, refl, ap, sym, ◌∙◌, arith}
-use Rattle.std.specs.Prelude.{find, fold, max, not, option_map}
+use Rattle.iloc_row_commands.proofs.Common.{◌≡◌, ℕ, zero, suc, ◌+◌, ◌<◌, ◌≤◌, max, Bool, true, false, not, ◌⊎◌, List, [], ◌∷◌, length, Some, None, fold, Option, option_map, find, sym, refl, ap, ◌∙◌, inl, inr, true≢false, arith, Op, cycles, holds, issue_cycle, row_at, slots, Latencies, IsGreedyBy, chosen, ready, choice_at, departure, leaves_choice, take_the_same}
 use Rattle.std.specs.List.{list_all, range_with_len}
-use Rattle.std.proofs.lemmas.Bool.{and_parts, cases_eq, cases_lt, not-false, true≢false}
+use Rattle.std.proofs.lemmas.Bool.{and_parts, cases_eq, cases_lt, not-false}
 use Rattle.std.proofs.lemmas.Option.{none-some}
-use Rattle.iloc_ops.specs.declared.op.Op.{Op}
 use Rattle.iloc_meaning.specs.Trace.{op_at}
 use Rattle.iloc_meaning.proofs.Cases.{by_bool}
-use Rattle.iloc_timed.specs.declared.latencies.Latencies.{Latencies}
 use Rattle.iloc_timed.specs.declared.row.Row.{Row}
-use Rattle.iloc_timed.specs.Cycles.{cycles}
 use Rattle.iloc_timed.specs.Latency.{latency}
-use Rattle.iloc_timed.specs.Rows.{row_at, slots, holds, issue_cycle}
 use Rattle.iloc_rules.specs.Delays.{all_count}
-use Rattle.iloc_rules.specs.Greedy.{IsGreedyBy, chosen, ready}
 use Rattle.iloc_rules.specs.Lawful.{IsLawful}
 use Rattle.iloc_rules.specs.Steps.Members.{In}
 use Rattle.iloc_rules.proofs.Basics.IssueCycles.{issued_by, row_at_past}
 use Rattle.iloc_rules.proofs.Basics.Members.{empty_from, from_all, from_range, map_same}
 use Rattle.iloc_rules.proofs.Basics.Slots.{cycle_is, from_holds, holds_from, issued_within, stands_there}
 use Rattle.iloc_rules.proofs.Choice.Ready.{SameBelow, ready_means, ready_same}
-use Rattle.iloc_row_commands.specs.Explain.Departure.{choice_at, departure, leaves_choice, take_the_same}
 
 -- what one of two such rows holds, the other does
 pub held_alike : (row other : Row) (i : ℕ) → take_the_same row other ≡ true → holds row i ≡ holds other i

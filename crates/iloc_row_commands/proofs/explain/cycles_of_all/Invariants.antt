@@ -1,5 +1,4 @@
-use Rattle.std.proofs.Common.{◌≡◌, ◌≤◌, ◌*◌, sum_by, take}
-use Rattle.iloc_listing.specs.Limits.{most_proposed_cycles}
+use Rattle.iloc_row_commands.proofs.Common.{◌≡◌, ◌*◌, ◌≤◌, take, sum_by, most_proposed_cycles}
 use Rattle.iloc_row_commands.proofs.explain.cycles_of_all.Given as goal
 
 abbrev pub invariant-loop-one : goal.invariant-loop-one

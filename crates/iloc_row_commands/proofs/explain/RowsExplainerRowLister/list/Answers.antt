@@ -1,21 +1,7 @@
-use Rattle.std.proofs.Common.{◌≡◌, ◌≤◌, ℕ, List, ◌++◌, length, arith, refl, ap, ◌∙◌, Option}
-use Rattle.std.specs.Prelude.{codes}
-use Rattle.iloc_ops.specs.declared.op.Op.{Op}
-use Rattle.iloc_ops.specs.declared.file.Block.{Block}
-use Rattle.iloc_timed.specs.Limits.{MAX_ROWS}
-use Rattle.iloc_timed.specs.declared.latencies.Latencies.{Latencies}
-use Rattle.iloc_timed.specs.Schedule.{Table}
-use Rattle.iloc_rows.specs.declared.proposal.Proposed.{Proposed}
+use Rattle.iloc_row_commands.proofs.Common.{◌≡◌, ℕ, ◌≤◌, List, ◌++◌, length, codes, Option, refl, ap, ◌∙◌, arith, Block, Op, MAX_ROWS, Table, Latencies, Proposed, cycles_within, the_greedy, most_proposed_cycles, block_head, parts_joined, Adds, IsRowsExplanation, ExplainedRows}
 use Rattle.iloc_rules.specs.declared.heuristic.Heuristic.{Heuristic}
-use Rattle.iloc_row_commands.specs.declared.explain.explained.ExplainedRows.{ExplainedRows}
-use Rattle.iloc_row_commands.specs.Explain.Explained.{IsRowsExplanation}
 use Rattle.iloc_row_commands.specs.Explain.{IsRowsEntry}
-use Rattle.iloc_listing.specs.Listing.{block_head}
 use Rattle.iloc_listing.specs.Schedules.{IsGreedyAs}
-use Rattle.iloc_listing.specs.Limits.{most_proposed_cycles}
-use Rattle.iloc_driver.specs.Entries.{Adds}
-use Rattle.iloc_driver.proofs.Entries.{parts_joined}
-use Rattle.iloc_listing.proofs.Schedules.{the_greedy, cycles_within}
 use Rattle.iloc_row_commands.proofs.explain.RowsExplainerRowLister.list.Goals as goal
 
 -- What explains proposals.

@@ -1,10 +1,5 @@
-use Rattle.std.proofs.Common.{◌∙◌, arith, length, refl, rules, sym, tests}
-use Rattle.std.specs.Prelude.{not}
-use Rattle.std.proofs.lemmas.Iterator.{YieldsList-from_range}
+use Rattle.iloc_row_commands.proofs.Common.{not, length, sym, refl, ◌∙◌, arith, rules, tests, YieldsList-from_range, find_from_yields_List, row_at, take_the_same}
 use Rattle.std.proofs.lemmas.Iterator.Adapters.{option_map_id}
-use Rattle.std.proofs.lemmas.Iterator.Search.{find_from_yields_List}
-use Rattle.iloc_timed.specs.Rows.{row_at}
-use Rattle.iloc_row_commands.specs.Explain.Departure.{take_the_same}
 use Rattle.iloc_row_commands.proofs.explain.departure.first_unlike.Goals as goal
 
 pub returns : goal.returns

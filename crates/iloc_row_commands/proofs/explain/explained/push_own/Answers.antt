@@ -1,5 +1,4 @@
-use Rattle.std.proofs.Common.{◌≡◌, ◌∙◌, ap, sym}
-use Rattle.std.proofs.lemmas.Result.{on_ok_weaker}
+use Rattle.iloc_row_commands.proofs.Common.{◌≡◌, sym, ap, ◌∙◌, on_ok_weaker}
 use Rattle.iloc_rules.specs.declared.memory_rule.MemoryRule.TheVariants.{Book}
 use Rattle.iloc_rules.specs.Heuristics.{priorities_by}
 use Rattle.iloc_sched.specs.Graph.GraphOf.{GraphOf}

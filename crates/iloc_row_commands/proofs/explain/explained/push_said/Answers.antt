@@ -1,7 +1,5 @@
-use Rattle.std.proofs.Common.{◌∙◌, append_assoc, inl, inr, refl}
+use Rattle.iloc_row_commands.proofs.Common.{refl, ◌∙◌, inl, inr, append_assoc, reasons_told, not_lawful}
 use Rattle.iloc_validation.proofs.Outcomes.{own_lawful}
-use Rattle.iloc_verdict.specs.Entry.Reasons.{reasons_told}
-use Rattle.iloc_row_commands.specs.Explain.Explained.{not_lawful}
 use Rattle.iloc_row_commands.proofs.explain.explained.push_said.Goals as goal
 
 pub own_rows-requires-clause-right : goal.own_rows-requires-clause-right

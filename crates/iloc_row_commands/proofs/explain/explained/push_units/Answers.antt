@@ -1,6 +1,4 @@
-use Rattle.std.proofs.Common.{◌++◌, ◌∙◌, ap, append_assoc}
-use Rattle.std.specs.Prelude.{codes}
-use Rattle.std.proofs.lemmas.Result.{on_ok_weaker}
+use Rattle.iloc_row_commands.proofs.Common.{◌++◌, codes, ap, ◌∙◌, append_assoc, on_ok_weaker}
 use Rattle.iloc_verdict.specs.Entry.Listing.{bad_row}
 use Rattle.iloc_row_commands.proofs.explain.explained.push_units.Goals as goal
 

@@ -1,7 +1,4 @@
-use Rattle.std.proofs.Common.{◌++◌, ◌∙◌, ap, append_assoc, refl}
-use Rattle.std.specs.Prelude.{codes}
-use Rattle.std.proofs.lemmas.Result.{on_ok_weaker}
-use Rattle.iloc_row_commands.specs.Explain.Explained.{not_lawful}
+use Rattle.iloc_row_commands.proofs.Common.{◌++◌, codes, refl, ap, ◌∙◌, append_assoc, on_ok_weaker, not_lawful}
 use Rattle.iloc_row_commands.proofs.explain.explained.push_unread_rows.Goals as goal
 
 pub returns : goal.returns

@@ -1,6 +1,5 @@
-use Rattle.std.proofs.Common.{◌≡◌, ◌≤◌, ◌*◌, take}
+use Rattle.iloc_row_commands.proofs.Common.{◌≡◌, ◌*◌, ◌≤◌, take, most_cycles, most_proposed_cycles}
 use Rattle.iloc_row_commands.specs.Steps.Checking.{totals_of}
-use Rattle.iloc_listing.specs.Limits.{most_cycles, most_proposed_cycles}
 use Rattle.iloc_row_commands.proofs.totals.Totals.«of».Given as goal
 
 abbrev pub invariant-loop-checked : goal.invariant-loop-checked

@@ -1,7 +1,4 @@
-use Rattle.std.proofs.Common.{◌∙◌, ap, rules, tests}
-use Rattle.std.proofs.lemmas.Iterator.{YieldsList-from_slice}
-use Rattle.std.proofs.lemmas.Iterator.Search.{all_from_yields_List}
-use Rattle.iloc_driver.specs.Fault.{finding_of}
+use Rattle.iloc_row_commands.proofs.Common.{ap, ◌∙◌, rules, tests, YieldsList-from_slice, all_from_yields_List, finding_of}
 use Rattle.iloc_row_commands.proofs.trace.RowsTracerRowLister.finding.Goals as goal
 
 pub returns : goal.returns

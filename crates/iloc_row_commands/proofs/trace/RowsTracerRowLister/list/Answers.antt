@@ -1,13 +1,6 @@
+use Rattle.iloc_row_commands.proofs.Common.{◌≡◌, ℕ, Bool, List, ◌++◌, ℤ, codes, Option, arith, Block, Latencies, Proposed, block_head, parts_joined, Adds}
 use Rattle.iloc_timed.proofs.WholeRuns.{if_ok}
-use Rattle.std.proofs.Common.{◌≡◌, ℕ, Bool, List, ◌++◌, Option, arith}
-use Rattle.std.specs.Prelude.{ℤ, codes}
-use Rattle.iloc_ops.specs.declared.file.Block.{Block}
-use Rattle.iloc_timed.specs.declared.latencies.Latencies.{Latencies}
-use Rattle.iloc_rows.specs.declared.proposal.Proposed.{Proposed}
 use Rattle.iloc_row_commands.specs.Trace.{IsRowsTraceEntry, IsTraceOf}
-use Rattle.iloc_listing.specs.Listing.{block_head}
-use Rattle.iloc_driver.specs.Entries.{Adds}
-use Rattle.iloc_driver.proofs.Entries.{parts_joined}
 use Rattle.iloc_row_commands.proofs.trace.RowsTracerRowLister.list.Goals as goal
 
 -- What proposals do.
