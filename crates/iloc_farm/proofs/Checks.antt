@@ -1,27 +1,14 @@
 -- What holds of rows that pass.
-use Rattle.std.proofs.Common.{◌≡◌, ℕ, ◌+◌, Bool, true, false, List, [], ◌∷◌, length, arith, refl, ap, Option}
-use Rattle.std.specs.Prelude.{ℤ}
-use Rattle.std.specs.List.{AllZip, list_all, zip}
+use Rattle.iloc_farm.proofs.Common.{◌≡◌, ℕ, ◌+◌, Bool, true, false, List, [], ◌∷◌, length, ℤ, Option, refl, ap, arith, AllZip, list_all, zip, Block, Op, Table, Latencies, Proposed, MemoryRule, DoTheSame, MayPass, AreEntries, finding_of, Passed, IsCheckEntry, ListsChecked, PassedChecksKeepOutcomes, PassedChecksMayPass}
 use Rattle.std.proofs.lemmas.Bool.{and_parts}
-use Rattle.iloc_ops.specs.declared.op.Op.{Op}
-use Rattle.iloc_ops.specs.declared.file.Block.{Block}
-use Rattle.iloc_timed.specs.Schedule.{Table}
-use Rattle.iloc_timed.specs.declared.latencies.Latencies.{Latencies}
-use Rattle.iloc_rows.specs.declared.proposal.Proposed.{Proposed}
-use Rattle.iloc_rules.specs.declared.memory_rule.MemoryRule.{MemoryRule}
 use Rattle.iloc_rows.specs.declared.proposal.unread.Unread.{Unread}
-use Rattle.iloc_judge.specs.Checked.{DoTheSame, MayPass}
 use Rattle.iloc_verdict.specs.Checked.{passes}
 use Rattle.iloc_verdict.specs.Unread.{IsUnread}
 use Rattle.iloc_verdict.specs.declared.checked.Checked.{Checked}
 use Rattle.iloc_comparison.specs.declared.task.CheckOptions.{CheckOptions}
 use Rattle.iloc_comparison.specs.declared.task.Form.{Form}
 use Rattle.iloc_judge.proofs.Sameness.{passed_is_same, passed_rows_may_pass, same_rows_do_the_same}
-use Rattle.iloc_row_commands.specs.Check.{IsCheckEntry, IsSaid, ListsChecked}
-use Rattle.iloc_driver.specs.Entries.{AreEntries}
-use Rattle.iloc_driver.specs.Fault.{finding_of}
-use Rattle.iloc_farm.specs.Laws.{PassedChecksKeepOutcomes, PassedChecksMayPass}
-use Rattle.iloc_driver.specs.declared.commands.Finding.TheVariants.{Passed}
+use Rattle.iloc_row_commands.specs.Check.{IsSaid}
 
 all_pass : (b : Bool) → Passed ≡ finding_of b → b ≡ true
 all_pass true is = refl

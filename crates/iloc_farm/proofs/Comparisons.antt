@@ -1,18 +1,9 @@
 -- What is counted as optimal is.
-use Rattle.std.proofs.Common.{◌≡◌, ◌==◌, ℕ, Bool, true, false, if◌then◌else◌, List, Option, Some, None, refl, sym, ap, subst, ◌∙◌, arith}
-use Rattle.std.proofs.lemmas.Bool.{eqb-true}
+use Rattle.iloc_farm.proofs.Common.{◌≡◌, ℕ, Bool, true, false, List, if◌then◌else◌, ◌==◌, Some, None, Option, sym, refl, ap, ◌∙◌, subst, arith, eqb-true, Block, Latencies, MemoryRule, ruled_least_bound, cycles_of, IsComparedCycles, bound_of, optimal, ComparedCycles, CountedOptimaAreOptimal}
 use Rattle.std.specs.Option.{option_map_or}
-use Rattle.iloc_ops.specs.declared.file.Block.{Block}
-use Rattle.iloc_timed.specs.declared.latencies.Latencies.{Latencies}
-use Rattle.iloc_bound.proofs.LeastBound.{ruled_least_bound}
-use Rattle.iloc_rules.specs.declared.memory_rule.MemoryRule.{MemoryRule}
 use Rattle.iloc_rules.specs.declared.sought.Sought.{Sought}
 use Rattle.iloc_optimum.specs.Bound.{IsBound}
-use Rattle.iloc_block_commands.specs.Compare.{IsComparedCycles, bound_of, optimal}
 use Rattle.iloc_optimum.specs.Optimum.{IsSoughtIf}
-use Rattle.iloc_farm.specs.Laws.{CountedOptimaAreOptimal}
-use Rattle.iloc_listing.specs.Listing.{cycles_of}
-use Rattle.iloc_block_commands.specs.declared.compare.ComparedCycles.{ComparedCycles}
 
 -- the bound that is known holds
 bound_holds : (rule : MemoryRule) (lat : Latencies) (nodes : Option ℕ) (numbers : Option (List ℕ)) (b : Block) (c : ComparedCycles)

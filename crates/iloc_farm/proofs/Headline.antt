@@ -1,15 +1,8 @@
 -- The headline, from what is known of a board whose jobs are all done.
-use Rattle.std.proofs.Common.{◌≡◌, ℕ, List, length, Some, arith}
-use Rattle.std.specs.Prelude.{slice_get}
-use Rattle.iloc_ops.specs.declared.file.Block.{Block}
-use Rattle.iloc_timed.specs.declared.latencies.Latencies.{Latencies}
-use Rattle.iloc_timed.specs.Schedule.{Table}
+use Rattle.iloc_farm.proofs.Common.{◌≡◌, ℕ, List, length, slice_get, Some, arith, Block, Table, Latencies, IsDoneBy, ReceiptView, cycles_of, IsGreedyAs, IsScheduleOf}
 use Rattle.iloc_rules.specs.declared.heuristic.Heuristic.{Heuristic}
 use Rattle.iloc_rules.proofs.Outcome.LawfulOutcomes.{lawful_same_outcome}
-use Rattle.iloc_board.specs.Finished.{IsDoneBy, ReceiptView}
 use Rattle.iloc_farm.specs.Headline.{Headline}
-use Rattle.iloc_listing.specs.Listing.{cycles_of}
-use Rattle.iloc_listing.specs.Schedules.{IsGreedyAs, IsScheduleOf}
 
 module _ (heuristic : Heuristic) (lat : Latencies) (blocks : List Block) where
   greedy_of : (i : ℕ) (b : Block) (s : Table) → slice_get blocks i ≡ Some b → IsScheduleOf heuristic lat blocks i s

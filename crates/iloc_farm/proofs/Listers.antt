@@ -1,46 +1,22 @@
 -- Requests that ask alike list one text.
-use Rattle.std.proofs.Common.{◌≡◌, ℕ, Bool, true, false, ◌&&◌, List, ◌++◌, Option, Some, None, is_none, refl, sym, ap, ap₂, ◌∙◌, arith}
-use Rattle.std.proofs.Math.Path.{transport}
-use Rattle.std.specs.Prelude.{codes, if◌then◌else◌, is_some}
-use Rattle.iloc_ops.specs.declared.file.Block.{Block}
-use Rattle.iloc_ops.specs.declared.op.Op.{Op}
-use Rattle.iloc_timed.specs.Schedule.{Table}
-use Rattle.iloc_timed.specs.declared.latencies.Latencies.{Latencies}
+use Rattle.iloc_farm.proofs.Common.{◌≡◌, ℕ, Bool, true, false, ◌&&◌, List, ◌++◌, is_some, is_none, if◌then◌else◌, Some, None, codes, Option, sym, refl, ap, ◌∙◌, ap₂, arith, transport, Block, Op, words_from, Table, Latencies, MemoryRule, has, memory_rule, Csv, Cycles, Disambiguate, Where, Request, Task, block_head, count_line, cycles_of, opening_as, outcome_entry, schedule_entry, total_of_all, words_or_fault, IsTheGreedy, IsTheGreedyUnder, ranks_under, listing_also, one_listing, one_listing_after, initial_memory, no_ending, Own, own_of, IsListingFor, IsCompareEntry, IsComparedCycles, compare_ending, compare_header, compare_line, ending_for, opening_for, ComparedCycles, command_of, AskAlike, SimulatingListsRuns, searches}
 use Rattle.iloc_explain.proofs.OneText.{one_explanation}
 use Rattle.iloc_graph.specs.Listing.{IsCluster}
 use Rattle.iloc_graph.proofs.OneText.{one_cluster}
-use Rattle.iloc_meaning.specs.Memory.{words_from}
 use Rattle.iloc_meaning.specs.Outcome.{outcome, shown}
-use Rattle.iloc_args.specs.Flags.{has}
-use Rattle.iloc_args.specs.declared.flag.Flag.TheVariants.{Csv, Cycles, Disambiguate, Where}
-use Rattle.iloc_args.specs.declared.request.Request.{Request}
-use Rattle.iloc_args.specs.declared.request.Task.{Task}
 use Rattle.iloc_args.specs.declared.request.Task.TheVariants as task
-use Rattle.iloc_block_commands.specs.Compare.{IsCompareEntry, IsComparedCycles, compare_ending, compare_header, compare_line, ending_for, opening_for}
 use Rattle.iloc_block_commands.specs.Counts.{IsCountEntry, count_ending, count_header}
 use Rattle.iloc_view_commands.specs.Explain.{IsExplainEntry, IsSaid}
 use Rattle.iloc_view_commands.specs.Graph.{IsGraphEntry, drawing_end, opening_at}
 use Rattle.iloc_block_commands.specs.Run.{IsRunEntry}
-use Rattle.iloc_driver.specs.Command.{initial_memory}
-use Rattle.iloc_driver.specs.Entries.{no_ending}
 use Rattle.iloc_block_commands.specs.Schedule.{IsScheduleEntry}
 use Rattle.iloc_block_commands.specs.Simulate.{IsSimulateEntry}
 use Rattle.iloc_view_commands.specs.Trace.{IsTraceEntry}
-use Rattle.iloc_farm.specs.Commands.{command_of}
-use Rattle.iloc_farm.specs.Laws.{AskAlike, SimulatingListsRuns, searches}
-use Rattle.iloc_listing.specs.Listing.{block_head, count_line, cycles_of, opening_as, outcome_entry, schedule_entry, total_of_all, words_or_fault}
-use Rattle.iloc_driver.specs.Run.{IsListingFor}
-use Rattle.iloc_driver.specs.Priorities.{Own, own_of}
-use Rattle.iloc_listing.specs.Schedules.{IsTheGreedy, IsTheGreedyUnder, ranks_under}
-use Rattle.iloc_rules.specs.declared.memory_rule.MemoryRule.{MemoryRule}
 use Rattle.iloc_rules.specs.declared.memory_rule.MemoryRule.TheVariants.{Book, Address}
 use Rattle.iloc_bound.specs.Bound.{least_under}
 use Rattle.iloc_rules.specs.Rule.{counts_by}
 use Rattle.iloc_rules.specs.Greedy.{IsGreedyWhere}
-use Rattle.iloc_args.specs.Rule.{memory_rule}
-use Rattle.iloc_block_commands.specs.declared.compare.ComparedCycles.{ComparedCycles}
 use Rattle.iloc_block_commands.proofs.Comparisons.{one_comparison}
-use Rattle.iloc_driver.proofs.Entries.{listing_also, one_listing, one_listing_after}
 use Rattle.iloc_block_commands.proofs.Listers.{one_shown, shown_plainly}
 
 pub one_memory : (r q : Request) → AskAlike r q → initial_memory r ≡ initial_memory q

@@ -1,34 +1,10 @@
 -- What is listed of one input does not depend on the workers, and greedy schedules can be listed.
-use Rattle.std.proofs.Common.{◌≡◌, ℕ, List, Option, IsTrue, sym, arith}
-use Rattle.std.proofs.Math.Path.{transport}
-use Rattle.std.specs.Prelude.{is_some}
-use Rattle.std.specs.declared.alloc.Global.{Global}
-use Rattle.std.specs.declared.string.String.{String}
-use Rattle.iloc_ops.specs.declared.file.Block.{Block}
-use Rattle.iloc_text.proofs.Answer.{one_answer}
-use Rattle.iloc_rows.specs.EitherSlot.{placed}
-use Rattle.iloc_args.specs.Flags.{has}
-use Rattle.iloc_args.specs.declared.flag.Flag.TheVariants.{Csv, EitherSlot}
-use Rattle.iloc_args.specs.declared.request.Request.{Request}
-use Rattle.iloc_args.specs.declared.request.Task.{Task}
+use Rattle.iloc_farm.proofs.Common.{◌≡◌, ℕ, List, is_some, IsTrue, Option, sym, arith, transport, Global, String, Block, one_answer, placed, has, Csv, EitherSlot, Request, Task, greedy_long, total_small, opening_as, total_of_all, listing_after_also, IsListingAfter, IsListingOf, Own, own_of, IsListingFor, ListsAs, takes_rows, Held, Finding, IsCompareEntry, IsCompareListing, compare_ending, compare_header, ending_for, opening_for, ComparedCycles, Checks, ListsChecked, options_by, command_of, AskAlike, ChecksIgnoreWorkers, GreedySchedulesCanBeListed, ListedOptimaAreOptimal, ListingsIgnoreWorkers, OptimaIgnoreWorkers}
 use Rattle.iloc_args.specs.declared.request.Task.TheVariants as task
-use Rattle.iloc_block_commands.specs.declared.compare.ComparedCycles.{ComparedCycles}
-use Rattle.iloc_row_commands.specs.Check.{Checks, ListsChecked, options_by}
-use Rattle.iloc_block_commands.specs.Compare.{IsCompareEntry, IsCompareListing, compare_ending, compare_header, ending_for, opening_for}
 use Rattle.iloc_row_commands.specs.Explain.{Explains, ExplainsRows}
 use Rattle.iloc_row_commands.specs.Trace.{Traces, TracesRows}
-use Rattle.iloc_farm.specs.Commands.{command_of}
-use Rattle.iloc_farm.specs.Laws.{AskAlike, ChecksIgnoreWorkers, GreedySchedulesCanBeListed, ListedOptimaAreOptimal, ListingsIgnoreWorkers, OptimaIgnoreWorkers}
-use Rattle.iloc_driver.specs.Entries.{IsListingAfter, IsListingOf}
 use Rattle.iloc_block_commands.specs.Optimize.{IsOptimizeEntry}
-use Rattle.iloc_listing.specs.Listing.{opening_as, total_of_all}
-use Rattle.iloc_driver.specs.Priorities.{Own, own_of}
-use Rattle.iloc_driver.specs.Run.Apart.{Held}
-use Rattle.iloc_driver.specs.Run.{IsListingFor, ListsAs, takes_rows}
-use Rattle.iloc_driver.specs.declared.commands.Finding.{Finding}
-use Rattle.iloc_driver.proofs.Entries.{listing_after_also}
 use Rattle.iloc_farm.proofs.Listers.{of_one_task, one_memory, rule_same}
-use Rattle.iloc_listing.proofs.Schedules.{greedy_long, total_small}
 
 pub ignore_workers : ListingsIgnoreWorkers
 ignore_workers r q alike settled input blocks blocks' denotes denotes' own text text' lists lists' =

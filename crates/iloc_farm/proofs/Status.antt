@@ -1,35 +1,12 @@
 -- What a status of 0 tells, where the words ask for a check.
-use Rattle.std.proofs.Common.{◌≡◌, ℕ, List, Ok, Err, Option, Result, Some, arith, refl, sym, ap, ◌∙◌, subst, inl, inr}
-use Rattle.std.specs.Prelude.{option_map}
-use Rattle.std.specs.List.{AllZip}
+use Rattle.iloc_farm.proofs.Common.{◌≡◌, ℕ, List, Some, Ok, Err, Option, Result, option_map, sym, refl, ap, ◌∙◌, subst, inl, inr, arith, AllZip, Global, String, Block, words_from, placed, Proposed, DoTheSame, MayPass, has, memory_rule, EitherSlot, Outputs, Request, Task, initial_memory, status_of_finding, ListsAs, Held, Finding, Passed, Checks, options_by, options_of, command_of, ReadsRows, ReadsTheSame, Status0MeansTheSame}
 use Rattle.std.specs.String.{string_bytes}
 use Rattle.std.specs.declared.io.Error.{Error}
-use Rattle.std.specs.declared.alloc.Global.{Global}
-use Rattle.std.specs.declared.string.String.{String}
-use Rattle.iloc_ops.specs.declared.file.Block.{Block}
-use Rattle.iloc_rows.specs.EitherSlot.{placed}
-use Rattle.iloc_meaning.specs.Memory.{words_from}
-use Rattle.iloc_rows.specs.declared.proposal.Proposed.{Proposed}
-use Rattle.iloc_judge.specs.Checked.{DoTheSame, MayPass}
 use Rattle.iloc_args.specs.Asked.{Asked, asked_in}
 use Rattle.iloc_args.specs.declared.fault.LineFault.TheVariants as line
-use Rattle.iloc_args.specs.Flags.{has}
-use Rattle.iloc_args.specs.declared.flag.Flag.TheVariants.{EitherSlot, Outputs}
-use Rattle.iloc_args.specs.declared.request.Request.{Request}
-use Rattle.iloc_args.specs.declared.request.Task.{Task}
 use Rattle.iloc_args.specs.declared.request.Task.TheVariants as task
-use Rattle.iloc_driver.specs.declared.commands.Finding.{Finding}
-use Rattle.iloc_driver.specs.declared.commands.Finding.TheVariants.{Passed}
 use Rattle.iloc_driver.proofs.AboveZero.{above_0}
-use Rattle.iloc_driver.specs.Run.Apart.{Held}
-use Rattle.iloc_farm.specs.Commands.{command_of}
-use Rattle.iloc_driver.specs.Fault.{status_of_finding}
-use Rattle.iloc_driver.specs.Command.{initial_memory}
-use Rattle.iloc_farm.specs.Laws.{ReadsRows, ReadsTheSame, Status0MeansTheSame}
 use Rattle.iloc_driver.specs.Program.{Args, AskFor, IsListed, MakeNone}
-use Rattle.iloc_args.specs.Rule.{memory_rule}
-use Rattle.iloc_row_commands.specs.Check.{Checks, options_by, options_of}
-use Rattle.iloc_driver.specs.Run.{ListsAs}
 use Rattle.iloc_farm.proofs.Checks.{passed_keep_outcomes, passed_may_pass}
 
 passed_at_0 : (finding : Finding) → status_of_finding finding ≡ 0 → finding ≡ Passed

@@ -1,10 +1,7 @@
 -- A task that is read from a text of its own.
-use Rattle.std.proofs.Common.{◌≡◌, ◌≤◌, ℕ, List, Some, append-nil, arith, length, subst}
+use Rattle.iloc_farm.proofs.Common.{◌≡◌, ℕ, ◌≤◌, List, length, Some, subst, append-nil, arith, one_answer, Holds, HandInsDontChangeTheTask}
 use Rattle.iloc_ops.specs.Limits.{MAX_INPUT}
 use Rattle.iloc_text.specs.Files.{Denotes}
-use Rattle.iloc_text.proofs.Answer.{one_answer}
-use Rattle.iloc_driver.specs.Run.Apart.{Holds}
-use Rattle.iloc_farm.specs.Laws.{HandInsDontChangeTheTask}
 
 -- what was read is all that the text holds, where it is no longer than a text may be
 whole_text : (known task : List ℕ) → Holds (Some known) task → length task ≤ MAX_INPUT → task ≡ known

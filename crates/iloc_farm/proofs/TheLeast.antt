@@ -1,13 +1,9 @@
 -- Rows by the book take no fewer cycles than the bound: `laws::by_the_book_takes_the_least`.
-use Rattle.std.proofs.Common.{◌≤◌, List, map, arith}
-use Rattle.iloc_ops.specs.declared.op.Op.{Op}
-use Rattle.iloc_timed.specs.declared.latencies.Latencies.{Latencies}
+use Rattle.iloc_farm.proofs.Common.{◌≤◌, List, map, arith, Op, cycles, Latencies, least_bound}
 use Rattle.iloc_timed.specs.declared.row.Row.{Row}
-use Rattle.iloc_timed.specs.Cycles.{cycles}
 use Rattle.iloc_rules.specs.Renaming.{without_nops, renamed}
 use Rattle.iloc_rules.proofs.Renamed.RenamedBlocks.{renamed_is_renamed}
 use Rattle.iloc_rules.specs.Least.{least}
-use Rattle.iloc_bound.proofs.LeastBound.{least_bound}
 use Rattle.iloc_validation.specs.ByTheBook.{IsByTheBook}
 use Rattle.iloc_validation.specs.OwnRows.{renumber}
 use Rattle.iloc_validation.proofs.Outcomes.{own_cycles, own_lawful}

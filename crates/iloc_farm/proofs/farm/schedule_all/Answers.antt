@@ -1,5 +1,4 @@
-use Rattle.std.proofs.Common.{rules}
-use Rattle.iloc_listing.proofs.Schedules.{greedy_all_same_as, keep_outcomes}
+use Rattle.iloc_farm.proofs.Common.{rules, greedy_all_same_as, keep_outcomes}
 use Rattle.iloc_farm.proofs.farm.schedule_all.Goals as goal
 
 pub returns-clause-greedy : goal.returns-clause-greedy

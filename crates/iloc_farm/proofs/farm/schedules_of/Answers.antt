@@ -1,6 +1,5 @@
-use Rattle.std.proofs.Common.{sym}
+use Rattle.iloc_farm.proofs.Common.{sym, are_greedy}
 use Rattle.iloc_farm.proofs.Headline.{headline}
-use Rattle.iloc_listing.proofs.Schedules.{are_greedy}
 use Rattle.iloc_farm.proofs.farm.schedules_of.Goals as goal
 
 pub returns-clause-headline : goal.returns-clause-headline

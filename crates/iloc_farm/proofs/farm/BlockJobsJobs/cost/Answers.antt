@@ -1,7 +1,5 @@
-use Rattle.std.proofs.Common.{◌≤◌, ◌+◌, length, arith}
-use Rattle.iloc_timed.specs.Cycles.{cycles}
+use Rattle.iloc_farm.proofs.Common.{◌+◌, ◌≤◌, length, arith, cycles, cycles_within}
 use Rattle.iloc_rules.specs.declared.delay_pairs.TheConstants.{LONGEST_DELAY}
-use Rattle.iloc_listing.proofs.Schedules.{cycles_within}
 use Rattle.iloc_farm.proofs.farm.BlockJobsJobs.cost.Goals as goal
 
 pub returns-clause-small : goal.returns-clause-small
