@@ -7,7 +7,7 @@ use crate::refutation::clues::Clues;
 use crate::refutation::effort::Effort;
 use crate::refutation::probe::Probe;
 use crate::refutation::{Refutation, Trial, difference_on, refute};
-use crate::task::{Judging, Task};
+use crate::task::{JudgedBlock, Judging};
 use crate::void::{Void, why_void};
 use iloc_ops::NoMemory;
 use iloc_terms::{Agreement, compare};
@@ -39,7 +39,7 @@ pub enum Comparison {
 pub fn compared(
     alloc: Global,
     judging: &Judging<'_>,
-    task: &Task<'_>,
+    task: &JudgedBlock<'_>,
     theirs: &Schedule,
 ) -> Result<Comparison, NoMemory>
     ensures { IfOk result (IsComparison judging.now.options.outputs_alone task.now.latencies.now task.now.block.now.ops

@@ -10,5 +10,5 @@ mod void;
 pub use comparison::{Comparison, compared};
 pub use difference::Difference;
 pub use refutation::probe::Probe;
-pub use task::{CheckOptions, Form, Judging, Task};
+pub use task::{CheckOptions, Form, JudgedBlock, Judging};
 pub use void::Void;

@@ -10,7 +10,7 @@ use iloc_timed::{Latencies, Schedule};
 
 /// A block that somebody proposes rows for, and what we know of it.
 #[derive(Drop)]
-pub struct Task<'a> {
+pub struct JudgedBlock<'a> {
     /// The block, of 10,000 operations at most.
     pub block: &'a Block,
     /// Our schedule of it by the book, beside which rows are judged.

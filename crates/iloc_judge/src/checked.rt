@@ -6,7 +6,7 @@ ghost use Rattle.iloc_verdict.specs.Kept.{keeps_operations as kept};
 ghost use Rattle.iloc_judge.specs.Checked.{IsCheck};
 
 use crate::verdict::judge;
-use iloc_comparison::{Judging, Task};
+use iloc_comparison::{JudgedBlock, Judging};
 use iloc_ops::NoMemory;
 use iloc_rows::Proposal;
 use iloc_verdict::{
@@ -19,7 +19,7 @@ fn push_units(
     alloc: Global,
     text: &mut Vec<u8>,
     judging: &Judging<'_>,
-    task: &Task<'_>,
+    task: &JudgedBlock<'_>,
     proposal: &Proposal,
     keeps_operations: bool,
     row: usize,
@@ -61,7 +61,7 @@ pub fn push_check(
     alloc: Global,
     text: &mut Vec<u8>,
     judging: &Judging<'_>,
-    task: &Task<'_>,
+    task: &JudgedBlock<'_>,
     proposal: Proposal,
 ) -> Result<Checked, NoMemory>
     ensures beside { IfOk result (IsBeside task.now) }

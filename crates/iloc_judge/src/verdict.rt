@@ -6,7 +6,7 @@ ghost use Rattle.iloc_validation.specs.Decision.{IsDecision, IsFoundLawful};
 ghost use Rattle.iloc_verdict.specs.Kept.{AreItsOperations};
 ghost use Rattle.iloc_judge.specs.Verdict.{IsVerdict};
 
-use iloc_comparison::{Judging, Task, compared};
+use iloc_comparison::{JudgedBlock, Judging, compared};
 use iloc_ops::NoMemory;
 use iloc_reasons::reasons_of;
 use iloc_timed::{MAX_ROWS, Schedule};
@@ -18,7 +18,7 @@ use std::alloc::Global;
 /// isn't.
 fn decided(
     alloc: Global,
-    task: &Task<'_>,
+    task: &JudgedBlock<'_>,
     theirs: &Schedule,
     blocks: usize,
 ) -> Result<Decision, NoMemory>
@@ -47,7 +47,7 @@ fn decided(
 pub fn judge(
     alloc: Global,
     judging: &Judging<'_>,
-    task: &Task<'_>,
+    task: &JudgedBlock<'_>,
     theirs: &Schedule,
 ) -> Result<Verdict, NoMemory>
     requires few { length theirs.now.rows ≤ MAX_ROWS }

@@ -5,8 +5,8 @@
 //! what it reads; from then on it counts as that one, so that nobody is blamed for another's fault.
 
 mod counts;
+pub(crate) mod data_flow;
 mod doubts;
-pub(crate) mod graph;
 mod guesses;
 mod known;
 mod lines;
@@ -17,7 +17,7 @@ mod strays;
 mod walk;
 
 use self::counts::Counts;
-use self::graph::Graph;
+use self::data_flow::DataFlow;
 use self::missing::Missing;
 use self::side::{Side, effects, paired};
 use self::strays::Strays;
@@ -30,7 +30,7 @@ use std::collections::BTreeMap;
 
 /// What is claimed of rows.
 #[derive(Drop)]
-pub(crate) struct Choice {
+pub(crate) struct RowClaims {
     /// In the order in which it is listed.
     pub claims: Vec<Claim>,
     /// The operation of the block that is named as left out.
@@ -40,11 +40,11 @@ pub(crate) struct Choice {
 }
 
 /// By operation whether there are more of its label than among others.
-fn short(alloc: Global, graph: &Graph, others: &Graph) -> Result<Vec<bool>, NoMemory> {
-    let here = Counts::of(alloc, &graph.labels)?;
+fn short(alloc: Global, flow: &DataFlow, others: &DataFlow) -> Result<Vec<bool>, NoMemory> {
+    let here = Counts::of(alloc, &flow.labels)?;
     let there = Counts::of(alloc, &others.labels)?;
-    let mut are = Vec::with_capacity(alloc, graph.labels.len())?;
-    for label in &graph.labels {
+    let mut are = Vec::with_capacity(alloc, flow.labels.len())?;
+    for label in &flow.labels {
         are.push(there.get(*label) < here.get(*label))?;
     }
     Ok(are)
@@ -58,7 +58,7 @@ fn begun<'a>(
     rows: &'a Side<'a>,
     read: &'a BTreeMap<usize, usize>,
 ) -> Result<Walk<'a>, NoMemory> {
-    let short = short(alloc, block.graph, rows.graph)?;
+    let short = short(alloc, block.flow, rows.flow)?;
     let counterparts = paired(alloc, &rows.both, &block.both)?;
     Ok(Walk {
         alloc,
@@ -66,7 +66,7 @@ fn begun<'a>(
         block,
         rows,
         missing: Missing::of(alloc, block, short, &counterparts)?,
-        strays: Strays::none(alloc, rows.graph, &counterparts, read)?,
+        strays: Strays::none(alloc, rows.flow, &counterparts, read)?,
         found: Found::of(alloc, rows, counterparts)?,
         store: None,
         said: Said::nothing(alloc),
@@ -80,7 +80,7 @@ fn walked(
     block: &Side,
     rows: &Side,
     read: &BTreeMap<usize, usize>,
-) -> Result<Choice, NoMemory> {
+) -> Result<RowClaims, NoMemory> {
     let mut walk = begun(alloc, sides, block, rows, read)?;
     for row in sides.schedule.rows() {
         walk.pass(row)?;
@@ -92,10 +92,10 @@ fn walked(
 pub(crate) fn chosen(
     alloc: Global,
     sides: &Sides,
-    here: &Graph,
-    there: &Graph,
+    here: &DataFlow,
+    there: &DataFlow,
     read: &BTreeMap<usize, usize>,
-) -> Result<Choice, NoMemory> {
+) -> Result<RowClaims, NoMemory> {
     let places_count = effects(here) == effects(there);
     let block = Side::of(alloc, here, places_count)?;
     let rows = Side::of(alloc, there, places_count)?;

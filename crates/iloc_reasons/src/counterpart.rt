@@ -6,7 +6,7 @@ ghost use Rattle.iloc_facts.specs.Counts.{count_like};
 ghost use Rattle.iloc_facts.specs.Facts.{AreSources, IsCounterpart, IsFact};
 ghost use Rattle.iloc_reasons.specs.Steps.Sides.{AreAllRead, AreSides};
 
-use crate::choice::graph::Graph;
+use crate::choice::data_flow::DataFlow;
 use crate::choice::side::paired;
 use crate::claim::source_at;
 use crate::sides::Sides;
@@ -101,8 +101,8 @@ fn reads_others(sides: &Sides, partners: &[Option<usize>], k: usize, i: usize) -
 pub(crate) fn first_seen(
     alloc: Global,
     sides: &Sides,
-    block: &Graph,
-    rows: &Graph,
+    block: &DataFlow,
+    rows: &DataFlow,
 ) -> Result<Option<Fact>, NoMemory>
     requires { AreSides sides.now.latencies.now sides.now.block.now sides.now.givens.now sides.now.schedule.now
         sides.now.readings.now }

@@ -7,7 +7,7 @@ ghost use Rattle.iloc_reasons.specs.Steps.Likeness.{TellApart};
 ghost use Rattle.iloc_reasons.specs.Steps.Sides.{AreSides};
 ghost use Rattle.iloc_reasons.specs.Steps.Terms.{AreTerms};
 
-use crate::choice::graph::Graph;
+use crate::choice::data_flow::DataFlow;
 use crate::sides::Sides;
 use crate::terms::{Values, at, label_number};
 use iloc_facts::{Reading, Sources};
@@ -64,8 +64,8 @@ fn looked_up(alloc: Global, terms: &[u64], count: usize) -> Result<BTreeMap<u64,
 pub(crate) fn terms_of(
     alloc: Global,
     sides: &Sides,
-    block: &Graph,
-    rows: &Graph,
+    block: &DataFlow,
+    rows: &DataFlow,
 ) -> Result<Terms, NoMemory>
     requires { AreSides sides.now.latencies.now sides.now.block.now sides.now.givens.now sides.now.schedule.now
         sides.now.readings.now }

@@ -8,7 +8,7 @@ ghost use Rattle.iloc_reasons.specs.Steps.Likeness.{TellApart};
 ghost use Rattle.iloc_reasons.specs.Steps.Sides.{AreNoted, AreRead, AreSides};
 
 use crate::choice::chosen;
-use crate::choice::graph::Graph;
+use crate::choice::data_flow::DataFlow;
 use crate::claim::Claim;
 use crate::counterpart::first_seen;
 use crate::likeness::{Terms, sources_of, terms_of};
@@ -57,8 +57,8 @@ fn first_facts(
 fn or_seen(
     alloc: Global,
     sides: &Sides,
-    block: &Graph,
-    rows: &Graph,
+    block: &DataFlow,
+    rows: &DataFlow,
     facts: Vec<Fact>,
 ) -> Result<Vec<Fact>, NoMemory>
     requires sides { AreSides sides.now.latencies.now sides.now.block.now sides.now.givens.now sides.now.schedule.now
@@ -111,8 +111,8 @@ fn added(alloc: Global, sides: &Sides, named: Option<usize>) -> Result<Option<Ad
 fn found_facts(
     alloc: Global,
     sides: &Sides,
-    block: &Graph,
-    rows: &Graph,
+    block: &DataFlow,
+    rows: &DataFlow,
     read: &BTreeMap<usize, usize>,
     claims: &[Claim],
 ) -> Result<(Vec<Fact>, usize), NoMemory>
@@ -132,8 +132,8 @@ fn found_facts(
 fn reasons_among(
     alloc: Global,
     sides: &Sides,
-    block: &Graph,
-    rows: &Graph,
+    block: &DataFlow,
+    rows: &DataFlow,
 ) -> Result<Reasons, NoMemory>
     requires { AreSides sides.now.latencies.now sides.now.block.now sides.now.givens.now sides.now.schedule.now
         sides.now.readings.now }
@@ -165,9 +165,9 @@ fn reasons_by(alloc: Global, sides: &Sides) -> Result<Reasons, NoMemory>
     ensures { IfOk result (AreReasons sides.now.latencies.now sides.now.block.now sides.now.schedule.now.ops
         sides.now.schedule.now.rows) }
 {
-    let block = Graph::of_block(alloc, sides.block, sides.givens)?;
+    let block = DataFlow::of_block(alloc, sides.block, sides.givens)?;
     let sources = sources_of(alloc, sides.readings)?;
-    let rows = Graph::of(alloc, sides.schedule.ops(), sides.schedule.rows(), &sources)?;
+    let rows = DataFlow::of(alloc, sides.schedule.ops(), sides.schedule.rows(), &sources)?;
     reasons_among(alloc, sides, &block, &rows)
 }
 

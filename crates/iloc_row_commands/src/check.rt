@@ -14,7 +14,7 @@ use crate::json::push_json_head;
 use crate::totals::Totals;
 use iloc_args::{Flag, Request};
 use iloc_bound::least_of;
-use iloc_comparison::{CheckOptions, Form, Judging, Task};
+use iloc_comparison::{CheckOptions, Form, JudgedBlock, Judging};
 use iloc_driver::{Finding, RowLister, initial_memory};
 use iloc_judge::push_check;
 use iloc_listing::push_head;
@@ -129,7 +129,7 @@ fn push_judged(
     alloc: Global,
     text: &mut Vec<u8>,
     judging: &Judging<'_>,
-    task: &Task<'_>,
+    task: &JudgedBlock<'_>,
     proposal: Proposal,
 ) -> Result<Checked, NoMemory>
     ensures beside { IfOk result (IsBeside task.now) }
@@ -238,7 +238,7 @@ impl RowLister for CheckLister {
             memory: &self.memory,
             blocks: self.blocks,
         };
-        let task = Task {
+        let task = JudgedBlock {
             block,
             ours: &ours,
             cycles,

@@ -8,5 +8,5 @@ mod symbols;
 mod table;
 mod two_runs;
 
-pub use mentions::{Mentions, Place};
+pub use mentions::{MentionedAddress, Mentions};
 pub use two_runs::{Agreement, compare};

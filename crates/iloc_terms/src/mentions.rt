@@ -9,7 +9,7 @@ use std::alloc::Global;
 
 /// An address: so far above a word that is loaded, which has this number among those, or above 0.
 #[derive(Clone, Copy, Debug, PartialEq, Eq)]
-pub struct Place {
+pub struct MentionedAddress {
     /// The number of the word; `None` above 0.
     pub base: Option<usize>,
     /// The bytes above it, modulo 2^32.
@@ -26,19 +26,19 @@ pub struct Mentions {
     /// The offsets from unknown words at which something is done.
     pub offsets: Vec<u32>,
     /// Where words are loaded from, each above one before it or above 0.
-    pub loaded: Vec<Place>,
+    pub loaded: Vec<MentionedAddress>,
     /// The places above such words at which something is done, first those of one run alone.
-    pub reached: Vec<Place>,
+    pub reached: Vec<MentionedAddress>,
 }
 
 /// The number of a word that isn't loaded.
 const NONE: usize = usize::MAX;
 
 /// Where an address is, if it is known, or above a word that is loaded; these have numbers by term.
-fn place_of(table: &Table, loads: &[usize], address: u32) -> Option<Place> {
+fn place_of(table: &Table, loads: &[usize], address: u32) -> Option<MentionedAddress> {
     let (base, offset) = match table.node(address)? {
         Node::Known(word) => {
-            return Some(Place {
+            return Some(MentionedAddress {
                 base: None,
                 offset: word.cast_unsigned(),
             });
@@ -50,7 +50,7 @@ fn place_of(table: &Table, loads: &[usize], address: u32) -> Option<Place> {
     if base == NONE {
         return None;
     }
-    Some(Place {
+    Some(MentionedAddress {
         base: Some(base),
         offset,
     })

@@ -2,7 +2,7 @@
 use Rattle.iloc_trace.proofs.Common.{◌≡◌, ℕ, ◌+◌, List, [], ◌∷◌, ◌++◌, map, ℤ, pos, negsuc, IfSome, IsTrue, Some, None, fold, Option, option_to_list, sym, refl, ap, ◌∙◌, ap₂, append-nil, arith, le-ltb, lt-leb, map-append, Op, Reg, by_bool, effect_same, good_address, is_good, effect, word_at, is_fault, value_of, op_at, some_latency, Issued, arrived, issue, register_in, word_in, Latencies, issue_line, trace_lines, Place, Register, Word}
 use Rattle.iloc_timed.proofs.Landing.{landed_is_arrived}
 use Rattle.iloc_trace.specs.declared.event.Read.{Read}
-use Rattle.iloc_trace.specs.declared.machine.Machine.{Machine}
+use Rattle.iloc_trace.specs.declared.machine.TracedMachine.{TracedMachine}
 use Rattle.iloc_trace.specs.Places.{address_read, places_read, value_in}
 use Rattle.iloc_trace.specs.Events.{read_of, issue_of, in_slot as issued_in}
 use Rattle.iloc_trace.specs.Steps.Arrivals.{IsGood, arrival_of, arrivals, first_for}
@@ -10,13 +10,13 @@ use Rattle.iloc_trace.specs.Steps.Rows.{Follows, executed_at, in_slot, place_val
 use Rattle.iloc_trace.proofs.OnTheirWay.{next_due_of_log}
 
 -- what the machine says is what has arrived
-value_arrived : (lat : Latencies) (memory : List ℤ) (c : ℕ) (log : List Issued) (m : Machine)
+value_arrived : (lat : Latencies) (memory : List ℤ) (c : ℕ) (log : List Issued) (m : TracedMachine)
     → Follows lat memory (c + 1) log m → (place : Place) → IsGood place
     → value_in memory (arrived c log) place ≡ place_value m place
 value_arrived lat memory c log m follows place good = grind (arith, landed_is_arrived)
 
 -- so an operation has the effect that the log gives it
-pub effect_now : (lat : Latencies) (memory : List ℤ) (c : ℕ) (log : List Issued) (m : Machine) (op : Op)
+pub effect_now : (lat : Latencies) (memory : List ℤ) (c : ℕ) (log : List Issued) (m : TracedMachine) (op : Op)
     → Follows lat memory (c + 1) log m
     → effect op (register_in (arrived c log)) (word_in memory (arrived c log))
     ≡ effect op (value_of m.registers) (word_at m.memory.words)
@@ -25,18 +25,18 @@ effect_now lat memory c log m op follows = effect_same op _ _ _ _
     (λ a good. value_arrived lat memory c log m follows (Word a) good)
 
 -- and sends the same
-sent_same : (lat : Latencies) (memory : List ℤ) (c : ℕ) (log : List Issued) (m : Machine) (op : Op)
+sent_same : (lat : Latencies) (memory : List ℤ) (c : ℕ) (log : List Issued) (m : TracedMachine) (op : Op)
     → Follows lat memory (c + 1) log m
     → arrival_of lat (issue lat memory c log op) ≡ (executed_at lat m c op).sent
 sent_same lat memory c log m op follows = grind (arith, effect_now)
 
-pub arrivals_one : (lat : Latencies) (memory : List ℤ) (c : ℕ) (log before : List Issued) (m : Machine) (op : Op)
+pub arrivals_one : (lat : Latencies) (memory : List ℤ) (c : ℕ) (log before : List Issued) (m : TracedMachine) (op : Op)
     → Follows lat memory (c + 1) log m
     → arrivals lat (c + 1) (issue lat memory c log op ∷ before)
     ≡ arrivals lat (c + 1) before ++ option_to_list (executed_at lat m c op).sent
 arrivals_one lat memory c log before m op follows = grind (arith, le-ltb, option_to_list, sent_same, some_latency)
 
-arrivals_slot : (lat : Latencies) (memory : List ℤ) (ops : List Op) (c : ℕ) (log : List Issued) (m : Machine)
+arrivals_slot : (lat : Latencies) (memory : List ℤ) (ops : List Op) (c : ℕ) (log : List Issued) (m : TracedMachine)
     (slot : Option ℕ) → Follows lat memory (c + 1) log m
     → arrivals lat (c + 1) (issued_in lat memory ops c log slot ++ log)
     ≡ arrivals lat (c + 1) log ++ option_to_list (sent_in (in_slot lat m ops c slot))
@@ -79,7 +79,7 @@ abbrev read_made : Place → ℤ → Option ℕ → Read
 read_made place value until = record { place = place; value = value; until = until }
 
 -- what is read beside what is in the other slot
-reads_same : (lat : Latencies) (memory : List ℤ) (ops : List Op) (c : ℕ) (log : List Issued) (m : Machine)
+reads_same : (lat : Latencies) (memory : List ℤ) (ops : List Op) (c : ℕ) (log : List Issued) (m : TracedMachine)
     (beside : Option ℕ) (op : Op) → Follows lat memory (c + 1) log m
     → map (read_of memory c (issued_in lat memory ops c log beside ++ log)) (places_read op (register_in (arrived c log)))
     ≡ reads_of m (m.under_way ++ option_to_list (sent_in (in_slot lat m ops c beside))) op
@@ -98,7 +98,7 @@ reads_same lat memory ops c log m beside op follows =
     ∙ ap (fold (first_for place) None) coming))
 
 -- the line of a slot
-pub slot_lines : (lat : Latencies) (memory : List ℤ) (ops : List Op) (c unit : ℕ) (log : List Issued) (m : Machine)
+pub slot_lines : (lat : Latencies) (memory : List ℤ) (ops : List Op) (c unit : ℕ) (log : List Issued) (m : TracedMachine)
     (slot beside : Option ℕ) → Follows lat memory (c + 1) log m
     → trace_lines (map (issue_of memory c unit log (issued_in lat memory ops c log beside)) (issued_in lat memory ops c log slot))
     ≡ slot_line m c unit (in_slot lat m ops c slot) (in_slot lat m ops c beside)

@@ -4,7 +4,7 @@ use Rattle.iloc_timed.specs.declared.wheel.Pending.{Pending}
 use Rattle.iloc_timed.proofs.Landing.{register_more, word_more, later_below, later_newest}
 use Rattle.iloc_timed.proofs.Following.{all_land_later}
 use Rattle.iloc_trace.specs.declared.under_way.Arrival.{Arrival}
-use Rattle.iloc_trace.specs.declared.machine.Machine.{Machine}
+use Rattle.iloc_trace.specs.declared.machine.TracedMachine.{TracedMachine}
 use Rattle.iloc_trace.specs.Places.{is_place, is_same, sent, target, target_of, value_in, goes_to}
 use Rattle.iloc_trace.specs.Events.{Event, due_at, landed, write_of, writes}
 use Rattle.iloc_trace.specs.Steps.Arrivals.{CanArrive, IsGood, arrival_line, arrival_lines, arrivals_of, arrived_in, due_later, due_now}
@@ -81,7 +81,7 @@ all_land lat c place landed lands v (e ∷ earlier) =
     grind (arith, append-nil, flat_map-append, fold-append, option_to_list, all_land lat c place landed lands v earlier)
 
 -- what is due at cycle c has arrived
-pub after_landing : (lat : Latencies) (memory : List ℤ) (c : ℕ) (log : List Issued) (m m' : Machine)
+pub after_landing : (lat : Latencies) (memory : List ℤ) (c : ℕ) (log : List Issued) (m m' : TracedMachine)
     → Follows lat memory c log m
     → ((r : Reg) → value_of m'.registers r
     ≡ fold (arrived_in (Register r)) (value_of m.registers r) (due_now c m.under_way))
@@ -172,13 +172,13 @@ written lat memory c there (e ∷ due) value at below same good =
     (arrivals_of lat due) at.0 (λ place. value_then memory e there place at.1 earlier) same good
     (λ next there_same rest_good. written lat memory c (e ∷ there) due next at.2 (bound, at.1, below) there_same rest_good)
 
-value_shown : (lat : Latencies) (memory : List ℤ) (c : ℕ) (log : List Issued) (m : Machine) → Follows lat memory c log m
+value_shown : (lat : Latencies) (memory : List ℤ) (c : ℕ) (log : List Issued) (m : TracedMachine) → Follows lat memory c log m
     → (place : Place) → IsGood place → place_value m place ≡ value_in memory (landed c log) place
 value_shown lat memory c log m follows (Register r) good = follows.registers r
 value_shown lat memory c log m follows (Word a) good = follows.words a good
 
 -- the lines of what is due at cycle c
-pub landing_lines : (lat : Latencies) (memory : List ℤ) (c : ℕ) (log : List Issued) (m : Machine)
+pub landing_lines : (lat : Latencies) (memory : List ℤ) (c : ℕ) (log : List Issued) (m : TracedMachine)
     → Follows lat memory c log m → All CanArrive m.under_way
     → arrival_lines c (place_value m) (due_now c m.under_way)
     ≡ trace_lines (writes lat memory c (landed c log) (due_at c log))

@@ -1,7 +1,7 @@
 -- The events of a schedule from its start to its end.
 use Rattle.iloc_trace.proofs.Common.{◌≡◌, ℕ, zero, suc, ◌+◌, ◌-◌, ◌≤◌, Bool, true, List, [], ◌++◌, ℤ, sym, refl, ap, ◌∙◌, append_assoc, append-nil, add-zero, add-one, arith, flat_map-append, flat_map, range_with_len, Op, has_fault, fault_later, row_more, row_at, slots, executed_in, issue_all, issued_before, Latencies, Row, trace_lines}
 use Rattle.iloc_trace.specs.Events.{Event, events_after, events_at}
-use Rattle.iloc_trace.specs.declared.machine.Machine.{Machine}
+use Rattle.iloc_trace.specs.declared.machine.TracedMachine.{TracedMachine}
 use Rattle.iloc_trace.specs.Steps.Rows.{After}
 
 -- what happens before cycle n
@@ -34,7 +34,7 @@ row_more_listed lat memory ops rows c row first text next_text is so_far next = 
 
 -- one row more
 pub follows_more : (lat : Latencies) (memory : List ℤ) (ops : List Op) (rows : List Row) (c : ℕ) (row : Row)
-    (goes_on : Bool) (m : Machine) → row ≡ row_at rows c
+    (goes_on : Bool) (m : TracedMachine) → row ≡ row_at rows c
     → After goes_on lat memory (c + 1) (issue_all lat memory ops c (slots row) (issued_before lat memory ops rows c)) m
     → After goes_on lat memory (c + 1) (issued_before lat memory ops rows (c + 1)) m
 follows_more lat memory ops rows c row goes_on m is after = grind (arith, row_more)

@@ -148,13 +148,13 @@ fn land_all(
 
 /// A schedule in mid-run: results that were due are written, and the others are under way.
 #[derive(Drop)]
-pub(crate) struct Machine {
+pub(crate) struct TracedMachine {
     pub(crate) registers: Registers,
     pub(crate) memory: Scratch,
     pub(crate) under_way: UnderWay,
 }
 
-impl Machine {
+impl TracedMachine {
     ghost use Rattle.iloc_timed.specs.Rows.{slots};
     ghost use Rattle.iloc_timed.specs.Timed.{Issued, issue_all};
     ghost use Rattle.iloc_trace.specs.Events.{events_after};
@@ -162,10 +162,10 @@ impl Machine {
     ghost use Rattle.iloc_trace.specs.Steps.Rows.{After, Follows, in_slot, place_value, read_at, reads_of, row_faults, row_lines, sent_after, sent_from, sent_in, slot_line};
 
     /// All registers 0, this memory, nothing under way.
-    pub(crate) fn new(alloc: Global, memory: Memory) -> Result<Machine, NoMemory>
+    pub(crate) fn new(alloc: Global, memory: Memory) -> Result<TracedMachine, NoMemory>
         ensures { IfOk result (λ machine. machine.memory ≡ record { first = memory; words = memory }) }
     {
-        Ok(Machine {
+        Ok(TracedMachine {
             registers: Registers::new(alloc)?,
             memory: Scratch::new(alloc, memory),
             under_way: UnderWay::new(alloc),

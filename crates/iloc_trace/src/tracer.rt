@@ -4,7 +4,7 @@ ghost use Rattle.iloc_timed.specs.Rows.{row_at as row_of_cycle};
 ghost use Rattle.iloc_trace.specs.Events.{events};
 ghost use Rattle.iloc_trace.specs.Listing.{trace_lines};
 
-use crate::machine::Machine;
+use crate::machine::TracedMachine;
 use iloc_meaning::Memory;
 use iloc_ops::NoMemory;
 use iloc_timed::{LONGEST, Latencies, Row, Schedule};
@@ -15,7 +15,7 @@ use std::marker::Model;
 /// first passed in. It holds that memory and no copy: what a schedule wrote is undone before the next one runs.
 #[derive(Drop)]
 pub struct Tracer {
-    machine: Machine,
+    machine: TracedMachine,
 }
 
 impl Model for Tracer {
@@ -39,7 +39,7 @@ impl Tracer {
         ensures { IfOk result (λ tracer. tracer ≡ memory) }
     {
         Ok(Tracer {
-            machine: Machine::new(alloc, memory)?,
+            machine: TracedMachine::new(alloc, memory)?,
         })
     }
 

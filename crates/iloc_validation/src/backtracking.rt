@@ -10,11 +10,11 @@
 ghost use Rattle.std.specs.Prelude.{length, IfOk};
 ghost use Rattle.iloc_validation.specs.Steps.Decisions.{IsFoundFor};
 
-mod graph;
 mod pairs;
+mod readers;
 mod run;
 
-use self::graph::Graph;
+use self::readers::Readers;
 use self::run::Search;
 use crate::colours::Coloured;
 use crate::pairing::Pairing;
@@ -45,8 +45,8 @@ pub(crate) fn found_pairing(
     for reading in sides.readings {
         reads.push(reading.sources)?;
     }
-    let block = Graph::of(alloc, sides.givens, &colours.here)?;
-    let rows = Graph::of(alloc, &reads, &colours.there)?;
+    let block = Readers::of(alloc, sides.givens, &colours.here)?;
+    let rows = Readers::of(alloc, &reads, &colours.there)?;
     let mut search = Search::new(alloc, &block, &rows)?;
     let is_found = search.run(steps.saturating_mul(sides.block.len()))?;
     let root = search.root();

@@ -6,7 +6,7 @@ use Rattle.iloc_rows.specs.declared.proposal.Proposed.{Proposed}
 use Rattle.iloc_rules.specs.declared.sought.Sought.{Sought}
 use Rattle.iloc_comparison.specs.declared.comparison.Comparison.{Comparison}
 use Rattle.iloc_comparison.specs.declared.comparison.Comparison.TheVariants as of
-use Rattle.iloc_comparison.specs.declared.task.Task.{Task}
+use Rattle.iloc_comparison.specs.declared.task.JudgedBlock.{JudgedBlock}
 use Rattle.iloc_verdict.specs.declared.verdict.Verdict.{Verdict}
 use Rattle.iloc_verdict.specs.declared.verdict.Verdict.TheVariants.{Units, Lawful, Unlawful, Undecided}
 use Rattle.iloc_verdict.specs.declared.verdict.kind.VerdictKind.{VerdictKind}
@@ -42,7 +42,7 @@ found word keeps ours sought least lat proposal = record {
 }
 
 -- what is known of the block beside the proposal is as the task has it
-abbrev pub IsBeside : Task → Checked → Type 0
+abbrev pub IsBeside : JudgedBlock → Checked → Type 0
 IsBeside task c = (c.ours ≡ task.cycles) × (c.sought ≡ task.sought) × (c.least ≡ task.least)
 
 -- whether rows of this verdict pass, where nothing but rows by the book does or where others may

@@ -16,7 +16,7 @@ use crate::json::push_json;
 use crate::verdict::Verdict;
 use crate::verdict::kind::VerdictKind;
 use detail::push_detail;
-use iloc_comparison::{Comparison, Form, Judging, Task};
+use iloc_comparison::{Comparison, Form, JudgedBlock, Judging};
 use iloc_ops::{NoMemory, Op};
 use iloc_rows::Proposal;
 use iloc_rules::Sought;
@@ -83,7 +83,7 @@ pub fn kind_of(lawful: bool, verdict: &Verdict) -> VerdictKind
 
 /// What is found of a proposal with this verdict.
 pub fn found(
-    task: &Task<'_>,
+    task: &JudgedBlock<'_>,
     proposal: &Proposal,
     kind: VerdictKind,
     keeps_operations: bool,

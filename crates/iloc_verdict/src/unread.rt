@@ -8,7 +8,7 @@ use crate::checked::verdict_line::{push_line, push_table_row};
 use crate::checked::{Checked, found};
 use crate::json::push_unread_json;
 use crate::verdict::kind::VerdictKind;
-use iloc_comparison::{Form, Task};
+use iloc_comparison::{Form, JudgedBlock};
 use iloc_lint::row_wording;
 use iloc_ops::{NoMemory, push_number};
 use iloc_rows::{Proposal, Unread};
@@ -100,7 +100,7 @@ pub fn push_unread(
     alloc: Global,
     text: &mut Vec<u8>,
     form: Form,
-    task: &Task<'_>,
+    task: &JudgedBlock<'_>,
     proposal: &Proposal,
     unread: &Unread,
 ) -> Result<Checked, NoMemory>

@@ -4,7 +4,7 @@ use crate::refutation::clues::Clues;
 use crate::refutation::probe::Cell;
 use iloc_meaning::WORDS;
 use iloc_ops::NoMemory;
-use iloc_terms::{Mentions, Place};
+use iloc_terms::{MentionedAddress, Mentions};
 use std::alloc::Global;
 
 /// How many memories are aimed, at most.
@@ -25,7 +25,10 @@ pub(crate) enum Aim {
     /// The word with this number, to no good address.
     Bad(Option<usize>),
     /// The word below `moved`, there where `still` is.
-    Meeting { moved: Place, still: Place },
+    Meeting {
+        moved: MentionedAddress,
+        still: MentionedAddress,
+    },
 }
 
 /// How many words lie between good addresses, at least.
@@ -38,7 +41,7 @@ fn first_after(addresses: &[u32]) -> usize {
 }
 
 /// The address of a place, where words that are loaded are these.
-fn address(words: &[u32], place: Place) -> u32 {
+fn address(words: &[u32], place: MentionedAddress) -> u32 {
     let base = match place.base {
         Some(number) => words.get(number).copied().unwrap_or(0),
         None => 0,
@@ -49,8 +52,8 @@ fn address(words: &[u32], place: Place) -> u32 {
 /// Adds that a place and each of so many before it are one address, if they can be: that above the later word is moved.
 fn add_meetings(
     aims: &mut Vec<Aim>,
-    place: Place,
-    reached: &[Place],
+    place: MentionedAddress,
+    reached: &[MentionedAddress],
     count: usize,
 ) -> Result<(), NoMemory> {
     for other in reached.iter().take(count) {
@@ -77,7 +80,7 @@ fn add_known(aims: &mut Vec<Aim>, mentions: &Mentions) -> Result<(), NoMemory> {
         let address = mentions.addresses.get(address % addresses);
         if let (Some(place), Some(address)) = (place, address) {
             let (moved, offset) = (*place, *address);
-            let still = Place { base: None, offset };
+            let still = MentionedAddress { base: None, offset };
             aims.push(Aim::Meeting { moved, still })?;
         }
     }

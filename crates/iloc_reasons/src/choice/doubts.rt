@@ -1,7 +1,7 @@
 //! Operations that read a register in which nothing brings what they are meant to read, while another register gets it: whether
 //! they are at fault, or what brings it.
 
-use super::graph::put;
+use super::data_flow::put;
 use super::known::Known;
 use crate::claim::{Claim, What, source_at};
 use iloc_ops::{NoMemory, Reg, defines, uses};
@@ -39,7 +39,7 @@ fn misread(
     let mut found = BTreeMap::new(alloc);
     for claim in claims {
         if let What::ReadsOver { place, .. } = claim.what
-            && let Some(j) = source_at(known.rows.graph.sources(claim.k), place)
+            && let Some(j) = source_at(known.rows.flow.sources(claim.k), place)
         {
             found.insert(j, claim.k)?;
         }
@@ -59,13 +59,13 @@ struct Lives {
 
 /// The register that operation k of the rows reads at a place.
 fn register_at(known: &Known, k: usize, place: usize) -> Option<Reg> {
-    let op = known.rows.graph.ops.get(k)?;
+    let op = known.rows.flow.ops.get(k)?;
     uses(op).get(place).copied()
 }
 
 /// By operation of the rows the cycle in which another result replaces its own.
 fn replaced(alloc: Global, known: &Known) -> Result<Vec<usize>, NoMemory> {
-    let ops = known.rows.graph.ops;
+    let ops = known.rows.flow.ops;
     let mut arrivals = Vec::with_capacity(alloc, ops.len())?;
     for (k, op) in ops.iter().enumerate() {
         if let Some(register) = defines(op)
@@ -100,7 +100,7 @@ impl Lives {
     /// Those of rows.
     fn of(alloc: Global, known: &Known) -> Result<Lives, NoMemory> {
         let mut lives = Lives::none(alloc, known)?;
-        for k in &known.rows.graph.issued {
+        for k in &known.rows.flow.issued {
             for place in 0..2 {
                 if known.reads_rightly(*k, place) {
                     lives.note(known, *k, place)?;
@@ -116,7 +116,7 @@ impl Lives {
             && let Some(cycle) = known.issued(k)
         {
             let behind = cycle.saturating_add(1);
-            match source_at(known.rows.graph.sources(k), place) {
+            match source_at(known.rows.flow.sources(k), place) {
                 Some(j) => put(&mut self.read, j, behind),
                 None => {
                     self.at_start.insert(register.0, behind)?;
@@ -128,7 +128,7 @@ impl Lives {
 
     /// Whether what operation k reads at a place is read rightly from a cycle on.
     fn is_read(&self, known: &Known, k: usize, place: usize, cycle: usize) -> bool {
-        let behind = match source_at(known.rows.graph.sources(k), place) {
+        let behind = match source_at(known.rows.flow.sources(k), place) {
             Some(j) => self.read.get(j).copied(),
             None => match register_at(known, k, place) {
                 Some(register) => self.at_start.get(&register.0).copied(),
@@ -147,7 +147,7 @@ impl Lives {
 
 /// Whether what operation k reads at a place arrives behind a cycle.
 fn is_later(known: &Known, k: usize, place: usize, due: usize) -> bool {
-    if let Some(j) = source_at(known.rows.graph.sources(k), place)
+    if let Some(j) = source_at(known.rows.flow.sources(k), place)
         && let Some((_, arrival)) = known.sides.cycles(j)
     {
         return due < arrival;
@@ -158,7 +158,7 @@ fn is_later(known: &Known, k: usize, place: usize, due: usize) -> bool {
 /// Whether operation u brings its result in a lower register than the one that operation k reads at a place: where both are free,
 /// the lower one is taken first.
 fn is_lower(known: &Known, k: usize, place: usize, u: usize) -> bool {
-    let Some(op) = known.rows.graph.ops.get(u) else {
+    let Some(op) = known.rows.flow.ops.get(u) else {
         return false;
     };
     match (defines(op), register_at(known, k, place)) {

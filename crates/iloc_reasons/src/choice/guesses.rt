@@ -1,6 +1,6 @@
 //! What an operation may have been meant to read.
 
-use super::graph::Graph;
+use super::data_flow::DataFlow;
 use super::lines::Lines;
 use crate::claim::{What, source_at};
 use crate::sides::Sides;
@@ -178,8 +178,13 @@ impl Guesses {
 
 impl Looking<'_> {
     /// What operation k of the rows may have been meant to read, at each use apart.
-    pub(crate) fn both(&self, alloc: Global, graph: &Graph, k: usize) -> Result<Guesses, NoMemory> {
-        let sources = graph.sources(k);
+    pub(crate) fn both(
+        &self,
+        alloc: Global,
+        flow: &DataFlow,
+        k: usize,
+    ) -> Result<Guesses, NoMemory> {
+        let sources = flow.sources(k);
         let left = self.guesses(alloc, k, 0, source_at(sources, 0))?;
         let right = self.guesses(alloc, k, 1, source_at(sources, 1))?;
         Ok(Guesses { left, right })
@@ -200,11 +205,11 @@ impl Looking<'_> {
     pub(crate) fn picks(
         &self,
         alloc: Global,
-        graph: &Graph,
+        flow: &DataFlow,
         k: usize,
     ) -> Result<Vec<Pick>, NoMemory> {
         let mut picks = Vec::new(alloc);
-        match graph.sources(k) {
+        match flow.sources(k) {
             Sources::Nothing => picks.push(Pick {
                 values: Values::Nothing,
                 cost: 0,

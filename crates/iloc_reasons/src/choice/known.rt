@@ -44,8 +44,8 @@ impl Known<'_> {
         let Some(i) = self.partner(k) else {
             return false;
         };
-        let here = source_at(self.rows.graph.sources(k), place);
-        let there = source_at(self.block.graph.sources(i), place);
+        let here = source_at(self.rows.flow.sources(k), place);
+        let there = source_at(self.block.flow.sources(i), place);
         value(self.meant, here) == value(&self.block.terms, there)
     }
 }

@@ -1,6 +1,6 @@
 //! Operations in lines.
 
-use super::graph::put;
+use super::data_flow::put;
 use super::side::has;
 use iloc_ops::NoMemory;
 use std::alloc::Global;

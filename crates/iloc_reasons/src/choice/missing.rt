@@ -1,6 +1,6 @@
 //! The operations of a block that have no counterpart in rows, as long as nobody is found to be one.
 
-use super::graph::put;
+use super::data_flow::put;
 use super::lines::Lines;
 use super::side::{Side, has};
 use crate::terms::{Values, at, mix, one_if};
@@ -81,12 +81,12 @@ impl Missing {
 
     /// Puts an operation before the others.
     fn put_first(&mut self, block: &Side, i: usize) -> Result<(), NoMemory> {
-        let values = Values::of(&block.terms, block.graph.sources(i));
+        let values = Values::of(&block.terms, block.flow.sources(i));
         put(&mut self.free, i, true);
         self.by_term.put_first(at(&block.terms, i), i)?;
         self.by_term_and_readers.put_first(at(&block.both, i), i)?;
         self.by_reads.put_first(block.term(i, 0, values), i)?;
-        self.by_label.put_first(at(&block.graph.labels, i), i)
+        self.by_label.put_first(at(&block.flow.labels, i), i)
     }
 
     /// The first of a term; one with these readers first.
@@ -140,7 +140,7 @@ impl Missing {
 
     /// How far operation i of the block is from an operation of its label: by what it reads, by place, and by its readers.
     fn distance(&self, block: &Side, i: usize, wanted: &Wanted) -> u32 {
-        let sources = block.graph.sources(i);
+        let sources = block.flow.sources(i);
         let theirs = Values::of(&block.terms, sources);
         let differing = theirs.differing(wanted.values).saturating_mul(2);
         let gone = one_if(self.are_gone(sources, theirs, wanted.values));

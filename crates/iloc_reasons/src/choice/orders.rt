@@ -1,6 +1,6 @@
 //! Loads, stores and outputs of rows that are on the wrong side of others.
 
-use super::graph::{Graph, put};
+use super::data_flow::{DataFlow, put};
 use super::known::Known;
 use super::side::has;
 use crate::claim::{Claim, What};
@@ -19,10 +19,10 @@ struct Line {
 }
 
 /// The operations of a kind, as they are issued.
-fn of_kind(alloc: Global, graph: &Graph, kind: Kind) -> Result<Vec<usize>, NoMemory> {
+fn of_kind(alloc: Global, flow: &DataFlow, kind: Kind) -> Result<Vec<usize>, NoMemory> {
     let mut found = Vec::new(alloc);
-    for k in &graph.issued {
-        if graph.kind(*k) == kind {
+    for k in &flow.issued {
+        if flow.kind(*k) == kind {
             found.push(*k)?;
         }
     }
@@ -78,7 +78,7 @@ fn first_above(numbers: &[usize], most: usize) -> usize {
 impl Line {
     /// Those of a kind.
     fn of(alloc: Global, known: &Known, kind: Kind) -> Result<Line, NoMemory> {
-        let issued = of_kind(alloc, known.rows.graph, kind)?;
+        let issued = of_kind(alloc, known.rows.flow, kind)?;
         let mut numbers = Vec::with_capacity(alloc, issued.len())?;
         for k in &issued {
             numbers.push(known.partner(*k))?;
@@ -106,9 +106,9 @@ impl Line {
 /// The store or output that operation k is on the wrong side of.
 fn passed(known: &Known, stores: &Line, outputs: &Line, k: usize) -> Option<Claim> {
     let i = known.partner(k)?;
-    let here = known.rows.graph.place(k);
-    let wanted = known.block.graph.place(i);
-    let by_stores = known.rows.graph.kind(k) == Kind::Store || here.stores != wanted.stores;
+    let here = known.rows.flow.place(k);
+    let wanted = known.block.flow.place(i);
+    let by_stores = known.rows.flow.kind(k) == Kind::Store || here.stores != wanted.stores;
     let line = if by_stores { stores } else { outputs };
     let is_early = if by_stores {
         here.stores < wanted.stores

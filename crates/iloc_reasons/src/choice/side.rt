@@ -1,6 +1,6 @@
 //! Which operations of a block have no counterpart in rows, by what they compute.
 
-use super::graph::{Graph, Place, put};
+use super::data_flow::{DataFlow, EffectPlace, put};
 use super::lines::Lines;
 use crate::terms::{Values, at, mix};
 use iloc_ops::NoMemory;
@@ -10,7 +10,7 @@ use std::alloc::Global;
 /// The operations of one side, with numbers for what they compute and who reads them.
 #[derive(Drop)]
 pub(crate) struct Side<'a> {
-    pub graph: &'a Graph<'a>,
+    pub flow: &'a DataFlow<'a>,
     /// By operation its place as a number, or 0 where places don't count.
     pub places: Vec<u64>,
     /// By operation a number for its label, its place, and the terms of what it reads.
@@ -22,7 +22,7 @@ pub(crate) struct Side<'a> {
 }
 
 /// The numbers of places.
-fn numbers_of(alloc: Global, places: &[Place]) -> Result<Vec<u64>, NoMemory> {
+fn numbers_of(alloc: Global, places: &[EffectPlace]) -> Result<Vec<u64>, NoMemory> {
     let mut numbers = Vec::with_capacity(alloc, places.len())?;
     for place in places {
         numbers.push(place.number())?;
@@ -43,18 +43,18 @@ impl<'a> Side<'a> {
     /// The numbers of one side, in which places count or don't.
     pub(crate) fn of(
         alloc: Global,
-        graph: &'a Graph<'a>,
+        flow: &'a DataFlow<'a>,
         places_count: bool,
     ) -> Result<Side<'a>, NoMemory> {
         let places = if places_count {
-            numbers_of(alloc, &graph.places)?
+            numbers_of(alloc, &flow.places)?
         } else {
-            vec![in alloc; 0; graph.ops.len()]?
+            vec![in alloc; 0; flow.ops.len()]?
         };
-        let terms = graph.forwards(alloc, &all_mixed(alloc, &graph.labels, &places)?)?;
-        let readers = graph.backwards(alloc, &graph.labels)?;
+        let terms = flow.forwards(alloc, &all_mixed(alloc, &flow.labels, &places)?)?;
+        let readers = flow.backwards(alloc, &flow.labels)?;
         Ok(Side {
-            graph,
+            flow,
             both: all_mixed(alloc, &terms, &readers)?,
             places,
             terms,
@@ -64,14 +64,14 @@ impl<'a> Side<'a> {
 
     /// The term of operation k, with a place and where it reads these.
     pub(crate) fn term(&self, k: usize, place: u64, values: Values) -> u64 {
-        values.behind(mix(at(&self.graph.labels, k), place))
+        values.behind(mix(at(&self.flow.labels, k), place))
     }
 }
 
 /// A sum over the stores and outputs of one side, equal where they count the same without registers.
-pub(crate) fn effects(graph: &Graph) -> u64 {
+pub(crate) fn effects(flow: &DataFlow) -> u64 {
     let mut sum: u64 = 0;
-    for (op, label) in graph.ops.iter().zip(graph.labels.iter()) {
+    for (op, label) in flow.ops.iter().zip(flow.labels.iter()) {
         if matches!(Kind::of(op), Kind::Store | Kind::Output) {
             sum = sum.wrapping_add(mix(*label, 1));
         }

@@ -1,6 +1,6 @@
 //! Results that are in another register than they are wanted in.
 
-use super::graph::Graph;
+use super::data_flow::DataFlow;
 use crate::claim::source_at;
 use iloc_ops::{NoMemory, Op, Reg, defines, uses};
 use std::alloc::Global;
@@ -34,7 +34,7 @@ pub(crate) enum Stray {
 /// Notes the registers that operation k of the rows reads as they were at the start.
 fn note_starts(
     known: &mut BTreeMap<u32, usize>,
-    rows: &Graph,
+    rows: &DataFlow,
     op: &Op,
     k: usize,
 ) -> Result<(), NoMemory> {
@@ -50,7 +50,7 @@ impl<'a> Strays<'a> {
     /// None so far.
     pub(crate) fn none(
         alloc: Global,
-        rows: &Graph<'a>,
+        rows: &DataFlow<'a>,
         counterparts: &[Option<usize>],
         read: &'a BTreeMap<usize, usize>,
     ) -> Result<Strays<'a>, NoMemory> {

@@ -1,8 +1,8 @@
 //! The operations of rows one after another, each with what it is meant to be.
 
-use super::Choice;
+use super::RowClaims;
+use super::data_flow::put;
 use super::doubts::{Cause, Causes, Doubt, undoubted};
-use super::graph::put;
 use super::guesses::{Guesses, Looking, Pick};
 use super::known::Known;
 use super::lines::Lines;
@@ -215,7 +215,7 @@ impl Walk<'_> {
 
     /// Says it if load or output k is issued while the last store is under way.
     fn wait(&mut self, k: usize) -> Result<(), NoMemory> {
-        match (self.rows.graph.kind(k), self.store) {
+        match (self.rows.flow.kind(k), self.store) {
             (Kind::Store, _) => self.store = Some(k),
             (Kind::Load | Kind::Output, Some(store)) if self.is_under_way(store, k) => {
                 self.said.claim(k, What::While { store })?;
@@ -227,7 +227,7 @@ impl Walk<'_> {
 
     /// Finds what operation k is meant to be, and what is said of it.
     fn step(&mut self, k: usize) -> Result<(), NoMemory> {
-        let values = Values::of(&self.found.meant, self.rows.graph.sources(k));
+        let values = Values::of(&self.found.meant, self.rows.flow.sources(k));
         let own = self.rows.term(k, self.place(k), values);
         let counterpart = self.found.counterparts.get(k).copied().flatten();
         if own == at(&self.rows.terms, k) && counterpart.is_some() {
@@ -289,8 +289,8 @@ impl Walk<'_> {
             return Ok(Some((i, (None, None))));
         }
         let (alloc, rows) = (self.alloc, self.rows);
-        let guesses = self.looking().both(alloc, rows.graph, k)?;
-        let these = self.missing.of_label(alloc, at(&rows.graph.labels, k))?;
+        let guesses = self.looking().both(alloc, rows.flow, k)?;
+        let these = self.missing.of_label(alloc, at(&rows.flow.labels, k))?;
         let wanted = self.wanted(k, values);
         if let Some(i) = self.missing.nearest(self.block, &these, &wanted) {
             return Ok(Some((i, self.causes(k, values, i, &guesses, true))));
@@ -325,7 +325,7 @@ impl Walk<'_> {
         guesses: &Guesses,
         is_near: bool,
     ) -> Causes {
-        let theirs = Values::of(&self.block.terms, self.block.graph.sources(i));
+        let theirs = Values::of(&self.block.terms, self.block.flow.sources(i));
         let mut causes = (None, None);
         for place in 0..2 {
             if let Some(wanted) = theirs.at(place)
@@ -353,7 +353,7 @@ impl Walk<'_> {
     fn elsewhere(&self, k: usize, place: usize, i: usize, is_near: bool) -> Option<Cause> {
         let op = self.sides.schedule.ops().get(k)?;
         let register = uses(op).get(place).copied()?;
-        let source = source_at(self.block.graph.sources(i), place)?;
+        let source = source_at(self.block.flow.sources(i), place)?;
         let wanted = at(&self.block.terms, source);
         Some(match self.strays.instead(register, wanted, is_near)? {
             Stray::NeverRead(u) => {
@@ -377,7 +377,7 @@ impl Walk<'_> {
     /// The cheapest change that makes operation k one that is missing.
     fn cheapest(&mut self, k: usize) -> Result<Option<Change>, NoMemory> {
         let (alloc, rows) = (self.alloc, self.rows);
-        let picks = self.looking().picks(alloc, rows.graph, k)?;
+        let picks = self.looking().picks(alloc, rows.flow, k)?;
         let mut best = None;
         for pick in &picks {
             best = self.cheaper(k, pick, best)?;
@@ -486,8 +486,8 @@ impl Walk<'_> {
     }
 
     /// What is claimed; of those that are missing the first that is short is named.
-    pub(crate) fn choice(&self) -> Result<Choice, NoMemory> {
-        Ok(Choice {
+    pub(crate) fn choice(&self) -> Result<RowClaims, NoMemory> {
+        Ok(RowClaims {
             claims: self.all_claims()?,
             left_out: self.missing.first_short(),
             added: self.said.unlike,

@@ -1,7 +1,7 @@
 //! The search in mid-run.
 
-use super::graph::{Graph, Reader};
 use super::pairs::Pairs;
+use super::readers::{Reader, Readers};
 use crate::numbers::NONE;
 use crate::pairing::Pairing;
 use iloc_ops::NoMemory;
@@ -31,7 +31,7 @@ struct Looked {
 
 /// A partner for a reader, which can be taken back.
 #[derive(Clone, Copy)]
-struct Choice {
+struct PartnerChoice {
     /// What the partner is to be like; the operation is the reader of the block.
     wanted: Reader,
     /// How many pairs there were before, and how far the search had looked.
@@ -45,13 +45,13 @@ struct Choice {
 /// A search in mid-run.
 #[derive(Drop)]
 pub(crate) struct Search<'a> {
-    block: &'a Graph<'a>,
-    rows: &'a Graph<'a>,
+    block: &'a Readers<'a>,
+    rows: &'a Readers<'a>,
     pairs: Pairs,
     // Operations that have to be paired too.
     following: Vec<(usize, usize)>,
     // The choices since pairs were last kept.
-    choices: Vec<Choice>,
+    choices: Vec<PartnerChoice>,
     looked: Looked,
     // How many operations of the block, in order of colours, have pairs that are kept.
     kept: usize,
@@ -63,8 +63,8 @@ impl<'a> Search<'a> {
     /// No pair.
     pub(crate) fn new(
         alloc: Global,
-        block: &'a Graph<'a>,
-        rows: &'a Graph<'a>,
+        block: &'a Readers<'a>,
+        rows: &'a Readers<'a>,
     ) -> Result<Search<'a>, NoMemory> {
         Ok(Search {
             block,
@@ -115,10 +115,10 @@ impl<'a> Search<'a> {
     }
 
     /// The choice of a partner for a reader with this number.
-    fn choice(&self, reader: Reader, number: usize) -> Choice {
+    fn choice(&self, reader: Reader, number: usize) -> PartnerChoice {
         let source = reader.source.map(|i| self.pairs.partner(i));
         let index = self.rows.index(source, number);
-        Choice {
+        PartnerChoice {
             wanted: Reader { source, ..reader },
             pairs: self.pairs.len(),
             looked: self.looked,
@@ -179,7 +179,7 @@ impl<'a> Search<'a> {
     }
 
     /// The next candidate of a choice: those at the reader's place and above it, then those below.
-    fn candidate(&self, choice: &mut Choice) -> Option<usize> {
+    fn candidate(&self, choice: &mut PartnerChoice) -> Option<usize> {
         if let Some(k) = self.rows.like(choice.wanted, choice.above) {
             choice.above = choice.above.saturating_add(1);
             return Some(k);

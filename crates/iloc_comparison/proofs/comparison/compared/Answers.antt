@@ -7,7 +7,7 @@ use Rattle.iloc_timed.specs.Timed.{timed_outcome}
 use Rattle.iloc_rules.proofs.Outcome.LawfulOutcomes.{lawful_same_outcome}
 use Rattle.iloc_terms.specs.declared.two_runs.Agreement.{Agreement}
 use Rattle.iloc_terms.specs.Agreement.{AreAlike, AlikeOnAll, IsAgreement}
-use Rattle.iloc_comparison.specs.declared.task.Task.{Task}
+use Rattle.iloc_comparison.specs.declared.task.JudgedBlock.{JudgedBlock}
 use Rattle.iloc_comparison.specs.Comparison.{AgreesOnAll}
 use Rattle.iloc_comparison.proofs.comparison.compared.Goals as goal
 
@@ -20,12 +20,12 @@ alike_wanted true ours theirs wanted same is = sym same ∙ ap shown is
 alike_wanted false ours theirs wanted same is = sym same ∙ is
 
 -- our schedule has the block's outcome
-own : (task : Task) (words : List ℤ) → timed_outcome task.latencies.now task.ours.now.ops task.ours.now.rows words
+own : (task : JudgedBlock) (words : List ℤ) → timed_outcome task.latencies.now task.ours.now.ops task.ours.now.rows words
     ≡ outcome task.block.now.ops words
 own task words =
     lawful_same_outcome task.latencies.now task.block.now.ops task.ours.now.ops task.ours.now.rows words task.lawful
 
-agrees_on_all : (outputs : Bool) (task : Task) (theirs : Table) → AlikeOnAll outputs task.latencies.now task.ours.now theirs
+agrees_on_all : (outputs : Bool) (task : JudgedBlock) (theirs : Table) → AlikeOnAll outputs task.latencies.now task.ours.now theirs
     → AgreesOnAll outputs task.latencies.now task.block.now.ops theirs.ops theirs.rows
 agrees_on_all outputs task theirs alike = λ words fits.
     alike_wanted outputs (timed_outcome task.latencies.now task.ours.now.ops task.ours.now.rows words)
@@ -33,7 +33,7 @@ agrees_on_all outputs task theirs alike = λ words fits.
     (own task words)
 
 -- what was seen of our schedule and theirs
-abbrev Seen : Bool → Task → Table → Agreement → Type 0
+abbrev Seen : Bool → JudgedBlock → Table → Agreement → Type 0
 Seen outputs task theirs = IsAgreement outputs task.latencies.now task.ours.now theirs
 
 pub returns-in-Same : goal.returns-in-Same

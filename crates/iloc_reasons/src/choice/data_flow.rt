@@ -10,30 +10,30 @@ use std::alloc::Global;
 /// What memory and outputs fix of an operation: how many stores are before a load, a store or an output, and how many
 /// outputs before an output.
 #[derive(Clone, Copy, Default)]
-pub(crate) struct Place {
+pub(crate) struct EffectPlace {
     pub stores: usize,
     pub outputs: usize,
 }
 
-impl Place {
+impl EffectPlace {
     /// That of an operation of a kind behind so many.
-    fn of(self, kind: Kind) -> Place {
+    fn of(self, kind: Kind) -> EffectPlace {
         match kind {
-            Kind::Load | Kind::Store => Place { outputs: 0, ..self },
+            Kind::Load | Kind::Store => EffectPlace { outputs: 0, ..self },
             Kind::Output => self,
-            _ => Place::default(),
+            _ => EffectPlace::default(),
         }
     }
 
     /// With one more operation.
-    fn with(self, kind: Kind) -> Place {
-        let Place { stores, outputs } = self;
+    fn with(self, kind: Kind) -> EffectPlace {
+        let EffectPlace { stores, outputs } = self;
         match kind {
-            Kind::Store => Place {
+            Kind::Store => EffectPlace {
                 stores: stores.saturating_add(1),
                 outputs,
             },
-            Kind::Output => Place {
+            Kind::Output => EffectPlace {
                 stores,
                 outputs: outputs.saturating_add(1),
             },
@@ -49,13 +49,13 @@ impl Place {
 
 /// The operations of one side in their rows; a block has one in each.
 #[derive(Drop)]
-pub(crate) struct Graph<'a> {
+pub(crate) struct DataFlow<'a> {
     pub ops: &'a [Op],
     /// As they are issued.
     pub issued: Vec<usize>,
     /// By operation what it reads.
     pub sources: Vec<Sources>,
-    pub places: Vec<Place>,
+    pub places: Vec<EffectPlace>,
     pub labels: Vec<u64>,
 }
 
@@ -67,9 +67,9 @@ pub(crate) fn put<T: Drop + Copy>(list: &mut Vec<T>, place: usize, value: T) {
 }
 
 /// The places of operations in rows.
-fn places(alloc: Global, ops: &[Op], rows: &[Row]) -> Result<Vec<Place>, NoMemory> {
-    let mut places = vec![in alloc; Place::default(); ops.len()]?;
-    let mut behind = Place::default();
+fn places(alloc: Global, ops: &[Op], rows: &[Row]) -> Result<Vec<EffectPlace>, NoMemory> {
+    let mut places = vec![in alloc; EffectPlace::default(); ops.len()]?;
+    let mut behind = EffectPlace::default();
     for row in rows {
         let before = behind;
         for slot in [row.zero, row.one] {
@@ -98,13 +98,13 @@ fn issued(alloc: Global, rows: &[Row]) -> Result<Vec<usize>, NoMemory> {
     Ok(issued)
 }
 
-impl<'a> Graph<'a> {
+impl<'a> DataFlow<'a> {
     /// The operations of a block, issued one by one, of which each reads these.
     pub(crate) fn of_block(
         alloc: Global,
         ops: &'a [Op],
         sources: &[Sources],
-    ) -> Result<Graph<'a>, NoMemory> {
+    ) -> Result<DataFlow<'a>, NoMemory> {
         let mut rows = Vec::with_capacity(alloc, ops.len())?;
         for i in 0..ops.len() {
             rows.push(Row {
@@ -112,7 +112,7 @@ impl<'a> Graph<'a> {
                 one: None,
             })?;
         }
-        Graph::of(alloc, ops, &rows, sources)
+        DataFlow::of(alloc, ops, &rows, sources)
     }
 
     /// The operations of rows, of which each reads these.
@@ -121,12 +121,12 @@ impl<'a> Graph<'a> {
         ops: &'a [Op],
         rows: &[Row],
         sources: &[Sources],
-    ) -> Result<Graph<'a>, NoMemory> {
+    ) -> Result<DataFlow<'a>, NoMemory> {
         let mut labels = Vec::with_capacity(alloc, ops.len())?;
         for op in ops {
             labels.push(label_number(op))?;
         }
-        Ok(Graph {
+        Ok(DataFlow {
             ops,
             issued: issued(alloc, rows)?,
             sources: Vec::from_slice(alloc, sources)?,
@@ -146,7 +146,7 @@ impl<'a> Graph<'a> {
     }
 
     /// The place of operation k.
-    pub(crate) fn place(&self, k: usize) -> Place {
+    pub(crate) fn place(&self, k: usize) -> EffectPlace {
         self.places.get(k).copied().unwrap_or_default()
     }
 

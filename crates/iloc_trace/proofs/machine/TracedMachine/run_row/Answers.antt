@@ -1,7 +1,7 @@
 use Rattle.std.proofs.lemmas.Result.{on_ok_weaker}
 use Rattle.iloc_trace.proofs.Landing.{after_landing}
 use Rattle.iloc_trace.proofs.RowsOn.{after_row, if_ok, row_listed}
-use Rattle.iloc_trace.proofs.machine.Machine.run_row.Goals as goal
+use Rattle.iloc_trace.proofs.machine.TracedMachine.run_row.Goals as goal
 
 pub returns-clause-lists : goal.returns-clause-lists
 returns-clause-lists c = on_ok_weaker c.issue.result
