@@ -1,5 +1,6 @@
 """A block with our schedule of it, what is known of its words and addresses, and a plain list scheduler."""
-from oracle.machine import COMPUTED, MASK, keeps_units
+from oracle import apart
+from oracle.machine import keeps_units
 from oracle.scheduler import befores_of
 
 
@@ -7,20 +8,14 @@ class Known:
     """What is known of the words and addresses of operations whose results have registers of their own."""
 
     def __init__(self, ops):
-        self.ops, self.values = ops, known_values(ops)
+        self.ops, self.values = ops, {n: (None, 0) for op in ops for n in op.used}
+        self.values.update((n, value) for op, value in zip(ops, apart.values_of(ops)) for n in op.defined)
 
     def address(self, op):
-        """Base and offset of the address at which an operation does something; the base of a known one is None."""
-        if op.kind == "output":
-            return None, op.constant
-        if op.kind not in ("load", "store"):
-            return None
-        base, offset = self.values[op.used[-1]]
-        return base, (offset + (op.constant or 0)) & MASK
+        return apart.address(op, self.values.get)
 
     def are_apart(self, one, other):
-        places = self.address(one), self.address(other)
-        return None not in places and places[0][0] == places[1][0] and places[0][1] != places[1][1]
+        return apart.are_apart(self.address(one), self.address(other))
 
 
 class Given(Known):
@@ -30,26 +25,6 @@ class Given(Known):
         super().__init__(schedule.ops)
         self.latencies, self.rows = schedule.latencies, schedule.rows
         self.pairs, self.priorities = schedule.pairs, schedule.priorities
-
-
-def known_values(ops):
-    """By register a base and an offset: the base None where the value is known, else a register."""
-    values = {n: (None, 0) for op in ops for n in op.used}
-    for op in ops:
-        if not op.defined:
-            continue
-        used = [values[n] for n in op.used] + [(None, op.constant)] * (op.constant is not None)
-        target, opcode = op.defined[0], op.opcode.removesuffix("I")
-        if op.opcode == "loadI":
-            values[target] = None, op.constant
-        elif opcode in COMPUTED and all(base is None for base, _ in used):
-            values[target] = None, COMPUTED[opcode](used[0][1], used[1][1]) & MASK
-        elif op.opcode in ("addI", "subI"):
-            base, offset = used[0]
-            values[target] = base, (offset + (op.constant if op.opcode == "addI" else -op.constant)) & MASK
-        else:
-            values[target] = target, 0
-    return values
 
 
 def scheduled(ops, pairs, rank, width=2):

@@ -98,15 +98,8 @@ def order_of_operands(_, given):
 
 def told_apart(_, given):
     """Accesses to addresses that differ by a known number don't wait for one another."""
-    return scheduled(given.ops, apart_pairs(given), lambda j: (-given.priorities[j], j))
-
-
-def apart_pairs(given):
-    def is_due(i, j, d):
-        one, other = given.ops[i], given.ops[j]
-        uses = set(one.defined) & set(other.used) and d == one.latency(given.latencies)
-        return uses or one.kind == other.kind == "output" or not given.are_apart(one, other)
-    return [pair for pair in given.pairs if is_due(*pair)]
+    pairs = pairs_of(given.ops, given.latencies, lambda i, j: not given.are_apart(given.ops[i], given.ops[j]))
+    return scheduled(given.ops, pairs, lambda j: (-given.priorities[j], j))
 
 
 def dead_code_dropped(_, given):

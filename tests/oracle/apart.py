@@ -1,5 +1,7 @@
 """Which operations are apart: whatever the memory is, their addresses differ. Worked out by the definition, pair by
 pair."""
+from functools import partial
+
 from oracle.machine import COMPUTED, MASK
 
 
@@ -40,18 +42,20 @@ def result(j, op, used):
     return own
 
 
+def address(op, known_of):
+    """What is known of the address that an operation reads or writes, as of a result, or None. `known_of` says it of a
+    register."""
+    if op.kind == "output":
+        return None, op.constant & MASK
+    if op.kind not in ("load", "store"):
+        return None
+    base, constant = known_of(op.used[-1])
+    return base, (constant + (op.constant or 0)) & MASK
+
+
 def addresses_of(ops):
-    """By operation what is known of the address that it reads or writes, as of a result, or None."""
-    values, addresses = values_of(ops), []
-    for j, op in enumerate(ops):
-        if op.kind == "output":
-            addresses.append((None, op.constant & MASK))
-        elif op.kind in ("load", "store"):
-            base, constant = known(ops, values, j, op.used[-1])
-            addresses.append((base, (constant + (op.constant or 0)) & MASK))
-        else:
-            addresses.append(None)
-    return addresses
+    values = values_of(ops)
+    return [address(op, partial(known, ops, values, j)) for j, op in enumerate(ops)]
 
 
 def are_apart(address, other):
