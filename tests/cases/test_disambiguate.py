@@ -1,38 +1,26 @@
-"""`--disambiguate`: loads and outputs don't wait for stores that are known to go elsewhere. Listings beside the oracle;
-that rows do what their blocks do; and blocks where one pair less to wait for would be wrong."""
+"""`--disambiguate`: loads and outputs don't wait for stores that are known to go elsewhere. Runs of such schedules,
+what `check` says of them, and blocks where one pair less to wait for would be wrong."""
 import random
-import re
-from functools import cache, partial
 
-from cases.test_drawn import FOUR_CONSTANTS, best_of_orders, comparison, comparison_table, listing
-from harness.program import FARMED, TESTED, ending, listed, told, unlike
+from cases.test_drawn import FOUR_CONSTANTS
+from harness.program import TESTED, ending, listed, unlike
 from harness.suite import Check, table
 from language import USUAL
 from oracle.apart import by_address
 from oracle.drawn import aliasing_block, lab_block, made_block
-from oracle.graph import unimplied
 from oracle.judge import wrong_ending
-from oracle.machine import difference, drawn_word, memories, words_from
-from oracle.operations import text_of, words_for
+from oracle.machine import difference, drawn_word, words_from
+from oracle.operations import text_of
 from oracle.reader import read
-from oracle.scheduler import ORDERS, Schedule
+from oracle.scheduler import Schedule
 
 OPTION = "--disambiguate"
 NO_COMMAND = 2
-TAKING = ("schedule", "counts", "simulate", "compare", "optimize", "explain", "graph", "check")
-NOT_TAKING = ("run", "trace", "lint")
 EXCLUDED = (["check", "--lawful"], ["explain", "--task", "/dev/null"])      # what is by the book
-FILES, OF_A_FILE = 30, 20               # 600 drawn blocks
-ALL_FILES, OF_A_LONG_FILE = 500, 100    # 50,000
-A_RUN = 25      # files of which one run has the blocks
+RUNS, ALL_RUNS, OF_A_RUN = 2, 100, 300      # blocks of a run
+FILES, ALL_FILES, OF_A_FILE = 3, 250, 20    # blocks that are judged
 MAKERS = (aliasing_block, aliasing_block, lab_block, made_block)
 MEMORIES = 20
-LATENCIES = (USUAL, {"load": 1, "store": 2, "mult": 16})
-EDGE = re.compile(rb"^ +b(\d+)_(\d+) -> b\d+_(\d+) \[label=\"(\d+)\"\];$", re.MULTILINE)
-# The words that ask for a listing by an order, and those for one that has no order or all of them.
-BY_ORDER = {"schedule": ["schedule"], "counts": ["counts"], "explain": ["explain"], "cycles": ["explain", "--cycles"]}
-OF_ALL = ((["compare"], comparison), (["compare", "--csv"], comparison_table),
-          (["optimize", "--nodes", "0"], best_of_orders), (["graph"], partial(listing, "graph")))
 # Where what is known of addresses decides, with the cycles by the book and with addresses compared.
 EDGES = {
     "constants_that_differ": ("loadI 4 => r1\nloadI 8 => r2\nstore r1 => r1\nload r2 => r3\n", 11, 7),
@@ -82,97 +70,28 @@ WEAKER = {
 }
 
 
-@cache
-def takes(command):
-    """Whether a command has the option."""
-    return OPTION.encode() in ending(["help", command])[1]
-
-
-def drawn_blocks(seed):
+def drawn_text(seed, count):
     chance = random.Random(f"apart {seed}")
-    return chance, [chance.choice(MAKERS)(chance) for _ in range(OF_A_FILE if TESTED.is_short else OF_A_LONG_FILE)]
+    return text_of([chance.choice(MAKERS)(chance) for _ in range(count)])
 
 
-def asked_of(chance, blocks, latencies):
-    """Words for a listing of each kind, and the listing that is due: always a schedule, and one of those for which the
-    commands have the option."""
-    by = chance.choice(ORDERS)
-    tags = [tag for tag, words in BY_ORDER.items() if takes(words[0])]
-    of_all = [pair for pair in OF_ALL if takes(pair[0][0])]
-    for tag in ("schedule", chance.choice(tags)):
-        yield [*BY_ORDER[tag], "--priority", by], listing(tag, blocks, latencies, by, by_address)
-    if of_all:
-        words, listing_of = chance.choice(of_all)
-        yield words, listing_of(blocks, latencies, rule=by_address)
-
-
-def unlike_the_oracle(seeds):
-    for seed in seeds:
-        chance, blocks = drawn_blocks(seed)
-        latencies = chance.choice(LATENCIES)
-        for words, due in asked_of(chance, blocks, latencies):
-            workers = ["--workers", chance.choice("1238")] if words[0] in FARMED else []
-            words = [*words, OPTION, *words_for(latencies), *workers]
-            yield from unlike(f"{' '.join(words)}, seed {seed}", ending(words, text_of(blocks)), (0, due, b""))
-
-
-def unlike_a_plain_run(seeds):
+def unlike_a_plain_run(runs):
     """Blocks that alias and fault, many in a run, on one memory after another."""
-    for first in range(0, len(seeds), A_RUN):
-        text = text_of([ops for seed in seeds[first:first + A_RUN] for ops in drawn_blocks(seed)[1]])
+    for seed in range(runs):
+        text = drawn_text(seed, OF_A_RUN)
         for memory in range(MEMORIES):
             words = ["--at", "0", *(str(drawn_word(memory, number)) for number in range(300))]
             got, due = (ending([*command, *words], text) for command in (["simulate", OPTION], ["run"]))
-            yield from unlike(f"simulate {OPTION}, from seed {seeds[first]}, memory {memory}", got, due)
+            yield from unlike(f"simulate {OPTION}, seed {seed}, memory {memory}", got, due)
 
 
-def unlike_in_memory(seeds):
-    """What rows emit, whether they fault, and the memory at their end are those of the block, on many memories."""
-    for seed in seeds:
-        text = text_of(drawn_blocks(seed)[1])
-        for number, block in enumerate(read(text + ending(["schedule", OPTION], text)[1]), 1):
-            places = (difference(block.ops, block.rows, USUAL, start) for start in memories(MEMORIES))
-            yield from (f"seed {seed}, block {number}: {place}" for place in filter(None, places))
-
-
-def not_judged_the_same(seeds):
-    """By `check` no row differs, on any memory; and ours and the least are those of the option, where it has that."""
-    for seed in seeds:
-        text = text_of(drawn_blocks(seed)[1])
+def not_judged_the_same(files):
+    """By `check` no row differs, on any memory; and ours and the least are those of the option."""
+    for seed in range(files):
+        text = drawn_text(seed, OF_A_FILE)
         given = text + ending(["schedule", OPTION], text)[1]
-        rule = {"rule": by_address} if takes("check") else {}
-        got = ending(["check", *[OPTION] * len(rule)], given)
-        yield from (f"seed {seed}: {wrong}" for wrong in wrong_ending(got, given, USUAL, is_right=True, **rule))
-
-
-def edges_that_imply_too_little(seeds):
-    """The edges of the graph are delays, and imply all others."""
-    for seed in seeds:
-        chance, blocks = drawn_blocks(seed)
-        latencies = chance.choice(LATENCIES)
-        drawn = ending(["graph", OPTION, *words_for(latencies)], text_of(blocks))[1]
-        edges = [[*map(int, found)] for found in EDGE.findall(drawn)]
-        for number, ops in enumerate(blocks, 1):
-            own = [(i, j, d) for block, i, j, d in edges if block == number]
-            wrong = unimplied(own, Schedule(ops, latencies, rule=by_address).pairs)
-            yield from (f"seed {seed}, block {number}: {pair}" for pair in wrong)
-
-
-def by_workers():
-    text = text_of([ops for seed in range(10) for ops in drawn_blocks(seed)[1]])
-    for command in filter(takes, FARMED):
-        ends = {ending([command, OPTION, "--workers", str(workers)], text) for workers in range(1, 9)}
-        if len(ends) != 1 or ends.pop()[0]:
-            yield f"{command}: the number of workers leaves a trace"
-
-
-def taken():
-    """These commands have the option, others haven't."""
-    yield from (f"{command} hasn't the option" for command in TAKING if not takes(command))
-    for command in NOT_TAKING:
-        status, out, err = end = ending([command, OPTION], b"output 0\n")
-        if (status, out) != (NO_COMMAND, b"") or not err.startswith(b"error: unexpected argument '--disambiguate'"):
-            yield f"{command}: {told(end)}"
+        wrongs = wrong_ending(ending(["check", OPTION], given), given, USUAL, is_right=True, rule=by_address)
+        yield from (f"seed {seed}: {wrong}" for wrong in wrongs)
 
 
 def shorter_than_the_bound():
@@ -208,18 +127,10 @@ def allows_less(text, words, pair):
 
 
 def disambiguate_cases():
-    files = range(FILES if TESTED.is_short else ALL_FILES)
-    yield Check("disambiguate/drawn", unlike_the_oracle, files)
-    if takes("graph"):
-        yield Check("disambiguate/edges", edges_that_imply_too_little, files)
-    yield Check("disambiguate/simulated", unlike_a_plain_run, files)
-    yield Check("disambiguate/in_memory", unlike_in_memory, files)
-    yield Check("disambiguate/judged", not_judged_the_same, files[:len(files) // 10])
-    yield Check("disambiguate/by_workers", by_workers)
-    yield Check("disambiguate/taken", taken)
-    if takes("check") and takes("explain"):
-        yield Check("disambiguate/excluded", excluded)
-        yield Check("disambiguate/shorter_than_the_bound", shorter_than_the_bound)
+    yield Check("disambiguate/simulated", unlike_a_plain_run, RUNS if TESTED.is_short else ALL_RUNS)
+    yield Check("disambiguate/judged", not_judged_the_same, FILES if TESTED.is_short else ALL_FILES)
+    yield Check("disambiguate/excluded", excluded)
+    yield Check("disambiguate/shorter_than_the_bound", shorter_than_the_bound)
     for name, (text, book, apart) in EDGES.items():
         for words, cycles in ((["counts"], book), (["counts", OPTION], apart)):
             yield listed(f"disambiguate/{name}/{'_'.join(words)}", text.encode(),

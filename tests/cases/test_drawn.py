@@ -1,32 +1,41 @@
-"""What the commands must print of drawn blocks, by the oracle; and what is known of some blocks beside it."""
+"""What the commands list of drawn blocks, with drawn options, beside the oracle; and the bounds that are known of some
+blocks."""
 import random
-from functools import partial
+import re
 
-from harness.program import listed
-from harness.suite import table
-from language import USUAL
-from oracle.drawn import made_block
-from oracle.graph import OPENING, cluster
-from oracle.machine import fault_place, row_text, words_from
+from harness.program import FARMED, TESTED, ending, stored, unlike
+from harness.suite import Check, table
+from language import LONGEST_LATENCY, USUAL
+from oracle.apart import by_address
+from oracle.drawn import aliasing_block, lab_block, made_block
+from oracle.machine import words_from
 from oracle.operations import text_of, words_for
-from oracle.printed import entry, outputs
-from oracle.reader import read
-from oracle.ready import ready_lines
-from oracle.scheduler import ORDERS, Schedule, all_count
-from oracle.trace import trace
+from oracle.printed import Listing
+from oracle.scheduler import ORDERS
 
 WORDS = [3, 4_294_967_295, 8, 70, 5, 1_000_000]
-AT = ["--at", "0", *map(str, WORDS)]
-# By name the words that ask for a listing.
-LISTINGS = {"run": ["run", *AT], "simulate": ["simulate", *AT], "schedule": ["schedule"], "counts": ["counts"],
-            "explain": ["explain"], "cycles": ["explain", "--cycles"], "graph": ["graph"], "trace": ["trace", *AT]}
+FILES, ALL_FILES, OF_A_FILE = 100, 1000, 20
+MAKERS = (made_block, made_block, lab_block, aliasing_block)
 ODD = {"load": 1, "store": 2, "mult": 16}
 SHORT = {"load": 1, "store": 1, "mult": 1}
+MOST_PRIORITY = 4_294_967_295
+# What a command is asked for, and what it lists by the oracle.
+FORMS = (
+    (["run"], Listing.run), (["run", "--where"], Listing.where), (["simulate"], Listing.run),
+    (["schedule"], Listing.schedule), (["counts"], Listing.counts), (["counts", "--csv"], Listing.counts_table),
+    (["explain"], Listing.explain), (["explain", "--cycles"], Listing.cycles), (["graph"], Listing.graph),
+    (["trace"], Listing.trace), (["optimize", "--nodes", "0"], Listing.optimize), (["compare"], Listing.compare),
+    (["compare", "--csv"], Listing.compare_table),
+    (["compare", "--nodes", "0"], lambda listing: listing.compare(listing.unsearched())),
+    (["compare", "--nodes", "0", "--csv"], lambda listing: listing.compare_table(listing.unsearched())),
+)
+ON_MEMORY = ("run", "simulate", "trace")
+BY_ORDER = ("simulate", "schedule", "counts", "explain", "trace")
+BY_OWN = ("schedule", "counts", "explain", "compare")
+BY_ADDRESS = ("simulate", "schedule", "counts", "explain", "graph", "compare", "optimize")
 # All but the first two wait for others.
 SEVEN_OPERATIONS = ("loadI 4 => r1\nloadI 8 => r2\nmult r1, r2 => r3\nload r1 => r4\nadd r3, r4 => r5\n"
                     "store r5 => r2\noutput 8\n")
-# What `compare` lists before the cycles by each order, without a search and with one.
-COMPARED_TO = (("least",), ("least", "bound", "best"))
 FOUR_CONSTANTS = "loadI 1 => r1\nloadI 2 => r2\nloadI 3 => r3\nloadI 4 => r4\n"
 # Blocks, latencies, and the lower bound: by the longest path, and by what a row can hold.
 LEAST = [
@@ -38,124 +47,57 @@ LEAST = [
 ]
 
 
-def listing(command, blocks, latencies, by="chain", rule=all_count):
-    """What the command lists, by an order or by a list of numbers for each block, and by a rule of what counts."""
-    lines, total = [], 0
-    for k, ops in enumerate(blocks, 1):
-        schedule = Schedule(ops, latencies, by if by in ORDERS else by[k - 1], rule)
-        head, cycles = f"block {k} B{k}", schedule.cycles()
-        others = {"explain": lambda: [head, *schedule.lines()], "graph": lambda: cluster(k, f"B{k}", schedule),
-                  "cycles": lambda: [head, *ready_lines(schedule), schedule.summary()],
-                  "trace": lambda: [head, *trace(schedule.rows, latencies, words_from(0, WORDS))]}
-        usual = partial(entry, command, head, ops, lambda: schedule, words_from(0, WORDS))
-        lines += others.get(command, usual)()
-        total += cycles
-    ending = {"run": [], "simulate": [], "trace": [], "graph": ["}"]}.get(command, [f"total {total}"])
-    lines[:0] = [OPENING] if command == "graph" else []
-    return "\n".join(map(str, [*lines, *ending, ""])).encode()
+def drawn_priorities(chance, blocks):
+    """Numbers of somebody's own for each block, and the file that has them."""
+    most = chance.choice([0, 1, 3, 100, MOST_PRIORITY])
+    numbers = [[chance.randint(0, most) for op in ops if op.opcode != "nop"] for ops in blocks]
+    return numbers, stored("priorities", "".join(f"{' '.join(map(str, each))}\n" for each in numbers).encode())
 
 
-def best_of_orders(blocks, latencies, rule=all_count):
-    """What `optimize` lists without a search."""
-    lines, total = [], 0
-    for k, ops in enumerate(blocks, 1):
-        best = min((Schedule(ops, latencies, by, rule) for by in ORDERS), key=Schedule.cycles)
-        cycles, least = best.cycles(), best.least()
-        lines += [f"block {k} B{k}", *map(row_text, best.rows), f"cycles {cycles}"]
-        lines.append(f"// bound {least}{' optimal' if cycles == least else ''}")
-        total += cycles
-    return "\n".join([*lines, f"total {total}", ""]).encode()
+def drawn_options(chance, command, blocks):
+    """Options of a command, and what they say to the oracle. Somebody's own numbers count before an order."""
+    words, how = [], {}
+    if command in ON_MEMORY:
+        words, how["start"] = ["--at", "0", *map(str, WORDS)], words_from(0, WORDS)
+    if command != "run":
+        how["latencies"] = chance.choice([USUAL, ODD, {name: chance.randint(1, LONGEST_LATENCY) for name in USUAL}])
+        words += words_for(how["latencies"])
+    if command in BY_ORDER and chance.random() < 0.7:
+        how["by"] = chance.choice(ORDERS)
+        words += ["--priority", how["by"]]
+    if command in BY_OWN and chance.random() < 0.4:
+        how["by"], file = drawn_priorities(chance, blocks)
+        words += ["--priorities", file]
+    if command in BY_ADDRESS and chance.random() < 0.5:
+        how["rule"] = by_address
+        words.append("--disambiguate")
+    if command in FARMED:
+        words += ["--workers", str(chance.randint(1, 8))]
+    return words, how
 
 
-def compared(blocks, latencies, sought=None, rule=all_count):
-    """Of each block `least`, with the bound and the best cycles if they were sought, and the cycles by each order."""
-    schedules = [[Schedule(ops, latencies, by, rule) for by in ORDERS] for ops in blocks]
-    return [[row[0].least(), *limits, *(schedule.cycles() for schedule in row)]
-            for row, limits in zip(schedules, sought or [()] * len(blocks), strict=True)]
+def unlike_the_oracle(asked, listing_of, files):
+    for seed in range(files):
+        chance = random.Random(f"{asked} {seed}")
+        blocks = [chance.choice(MAKERS)(chance) for _ in range(OF_A_FILE)]
+        options, how = drawn_options(chance, asked[0], blocks)
+        got = ending([*asked, *options], text_of(blocks))
+        due = listing_of(Listing(blocks, **how))
+        yield from unlike(f"{' '.join([*asked, *options])}, seed {seed}", got, (0, due, b""))
 
 
-def unsearched(blocks, latencies, rule=all_count):
-    """What is known without a search: `least`, and the best of the orders."""
-    return [(row[0], min(row[1:])) for row in compared(blocks, latencies, None, rule)]
+def other_bounds():
+    for text, latencies, least in LEAST:
+        out = ending(["explain", *words_for(latencies)], text.encode())[1]
+        if re.findall(rb"^cycles \d+ least (\d+)", out, re.MULTILINE) != [b"%d" % least]:
+            yield f"{text!r} for {latencies}: {out} in place of a least of {least}"
 
 
-def columns(numbers, names=ORDERS):
-    return "".join(f" {name} {number}" for name, number in zip(names, numbers))
+def drawn_checks():
+    for asked, listing_of in FORMS:
+        yield Check(f"drawn/{'_'.join(asked)}", unlike_the_oracle, asked, listing_of,
+                    FILES if TESTED.is_short else ALL_FILES)
+    yield Check("drawn/known_bounds", other_bounds)
 
 
-def comparison(blocks, latencies, sought=None, rule=all_count):
-    return comparison_of(compared(blocks, latencies, sought, rule), COMPARED_TO[bool(sought)], ORDERS)
-
-
-def comparison_of(rows, limits, orders):
-    """The listing of these rows, of the cycles by these orders after those to which they are compared."""
-    names = (*limits, *orders)
-    lines = [f"block {k} B{k}" + columns(row, names) for k, row in enumerate(rows, 1)]
-    lines.append("total" + columns(map(sum, zip(*rows)), names))
-    for name, best in (("fewest", lambda row: min(row[len(limits):])), ("optimal", lambda row: row[len(limits) > 1])):
-        counts = [sum(row[at] == best(row) for row in rows) for at in range(len(limits), len(names))]
-        lines.append(f"{name}{columns(counts, orders)} of {len(rows)}")
-    return "\n".join([*lines, ""]).encode()
-
-
-def comparison_table(blocks, latencies, sought=None, rule=all_count):
-    return table_of((*COMPARED_TO[bool(sought)], *ORDERS), compared(blocks, latencies, sought, rule))
-
-
-def table_of(head, rows):
-    lines = [f"block,name,{','.join(head)}", *(",".join(map(str, [k, f"B{k}", *row])) for k, row in enumerate(rows, 1))]
-    return "\n".join([*lines, ""]).encode()
-
-
-def places(blocks):
-    """What `run --where` lists."""
-    lines = []
-    for k, ops in enumerate(blocks, 1):
-        place = fault_place(ops, words_from(0, WORDS))
-        lines += [f"block {k} B{k}", *([place] if place else outputs(ops, words_from(0, WORDS)))]
-    return "\n".join(map(str, [*lines, ""])).encode()
-
-
-def drawn_cases():
-    for seed in range(20):
-        chance = random.Random(seed)
-        blocks = [made_block(chance) for _ in range(5)]
-        for name, latencies in (("usual", USUAL), ("odd", ODD)):
-            yield from made(f"{name}_{seed}", blocks, latencies)
-    for seed in range(50):
-        chance = random.Random(f"latencies {seed}")
-        latencies = {name: chance.randint(1, most) for name, most in (("load", 3), ("store", 16), ("mult", 16))}
-        yield from made(f"drawn_{seed}", [made_block(chance) for _ in range(20)], latencies)
-    for number, case in enumerate(LEAST):
-        yield known(f"least_{number}", *case)
-
-
-def made(name, blocks, latencies):
-    text, words, by = text_of(blocks), words_for(latencies), random.Random(name).choice(ORDERS)
-
-    def case(tag, out, *asked):
-        return listed(f"drawn/{name}/{tag}", text, out, [*asked])
-
-    for tag, asked in LISTINGS.items():
-        yield case(tag, listing(tag, blocks, latencies), *asked, *words * (tag != "run"))
-        if tag not in ("run", "graph"):
-            yield case(f"{tag}_by_{by}", listing(tag, blocks, latencies, by), *asked, "--priority", by, *words)
-    yield case("run_where", places(blocks), *LISTINGS["run"], "--where")
-    yield case("optimize", best_of_orders(blocks, latencies), "optimize", "--nodes", "0", *words)
-    rows = [[Schedule(ops, latencies, by).cycles()] for ops in blocks]
-    yield case("counts_csv", table_of(["cycles"], rows), "counts", "--csv", "--priority", by, *words)
-    for tag, sought, more in (("", None, []), ("_unsearched", unsearched(blocks, latencies), ["--nodes", "0"])):
-        yield case(f"compare{tag}", comparison(blocks, latencies, sought), "compare", *more, *words)
-        yield case(f"compare_csv{tag}", comparison_table(blocks, latencies, sought), "compare", "--csv", *more, *words)
-
-
-def known(name, text, latencies, least):
-    """A case of one block of which the least is known, in place of what is worked out."""
-    block, = read(text.encode())
-    schedule = Schedule(block.ops, latencies)
-    schedule.least = lambda: least
-    lines = [f"block 1 {block.name}", *schedule.lines(), f"total {schedule.cycles()}", ""]
-    return listed(f"drawn/{name}", text.encode(), "\n".join(lines).encode(), ["explain", *words_for(latencies)])
-
-
-load_tests = table(drawn_cases)
+load_tests = table(drawn_checks)

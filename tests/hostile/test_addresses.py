@@ -2,13 +2,13 @@
 long, memory is bounded, and time grows as n log n."""
 from functools import cache
 
-from cases.test_disambiguate import OPTION, takes
-from cases.test_drawn import listing
+from cases.test_disambiguate import OPTION
 from harness.program import ending, stored, unlike
 from harness.suite import Check, table
 from hostile.test_sizes import measured
-from language import MAX_NUMBER, MOST_OPERATIONS, USUAL
+from language import MAX_NUMBER, MOST_OPERATIONS
 from oracle.apart import by_address
+from oracle.printed import Listing
 from oracle.reader import read
 
 LENGTH, LONGER = 1000, MOST_OPERATIONS      # operations of a block, and ten times as many
@@ -84,12 +84,10 @@ def text_of(block, n):
 
 
 def beside_the_oracle(block):
-    text = text_of(block, FEW).replace("A:", "B1:").encode()
-    for command in ("schedule", "explain", "graph"):
-        if takes(command):
-            due = listing(command, [read(text)[0].ops], USUAL, rule=by_address)
-            yield from unlike(command, ending([command, OPTION], text), (0, due, b""))
-    yield from unlike("simulate", ending(["simulate", OPTION], text), ending(["run"], text))
+    text = text_of(block, FEW).encode()
+    listing = Listing([read(text)[0].ops], rule=by_address, names=["A"])
+    for command in ("simulate", "schedule", "explain", "graph"):
+        yield from unlike(command, ending([command, OPTION], text), (0, getattr(listing, command)(), b""))
 
 
 @cache
@@ -113,7 +111,7 @@ def in_time(block, words):
 def address_checks():
     for name, block in HARD.items():
         yield Check(f"addresses/{name}/oracle", beside_the_oracle, block)
-        for words in (words for words in (*LINEAR, *OTHERS) if takes(words[0])):
+        for words in (*LINEAR, *OTHERS):
             yield Check(f"addresses/{name}/{'_'.join(words)}", in_time, block, words)
 
 

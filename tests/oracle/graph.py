@@ -31,18 +31,6 @@ def takes_over(schedule, i, k, j):
     return kind == "store" and schedule.count(i, k) and schedule.count(k, j)
 
 
-def unimplied(edges, pairs):
-    """Edges that are no pair, and pairs from one operation to another without as long a chain of edges."""
-    yield from {*edges} - {*pairs}
-    forward = sorted(edges, key=lambda edge: edge[1])
-    for i in {first for first, _, _ in pairs}:
-        far = {i: 0}
-        for a, b, d in forward:
-            if a in far:
-                far[b] = max(far.get(b, 0), far[a] + d)
-        yield from ((first, j, d) for first, j, d in pairs if first == i and far.get(j, 0) < d)
-
-
 def cluster(number, name, schedule):
     def node(i):
         return f"        b{number}_{i}"

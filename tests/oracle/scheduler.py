@@ -204,9 +204,13 @@ class Schedule:
             return "an operation is left out"
         return next(late, None) if bad is None else f"row {bad}"
 
+    def bound(self):
+        """The least, and whether it is reached."""
+        least = self.least()
+        return f"{least}{' optimal' if self.cycles() == least else ''}"
+
     def summary(self):
-        cycles, least = self.cycles(), self.least()
-        return f"cycles {cycles} least {least}{' optimal' if cycles == least else ''}"
+        return f"cycles {self.cycles()} least {self.bound()}"
 
     def lines(self):
         cycles, starts = self.cycles(), starts_of(self.ops, self.pairs)

@@ -11,7 +11,7 @@ No growth that was refused is done without. So a body that tries again where it 
 from dataclasses import dataclass, field
 
 from bench import inputs
-from cases.test_disambiguate import OPTION, takes
+from cases.test_disambiguate import OPTION
 from harness.program import ALONE, FARMED, TESTED, ending, stored, told
 from harness.suite import Check, table
 from language import USUAL
@@ -113,16 +113,16 @@ def runs(name, given, rows):
     for command in ("lint", *ALONE):
         if command not in ("run", "check"):
             yield Asked([command], name, given)
-    for form in ([], ["--json"], ["--nodes", "10"], *[[OPTION, "--nodes", "10"]] * takes("check")):
+    for form in ([], ["--json"], ["--nodes", "10"], [OPTION, "--nodes", "10"]):
         yield Asked(["check", "--at", "0", "5", "6", *form], name, given + rows)
     for command in ("check", "explain", "trace"):
         yield Asked([command, "--task", stored(f"{name}.iloc", given)], f"rows for {name}", rows)
     yield Asked(["counts", "--csv", "--workers", "1"], name, given, 1)
     yield Asked(["compare", "--nodes", "10", "--workers", "1"], name, given, 1)
-    yield from (Asked([command, OPTION], name, given) for command in ("simulate", "graph") if takes(command))
+    yield from (Asked([command, OPTION], name, given) for command in ("simulate", "graph"))
     for workers in (1, 8):
         for command in FARMED:
-            for more in ([], [OPTION])[:1 + takes(command)]:
+            for more in ([], [OPTION]):
                 yield Asked([command, *more, "--workers", str(workers)], name, given, workers)
         numbers = stored(f"{name}.priorities", priorities_of(given))
         for command in ("schedule", "compare", "explain"):
