@@ -12,6 +12,8 @@ from oracle.machine import row_text, words_from
 from oracle.reader import NO_SUCH_BLOCK, read
 
 WORDS = ["check", "--at", "4", "9"]
+# In lines, and in a table.
+VERDICT = re.compile(r"^(?:block \d+ \S+ |\d+,[^,]+,)(\w+)", re.MULTILINE)
 
 LOADS_AND_STORES = "loadI 1024 => r1\nloadAI r1, 4 => r2\nmult r2, r2 => r3\nstoreAI r3 => r1, 8\noutput 1032\n"
 SQUARE = "loadI 4 => r1\nload r1 => r2\nmult r2, r2 => r3\nstore r3 => r1\noutput 4\n"
@@ -223,8 +225,7 @@ class Listed(NamedTuple):
 
     def case(self, name, in_json=""):
         words = [*WORDS, *self.options, *["--json"] * bool(in_json)]
-        verdicts = (match[3].decode() for match in ENTRY.finditer(self.out.encode("latin-1")))
-        status = status_of(verdicts, lawful="--lawful" in self.options)
+        status = status_of(VERDICT.findall(self.out), lawful="--lawful" in self.options)
         given, out = (text.encode("latin-1") for text in (self.text, in_json or self.out))
         return Run(f"judged/{name}", words, given, out, b"", status)
 
