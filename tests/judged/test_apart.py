@@ -1,6 +1,7 @@
 """Tasks in files of their own (`--task`): what is said of rows is what is said of them after their blocks, and what
 tries to change the task, or to pass without solving it, doesn't pass."""
 import os
+import re
 from pathlib import Path
 
 from harness.program import TOP, Run, ending, folder, stored, told, unlike
@@ -34,30 +35,6 @@ CHEATS = {
     "zero_byte": b"\x00[ nop ; nop ]\n",
 }
 
-# What is handed in for blocks a and b, each `output 4`, and what is said of it: lines that can't be read cost their
-# block alone.
-SAID = {
-    "hello": ("block 1 a\nhello\n[ output 4 ]\nblock 2 b\n[ output 4 ]\n",
-              "block 1 a unread cycles 2 ours 1 least 1\n  line 2, row 0: expected [, found hello\n"
-              "block 2 b lawful cycles 1 ours 1 least 1\ntotal 3 ours 2 least 2\n"),
-    "numbers": ("block 1 a\n[ output 4 ]\n// so\nblock 2 b\n0: [ output 4 ]\n1: [ nop ]\ncycles 1\n",
-                "block 1 a lawful cycles 1 ours 1 least 1\nblock 2 b unread cycles 0 ours 1 least 1 claimed 1\n"
-                "  line 5, row 0: expected [, found 0\ntotal 1 ours 2 least 2\n"),
-    "operation": ("block 1 a\n[ nop ]\noutput 4\nblock 2 b\noutput 4\n",
-                  "block 1 a unread cycles 0 ours 1 least 1\n  line 3, row 1: expected [, found output\n"
-                  "block 2 b unread cycles 0 ours 1 least 1\n  line 5, row 0: expected [, found output\n"
-                  "total 0 ours 2 least 2\n"),
-    "nothing": ("",
-                "block 1 a differs cycles 0 ours 1 least 1\n  no rows\n  output 1: none for 9\n  left out 1: output 4\n"
-                "block 2 b differs cycles 0 ours 1 least 1\n  no rows\n  output 1: none for 9\n  left out 1: output 4\n"
-                "total 0 ours 2 least 2\n"),
-    "nothing_for_one": ("block 2 b\n[ nop ; nop ]\n",
-                        "block 1 a differs cycles 0 ours 1 least 1\n  no rows\n  output 1: none for 9\n"
-                        "  left out 1: output 4\n"
-                        "block 2 b differs cycles 0 ours 1 least 1\n  output 1: none for 9\n  left out 1: output 4\n"
-                        "total 0 ours 2 least 2\n"),
-}
-
 
 def parts(text):
     """A text, cut before its first row."""
@@ -67,10 +44,13 @@ def parts(text):
 
 
 def as_together(text):
+    """But for the numbers of lines, which begin with the rows."""
     task, rows = (part.encode("latin-1") for part in parts(text))
-    together = ending(WORDS, text.encode("latin-1"))
+    before = text.count("\n") - rows.count(b"\n")
+    status, out, err = ending(WORDS, text.encode("latin-1"))
+    out = re.sub(rb"(?<=^  line )\d+", lambda number: b"%d" % (int(number[0]) - before), out, flags=re.MULTILINE)
     apart = ending([*WORDS, "--task", stored("task.iloc", task)], rows)
-    yield from unlike(repr(text), apart, together)
+    yield from unlike(repr(text), apart, (status, out, err))
 
 
 def all_as_together():
@@ -78,8 +58,7 @@ def all_as_together():
         for block, theirs, *_ in pairs.values():
             yield from as_together(block + spread(theirs))
     for listed in LISTED.values():
-        if " unread " not in listed.out:        # a line that can't be read has another number in a text of its own
-            yield from as_together(listed.text)
+        yield from as_together(listed.text)
 
 
 def is_refused(given):
@@ -110,17 +89,12 @@ def faults():
             ("under_a_file", f"{task}/x", bad_rows, "task: opening failed", NO_DEVICE),
             ("folder", folder(), bad_rows, "task: reading failed", NO_DEVICE),
             ("memory", "/proc/self/mem", bad_rows, "task: reading failed", NO_DEVICE),
-            ("empty", "/dev/null", bad_rows, "task: no blocks", NOT_READ),
-            ("no_name", "", bad_rows, None, None)):
-        out = f"ilocfarm: {said}\n".encode() if said else None
-        if status is None:
-            yield Check(f"apart/{name}", fails_somehow, file, rows)
-        else:
-            yield Run(f"apart/{name}", ["check", "--task", file], rows, b"", out, status)
+            ("empty", "/dev/null", bad_rows, "task: no blocks", NOT_READ)):
+        yield Run(f"apart/{name}", ["check", "--task", file], rows, b"", f"ilocfarm: {said}\n".encode(), status)
 
 
-def fails_somehow(file, rows):
-    end = ending(["check", "--task", file], rows)
+def without_a_name():
+    end = ending(["check", "--task", ""], b"block 2 b\n")
     if end[0] not in (2, NO_DEVICE) or end[1] or not end[2]:
         yield told(end)
 
@@ -130,10 +104,9 @@ def apart_cases():
     yield from (Check(f"apart/cheat_{name}", is_refused, rows) for name, rows in CHEATS.items())
     yield Check("apart/cut_anywhere", cut_anywhere)
     two = stored("two.iloc", b"a: output 4\nb: output 4\n")
-    for name, (rows, out) in SAID.items():
-        yield Run(f"apart/said_of_{name}", [*WORDS, "--task", two], rows.encode(), out.encode(), b"", FAILED)
     yield Run("apart/before_a_head", [*WORDS, "--task", two], b"// 9\nhello\nblock 1 a\n", b"",
               b"ilocfarm: line 2: not understood\n", NOT_READ)
+    yield Check("apart/without_a_name", without_a_name)
     yield from faults()
 
 
