@@ -1,6 +1,7 @@
 """Blocks with many operations that are alike: our own rows are by the book, and other rows are where an exhaustive
 search finds a pairing."""
 import random
+from collections import Counter
 
 from harness.program import TESTED, Run, ending, stored, told
 from harness.suite import Check, table
@@ -8,7 +9,7 @@ from judged.labs import Given, scheduled
 from judged.students import WRONG, own_names, registers_reused
 from language import MAX_NUMBER
 from oracle import alike
-from oracle.judge import ENTRY, proposed
+from oracle.judge import ENTRY, judged_by
 from oracle.machine import bad_row, row_text
 from oracle.operations import Op, text_of, words_for
 from oracle.pairings import has_pairing
@@ -63,12 +64,6 @@ MILLION = 1_000_000
 NOT_FOUND = {"void", "undecided"}     # of rows for a block that shows nothing
 
 
-def found_of(listing):
-    """Of each block its verdict, `undecided` where it isn't decided whether its rows are by the book."""
-    entries = ENTRY.findall(listing)
-    return ["undecided" if b"undecided" in below else verdict.decode() for _, _, verdict, *_, below in entries]
-
-
 def parts(items, count):
     return [items[k:k + count] for k in range(0, len(items), count)]
 
@@ -80,17 +75,13 @@ def own_rows_pass(blocks, made, latencies=()):
         rows, file = ending([*made, *words], task)[1], stored("alike.iloc", task)
         for asked in ([], ["--lawful"]):
             end = ending(["check", *asked, *words, "--task", file], rows)
-            if end[0] != PASSED or found_of(end[1]) != ["lawful"] * len(some):
-                yield f"check {asked} {made} {words}: {unlawful(some, end[1]) or told(end)}"
+            found = [groups[2] for groups in ENTRY.findall(end[1])]
+            if end[0] != PASSED or found != [b"lawful"] * len(some):
+                others = ([*map(str, ops)] for ops, verdict in zip(some, found) if verdict != b"lawful")
+                yield f"check {asked} {made} {words}: {next(others, told(end))}"
         end = ending(["explain", *words, "--task", file], rows)
         if end[0] != PASSED or b"not lawful" in end[1] or end[1].count(b"\npath ") != len(some):
             yield f"explain {made} {words}: {told(end)}"
-
-
-def unlawful(blocks, listing):
-    """The first block whose rows aren't said to be lawful."""
-    return next((f"{[*map(str, ops)]} {found}" for ops, found in zip(blocks, found_of(listing)) if found != "lawful"),
-                None)
 
 
 def own_drawn(*constants):
@@ -121,24 +112,24 @@ def wrong(chance, given):
     return chance.choice(WRONG)(chance, given) or given.rows
 
 
+def verdicts_on(cases, *words):
+    """Of rows, each beside its block; `undecided` where it isn't decided whether they are by the book."""
+    return ["undecided" if "undecided" in below else verdict for verdict, below in judged_by(None, cases, *words)]
+
+
 def as_exhaustively():
-    chance, counts = random.Random(46), {}
+    chance, counts = random.Random(46), Counter()
     for _ in range((TINY if TESTED.is_short else ALL_TINY) // AT_ONCE):
         latencies = {name: chance.randint(1, 3) for name in SHORT}
         blocks = [alike.block(chance, MOST_TINY) for _ in range(AT_ONCE)]
-        rows = [chance.choice([lawful, rewired, rewired, wrong])(chance, Given(Schedule(ops, latencies)))
-                for ops in blocks]
-        text = text_of(blocks) + b"".join(proposed(k, f"B{k}", theirs) for k, theirs in enumerate(rows, 1))
-        found = found_of(ending(["check", *words_for(latencies)], text)[1])
-        if len(found) != len(blocks):
-            yield f"{len(found)} entries of {len(blocks)}"
-        for ops, theirs, got in zip(blocks, rows, found):
-            due = "lawful" if has_pairing(ops, theirs, latencies) else "other"
-            due = due if bad_row(theirs) is None else "units"
-            said = got if got in ("units", "lawful", "undecided") else "other"
-            counts[due] = counts.get(due, 0) + 1
-            if said != due:
-                yield f"{[*map(str, ops)]} {[*map(row_text, theirs)]} {latencies}: {got} in place of {due}"
+        cases = [(ops, chance.choice([lawful, rewired, rewired, wrong])(chance, Given(Schedule(ops, latencies))))
+                 for ops in blocks]
+        for (ops, rows), got in zip(cases, verdicts_on(cases, *words_for(latencies))):
+            due = "lawful" if has_pairing(ops, rows, latencies) else "other"
+            due = due if bad_row(rows) is None else "units"
+            counts[due] += 1
+            if due != (got if got in ("units", "lawful", "undecided") else "other"):
+                yield f"{[*map(str, ops)]} {[*map(row_text, rows)]} {latencies}: {got} in place of {due}"
     print(f"judged/alike/as_exhaustively: {counts}")
 
 
@@ -150,12 +141,11 @@ def graphs():
         drawn = [alike.regular(chance, points, 3) for _ in range(12)]
         own_dues, other_dues = ({"lawful"}, {"void"}) if points < 20 else ({"lawful", *NOT_FOUND}, NOT_FOUND)
         for theirs, dues in ((drawn, own_dues), (drawn[1:] + drawn[:1], other_dues)):
-            text = text_of([alike.graph(points, edges) for edges in drawn])
-            text += b"".join(proposed(k, f"B{k}", alike.shuffled(chance, points, edges))
-                             for k, edges in enumerate(theirs, 1))
-            found = found_of(ending(["check"], text)[1])
-            print(f"judged/alike/graphs: {points} points: {({verdict: found.count(verdict) for verdict in found})}")
-            if len(found) != len(drawn) or not {*found} <= dues:
+            cases = [(alike.graph(points, own), alike.shuffled(chance, points, other))
+                     for own, other in zip(drawn, theirs)]
+            found = Counter(verdicts_on(cases))
+            print(f"judged/alike/graphs: {points} points: {found}")
+            if not {*found} <= dues:
                 yield f"{points} points: {found}"
 
 

@@ -6,11 +6,11 @@ from pathlib import Path
 
 from harness.program import TOP, Run, ending, folder, stored, told, unlike
 from harness.suite import Check, table
-from judged.test_rows import LISTED, SAME, UNLIKE, VERDICTS, WORDS, spread
+from judged.test_rows import LISTED, SAME, UNLIKE, VERDICTS, WORDS, texts_of
 from language import MOST_BYTES
 from oracle.reader import NO_SUCH_BLOCK
 
-ROW_STARTS = ("[", "block ", "cycles", "total")
+ROW_STARTS = (b"[", b"block ", b"cycles", b"total")
 CLASS = f"{TOP}/examples/class"
 PASSED, NOT_READ, NO_DEVICE, FAILED = 0, 1, 4, 5
 
@@ -37,15 +37,15 @@ CHEATS = {
 
 
 def parts(text):
-    """A text, cut before its first row."""
-    lines = text.split("\n")
+    """A text as bytes, cut before its first row."""
+    lines = text.encode("latin-1").split(b"\n")
     at = next((i for i, line in enumerate(lines) if line.strip().startswith(ROW_STARTS)), len(lines))
-    return "\n".join(lines[:at]), "\n".join(lines[at:])
+    return b"\n".join(lines[:at]), b"\n".join(lines[at:])
 
 
 def as_together(text):
     """But for the numbers of lines, which begin with the rows."""
-    task, rows = (part.encode("latin-1") for part in parts(text))
+    task, rows = parts(text)
     before = text.count("\n") - rows.count(b"\n")
     status, out, err = ending(WORDS, text.encode("latin-1"))
     out = re.sub(rb"(?<=^  line )\d+", lambda number: b"%d" % (int(number[0]) - before), out, flags=re.MULTILINE)
@@ -54,11 +54,8 @@ def as_together(text):
 
 
 def all_as_together():
-    for pairs in (SAME, UNLIKE, VERDICTS):
-        for block, theirs, *_ in pairs.values():
-            yield from as_together(block + spread(theirs))
-    for listed in LISTED.values():
-        yield from as_together(listed.text)
+    for text in [*texts_of(SAME, UNLIKE, VERDICTS), *(listed.text for listed in LISTED.values())]:
+        yield from as_together(text)
 
 
 def is_refused(given):

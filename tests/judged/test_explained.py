@@ -2,14 +2,13 @@
 else with the reason that it gives."""
 import random
 import re
-from pathlib import Path
 
 from harness.program import TESTED, TOP, ending, stored, told, unlike
 from harness.suite import Check, table
 from judged.labs import Given
 from judged.students import longer_waits, one_a_row, other_priorities, ours, own_names, units_exchanged
-from judged.test_apart import CLASS, parts
-from judged.test_rows import SAME, UNLIKE, VERDICTS, spread
+from judged.test_apart import parts
+from judged.test_rows import SAME, UNLIKE, VERDICTS, texts_of
 from language import USUAL
 from oracle.drawn import lab_block, made_block
 from oracle.judge import proposed
@@ -35,13 +34,13 @@ def own_blocks():
         yield text_of([lab_block(chance) for _ in range(4)])
 
 
-def own_as_ours(*words):
-    """Our own listing is explained, or traced, byte for byte, as our schedules are."""
+def own_as_ours():
+    """Our own listing is explained byte for byte as our schedules are."""
     for block in own_blocks():
         for more in ([], ["--load", "2", "--mult", "7"]):
             rows = ending(["schedule", *more], block)[1]
-            got = ending([*words, "--task", stored("own.iloc", block), *more], rows)
-            yield from unlike(repr(block), got, ending([*words, *more], block))
+            got = ending(["explain", "--task", stored("own.iloc", block), *more], rows)
+            yield from unlike(repr(block), got, ending(["explain", *more], block))
 
 
 def below(out):
@@ -49,8 +48,9 @@ def below(out):
     return out.splitlines()[1:-1]
 
 
-def as_checked(task, rows):
+def as_checked(text):
     """The verdict and its reason are those of `check`, and a path adds up to the cycles."""
+    task, rows = parts(text)
     file = stored("task.iloc", task)
     status, checked, _ = ending(["check", "--lawful", "--task", file], rows)
     got = ending(["explain", "--task", file], rows)
@@ -67,24 +67,8 @@ def as_checked(task, rows):
 
 
 def rows_as_checked():
-    for pairs in (SAME, UNLIKE, VERDICTS):
-        for block, theirs, *_ in pairs.values():
-            task, rows = parts(block + spread(theirs))
-            yield from as_checked(task.encode("latin-1"), rows.encode("latin-1"))
-
-
-TASK = f"{CLASS}/tasks/both.iloc"
-
-
-def class_as_checked():
-    task = Path(TASK).read_bytes()
-    for name in ("ada", "ben", "dan", "fay", "hal", "gus"):
-        rows = Path(f"{CLASS}/submissions/{name}/both.rows").read_bytes()
-        status = ending(["check", "--task", TASK], rows)[0]
-        if status in (PASSED, FAILED):
-            yield from as_checked(task, rows)
-        else:
-            yield from unlike(name, *(ending([command, "--task", TASK], rows) for command in ("explain", "check")))
+    for text in texts_of(SAME, UNLIKE, VERDICTS):
+        yield from as_checked(text)
 
 
 def in_either_slot(command, said, issued):
@@ -134,9 +118,8 @@ def left_by_drawn_rows():
 
 
 def explained_cases():
-    yield Check("explained/own_as_ours", own_as_ours, "explain")
+    yield Check("explained/own_as_ours", own_as_ours)
     yield Check("explained/rows_as_checked", rows_as_checked)
-    yield Check("explained/class_as_checked", class_as_checked)
     yield Check("explained/in_either_slot", in_either_slot, "explain", b"  not lawful\n%stotal 6\n",
                 b"\n1 cycle 1 unit 0 ready 1 ")
     yield Check("explained/left_by_drawn_rows", left_by_drawn_rows)

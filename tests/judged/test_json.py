@@ -5,7 +5,7 @@ import random
 from harness.program import Run, ending, told
 from harness.suite import Check, table
 from judged.students import RIGHT, WRONG
-from judged.test_rows import LISTED, SAME, SHOWN, UNLIKE, UNREAD, VERDICTS, WORDS, spread
+from judged.test_rows import LISTED, SAME, SHOWN, UNLIKE, UNREAD, VERDICTS, WORDS, texts_of
 from judged.test_students import handed_in
 from oracle import alike
 from oracle.judge import NOT_SAME, proposed
@@ -58,8 +58,9 @@ def are_the_same(texts, *words):
     """With the same status, which says whether all pass, the same is listed in JSON as in lines, but for the totals."""
     kinds = set()
     for text in texts:
-        status, out, err = ending([*WORDS, *words], text)
-        got = ending([*WORDS, "--json", *words], text)
+        given = text.encode("latin-1")
+        status, out, err = ending([*WORDS, *words], given)
+        got = ending([*WORDS, "--json", *words], given)
         said = [json.loads(line) for line in got[1].decode("ascii").splitlines()]
         lines = [line for one in said for line in lines_of(one)]
         due = out.decode("latin-1").splitlines()[:-1]
@@ -68,10 +69,6 @@ def are_the_same(texts, *words):
         kinds |= {one["verdict"] for one in said}
     if len(kinds) < 3:
         yield f"no more than {kinds} were tried"
-
-
-def texts_of(*tables):
-    return [(case[0] + spread(case[1])).encode() for one in tables for case in one.values()]
 
 
 def undecided():
@@ -98,17 +95,15 @@ def json_cases():
     yield from (listed.case(f"json/{name}", listed.in_json) for name, listed in LISTED.items() if listed.in_json)
     yield Run("judged/json/two_forms", ["check", "--json", "--csv"], b"a:", b"",
               b"ilocfarm: --csv and --json exclude each other\n", 2)
-    yield Run("judged/json/other_commands", ["counts", "--json"], b"a:", b"", None, 2)
     yield from undecided_cases()
     yield Check("judged/json/tables", are_the_same, texts_of(SAME, VERDICTS, UNLIKE))
     yield Check("judged/json/lawful", are_the_same, texts_of(SAME, VERDICTS), "--lawful")
     yield Check("judged/json/outputs", are_the_same, texts_of(SAME, VERDICTS, SHOWN), "--outputs")
-    yield Check("judged/json/listed", are_the_same, [listed[0].encode("latin-1") for listed in LISTED.values()])
+    yield Check("judged/json/listed", are_the_same, [listed.text for listed in LISTED.values()])
     yield Check("judged/json/drawn", are_the_same,
-                [handed_in(seed, "usual", kind) for seed, kind in enumerate((*RIGHT, *WRONG))])
+                [handed_in(seed, "usual", kind).decode() for seed, kind in enumerate((*RIGHT, *WRONG))])
     yield Check("judged/json/unread", are_the_same,
-                [f"a:\noutput 0\nb:\nc: output 4\nblock 1 a\n{line}\nblock 3 c\n[ output 8 ]\n".encode("latin-1")
-                 for line in UNREAD])
+                [f"a:\noutput 0\nb:\nc: output 4\nblock 1 a\n{line}\nblock 3 c\n[ output 8 ]\n" for line in UNREAD])
 
 
 load_tests = table(json_cases)

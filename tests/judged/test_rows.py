@@ -254,6 +254,11 @@ def spread(text, apart=6, product_unit=1):
     return "".join(f"{row_text(row)}\n" for row in rows)
 
 
+def texts_of(*tables):
+    """The blocks of these cases, with their rows."""
+    return [case[0] + spread(case[1]) for cases in tables for case in cases.values()]
+
+
 def judged(name, text, verdict, *below, outputs=False):
     """A case of one block with its rows, the verdict, and what is below it before why the rows aren't by the book."""
     return Check(f"judged/{name}", wrongly_judged, text.encode("latin-1"), verdict, below, outputs)

@@ -7,7 +7,7 @@ from harness.program import TESTED, ending, stored, told
 from harness.suite import Check, table
 from judged.students import RIGHT, WRONG
 from judged.test_apart import parts
-from judged.test_explained import in_either_slot, own_as_ours
+from judged.test_explained import in_either_slot
 from judged.test_rows import LISTED
 from judged.test_students import EACH_LATENCIES, LINES, WORDS, given_blocks, ours
 from language import USUAL
@@ -24,6 +24,8 @@ SEEDS, ALL_SEEDS = 2, 20
 PASSED, FAILED = 0, 5
 # What `check` has below a verdict on rows that aren't traced.
 UNTRACED = re.compile(rb"^block .* (?:unread|units) cycles .*\n(  (?:line|row) .*)", re.M)
+
+
 def entry(number, rows, latencies):
     """The entry of a block, and whether its rows are traced."""
     bad = bad_row(rows)
@@ -63,7 +65,7 @@ def of_kind(kind):
 
 def as_checked(text):
     """A row that isn't traced has the line that `check` has for it."""
-    task, rows = (part.encode("latin-1") for part in parts(text))
+    task, rows = parts(text)
     words = ["--task", stored("checked.iloc", task)]
     status, checked, _ = ending(["check", *words], rows)
     got = ending(["trace", *words], rows)
@@ -87,7 +89,6 @@ def traced_cases():
     yield Check("traced/drawn", drawn)
     for kind in (*RIGHT, *WRONG):
         yield Check(f"traced/students/{kind.__name__}", of_kind, kind)
-    yield Check("traced/own_as_ours", own_as_ours, "trace", "3", "4")
     yield Check("traced/rows_as_checked", rows_as_checked)
     yield Check("traced/in_either_slot", in_either_slot, "trace", b"%s",
                 b"\nissue 1 unit 0 load r0 => r1 reads r0 = 4, word 4 = 0\n")
