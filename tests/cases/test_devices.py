@@ -42,7 +42,8 @@ def device_cases():
     yield Run("device/word_is_no_text", ["run", b"\xff"], FIRST, b"", NO_TEXT, 2)
     for number, (status, words) in enumerate(WORDS_ALONE):
         yield Check(f"device/words_alone_decide_{number}", words_alone_decide, status, words)
-    yield Check("device/reads_one_byte_too_many", reads_one_byte_too_many)
+    for command in ("run", "counts", "check"):
+        yield Check(f"device/reads_one_byte_too_many/{command}", reads_one_byte_too_many, command)
     for command in ("run", "simulate"):
         yield one_word_many_times(command)
     for command in ("run", "check"):
@@ -66,6 +67,9 @@ def inputs(command):
     yield unread("input_is_closed", closed(0))
     yield unread("input_is_not_there_yet", hasty(b""))
     yield unread("input_fails_in_mid_way", hasty(b"nop"))
+    yield unread("input_fails_behind_a_fault", hasty(BAD))
+    yield refused(f"device/fault_one_byte_at_a_time/{command}", BAD, b"line 2: not understood", 1, [command],
+                  by=bytewise)
 
 
 def outputs(command):
@@ -185,10 +189,10 @@ def words_alone_decide(status, words):
         yield f"{told(got)} in place of {told(due)}"
 
 
-def reads_one_byte_too_many():
+def reads_one_byte_too_many(command):
     """Of a text that is too long one byte more is read than a text may have, and no further one."""
     with open(stored("given", b"\n" * (MOST_BYTES + 100_000)), "rb", buffering=0) as file:
-        got = ending(["run"], stdin=file)
+        got = ending([command], stdin=file)
         at = os.lseek(file.fileno(), 0, os.SEEK_CUR)
     if got != (1, b"", b"ilocfarm: input longer than 16777216 bytes\n") or at != MOST_BYTES + 1:
         yield f"{told(got)}, {at} bytes were read"

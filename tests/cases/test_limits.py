@@ -4,10 +4,12 @@ from harness.suite import table
 from language import MOST_BLOCKS, MOST_BYTES, MOST_OPERATIONS, WORDS
 
 DIGITS = 1_000_000
+COMMENT = b"\n//" + b" " * 520_000 + b"\n"      # what precedes it is read by a thread of its own
 
 
 def made_cases():
     yield from texts()
+    yield from parts()
     yield from numbers()
     yield from blocks()
     yield from operations()
@@ -21,6 +23,20 @@ def texts():
     yield refused("made/text_too_long", b"\n" * (MOST_BYTES + 1), too_long)
     yield refused("made/long_bad_line", b"." * MOST_BYTES, b"line 1: not understood")
     yield refused("made/too_long_and_bad", b"." * (MOST_BYTES + 1), too_long)
+    yield refused("made/too_long_behind_a_bad_line", b".\n".ljust(MOST_BYTES + 1), too_long)
+    yield refused("made/longest_behind_a_bad_line", b".\n".ljust(MOST_BYTES), b"line 1: not understood")
+
+
+def parts():
+    """Faults of texts that several threads read."""
+    labels = b"\n".join([b"A:"] * MOST_BLOCKS)
+    for name, parts, line in (
+            ("first", [b"A: not", b"B:"], b"line 1: not understood"),
+            ("second", [b"A:\nnop", b"B:\nnot", b"C: not"], b"line 5: not understood"),
+            ("last", [b"A:\nnop", b"B: nop", b"C:\nnot"], b"line 7: not understood"),
+            ("large_number", [b"A: nop", b"B: loadI 2147483648 => r1", b"C: not"], b"line 3: number above 2147483647"),
+            ("too_many_blocks", [labels, b"B:", b"C: not"], b"line 65537: more than 65535 blocks")):
+        yield refused(f"made/parts/{name}", COMMENT.join(parts), line, 1, ["counts"])
 
 
 def numbers():

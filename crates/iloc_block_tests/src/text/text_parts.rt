@@ -3,29 +3,27 @@ ghost use Rattle.std.specs.Prelude.{◌≡◌, []};
 use super::diary::Diary;
 use super::stream::giving;
 use crate::asserted::assert_list;
-use iloc_ops::{MAX_BLOCKS, NoMemory};
-use iloc_text::{ReadFault, ReadParts, StreamFault, TextPart, read_file_in_parts};
+use iloc_ops::NoMemory;
+use iloc_text::{ReadParts, StreamFault, TextPart, read_file_in_parts};
 use std::alloc::Global;
 use std::collections::VecDeque;
 use std::test::Fail;
 
-/// Reads each part when it is wanted, and refuses to begin more than so many.
+/// Reads each part when it is wanted.
 #[derive(Drop)]
 struct Queue {
     alloc: Global,
     texts: VecDeque<Vec<u8>>,
-    left: usize,
 }
 
 impl Queue {
-    /// Begins so many parts.
-    fn of(alloc: Global, left: usize) -> Queue
+    /// No part has begun.
+    fn new(alloc: Global) -> Queue
         ensures { result.texts.items ≡ [] }
     {
         Queue {
             alloc,
             texts: VecDeque::new(alloc),
-            left,
         }
     }
 }
@@ -40,10 +38,6 @@ impl ReadParts for Queue {
     }
 
     fn start(&mut self, _: Global, text: Vec<u8>) -> Result<Option<TextPart>, NoMemory> {
-        if self.left == 0 {
-            return Err(NoMemory);
-        }
-        self.left -= 1;
         self.texts.push_back(text)?;
         Ok(None)
     }
@@ -124,59 +118,10 @@ fn takes_parts_in_order(rt: HostRuntime) -> Result<(), Fail> {
         for most in 0..4 {
             assert_list(
                 &rt,
-                &read_by(alloc, &text, Queue::of(alloc, parts.len()), most)?,
+                &read_by(alloc, &text, Queue::new(alloc), most)?,
                 lines,
             );
         }
     }
-    Ok(())
-}
-
-#[test]
-fn has_each_part_read_apart(rt: HostRuntime) -> Result<(), Fail> {
-    let alloc = rt.alloc();
-    for (parts, rest, _) in READ {
-        let text = long_text(alloc, parts, rest)?;
-        for left in 0..parts.len() {
-            let told = read_by(alloc, &text, Queue::of(alloc, left), 4).err();
-            assert!(rt; told == Some(StreamFault::Text(ReadFault::NoMemory)));
-        }
-    }
-    Ok(())
-}
-
-/// Lines in parts of their own, the rest of the text, and why it is refused.
-const REFUSED: &[(&[&[u8]], &[u8], ReadFault)] = &[
-    (&[b"A: not"], b"B:", ReadFault::BadLine(1)),
-    (&[b"A:\nnop", b"B:\nnot"], b"C: not", ReadFault::BadLine(5)),
-    (&[b"A:\nnop", b"B: nop"], b"C:\nnot", ReadFault::BadLine(7)),
-    (
-        &[b"A: nop", b"B: loadI 2147483648 => r1"],
-        b"C: not",
-        ReadFault::NumberTooLarge(3),
-    ),
-];
-
-#[test]
-fn tells_the_first_fault_of_parts(rt: HostRuntime) -> Result<(), Fail> {
-    let alloc = rt.alloc();
-    for (parts, rest, fault) in REFUSED {
-        let text = long_text(alloc, parts, rest)?;
-        let told = read_by(alloc, &text, Queue::of(alloc, parts.len()), 2).err();
-        assert!(rt; told == Some(StreamFault::Text(*fault)));
-    }
-    Ok(())
-}
-
-#[test]
-fn takes_no_more_blocks_than_a_file_has(rt: HostRuntime) -> Result<(), Fail> {
-    let alloc = rt.alloc();
-    let mut labels = Vec::from_slice(alloc, b"A:")?;
-    for _ in 1..MAX_BLOCKS {
-        labels.extend_from_slice(b"\nA:")?;
-    }
-    let text = long_text(alloc, &[&labels, b"B:"], b"C: not")?;
-    let told = read_by(alloc, &text, Queue::of(alloc, 2), 2).err();
-    assert!(rt; told == Some(StreamFault::Text(ReadFault::TooManyBlocks(65_537))));
     Ok(())
 }
