@@ -2,5 +2,4 @@ mod addresses;
 mod by_address;
 mod delay_pairs;
 mod heuristics;
-mod priority;
 mod refusals;

@@ -7,9 +7,8 @@ use iloc_sched::{Graph, schedule_by};
 use iloc_timed::cycles;
 use std::test::Fail;
 
-/// Blocks with the cycles of their schedules by the book and by address: three words are copied; the fields of a record whose
-/// address is in memory are updated; accesses of which nothing is known stand among known ones; addresses are computed, wrap
-/// or come from no operation; one store comes last.
+/// Blocks with the cycles of their schedules by the book and by address: three words are copied, and the fields of a record
+/// whose address is in memory are updated.
 const CYCLES: &[(&[u8], u32, u32)] = &[
     (
         b"loadI 0 => r0\nloadI 1024 => r1\nload r0 => r2\nstore r2 => r1\nloadAI r0, 4 => r3\nstoreAI r3 => r1, 4\n\
@@ -23,24 +22,6 @@ const CYCLES: &[(&[u8], u32, u32)] = &[
         storeAI r4 => r1, 8\nloadAI r1, 4 => r5\nstoreAI r5 => r1, 12\n",
         49,
         28,
-    ),
-    (
-        b"loadI 8 => r0\nload r0 => r1\nstore r0 => r1\nload r0 => r2\nstoreAI r2 => r0, 4\nload r1 => r3\n\
-        loadAI r0, 8 => r4\nstoreAI r4 => r3, 4\nloadAI r3, 8 => r5\noutput 8\noutput 12\nstoreAI r5 => r0, 12\n",
-        42,
-        36,
-    ),
-    (
-        b"loadI 8 => r0\nload r0 => r1\nsubI r1, 4 => r2\nstore r0 => r2\nloadAI r1, 4 => r3\nmultI r0, 3 => r0\n\
-        store r3 => r0\noutput 24\nadd r3, r1 => r4\nload r4 => r5\nloadI 2147483647 => r6\naddI r6, 1 => r6\n\
-        load r6 => r7\nstoreAI r7 => r9, 4\n",
-        32,
-        22,
-    ),
-    (
-        b"loadI 4 => r0\nload r0 => r1\nloadAI r0, 4 => r2\nmult r1, r2 => r3\nstoreAI r3 => r0, 8\noutput 12\n",
-        16,
-        16,
     ),
 ];
 

@@ -116,11 +116,7 @@ fn takes_parts_in_order(rt: HostRuntime) -> Result<(), Fail> {
         let text = long_text(alloc, parts, rest)?;
         assert_list(&rt, &read_by(alloc, &text, AtOnce, 1)?, lines);
         for most in 0..4 {
-            assert_list(
-                &rt,
-                &read_by(alloc, &text, Queue::new(alloc), most)?,
-                lines,
-            );
+            assert_list(&rt, &read_by(alloc, &text, Queue::new(alloc), most)?, lines);
         }
     }
     Ok(())

@@ -1,4 +1,4 @@
-use crate::written::{Issue, Times, USUAL, block_of, build, latencies};
+use crate::written::{Issue, USUAL, block_of, build, latencies};
 use iloc_meaning::{Memory, Outcome};
 use iloc_ops::NoMemory;
 use iloc_timed::{Latencies, Schedule, cycles, run_schedule};
@@ -43,17 +43,13 @@ fn assert_run(
     Ok(())
 }
 
-/// A block, its rows, the latencies, and what comes of it: the cycles that it takes, and the words that it emits with
-/// the word that it leaves at 0, or none where it faults.
-type Case<'a> = (&'a [u8], &'a [Issue], Times, u64, Option<(&'a [i32], i32)>);
+/// A block, its rows, and what comes of it: the cycles that it takes, and the words that it emits with the word that it
+/// leaves at 0, or none where it faults.
+type Case<'a> = (&'a [u8], &'a [Issue], u64, Option<(&'a [i32], i32)>);
 
 const STORE: &[u8] = b"loadI 8 => r0\nstore r0 => r1\noutput 0\n";
 
-const OUTPUTS: &[u8] = b"output 0\noutput 4\n";
-
 const CONSTANTS: &[u8] = b"loadI 1 => r0\nloadI 2 => r0\nstore r0 => r1\n";
-
-const BESIDE_A_PRODUCT: &[u8] = b"loadI 1 => r0\nmult r1, r1 => r2\n";
 
 const AFTER_A_PRODUCT: &[u8] = b"mult r1, r1 => r2\nloadI 1 => r2\nstore r2 => r9\n";
 
@@ -63,79 +59,26 @@ const AFTER_A_LOAD: &[u8] =
 const FAULT: &[u8] = b"output 0\noutput 2\n";
 
 const CASES: &[Case] = &[
-    (b"A:", &[], USUAL, 0, Some((&[], 3))),
+    (b"A:", &[], 0, Some((&[], 3))),
     // The store arrives in cycle 6, after the last row too.
     (
         STORE,
         &[(0, Some(0), None), (1, Some(1), None), (2, Some(2), None)],
-        USUAL,
         6,
         Some((&[3], 8)),
-    ),
-    (
-        STORE,
-        &[(0, Some(0), None), (1, Some(1), None), (5, Some(2), None)],
-        USUAL,
-        6,
-        Some((&[3], 8)),
-    ),
-    (
-        STORE,
-        &[(0, Some(0), None), (1, Some(1), None), (6, Some(2), None)],
-        USUAL,
-        7,
-        Some((&[8], 8)),
-    ),
-    // The shortest and the longest latency of stores.
-    (
-        STORE,
-        &[(0, Some(0), None), (1, Some(1), None), (2, Some(2), None)],
-        (5, 1, 3),
-        3,
-        Some((&[8], 8)),
-    ),
-    (
-        STORE,
-        &[(0, Some(0), None), (1, Some(1), None), (16, Some(2), None)],
-        (5, 16, 3),
-        17,
-        Some((&[3], 8)),
-    ),
-    (
-        STORE,
-        &[(0, Some(0), None), (1, Some(1), None), (17, Some(2), None)],
-        (5, 16, 3),
-        18,
-        Some((&[8], 8)),
-    ),
-    (
-        OUTPUTS,
-        &[(0, None, Some(1)), (1, Some(0), None)],
-        USUAL,
-        2,
-        Some((&[9, 3], 3)),
     ),
     // Of two results that are due at once unit 1's is written last, and so is that of a later row.
     (
         CONSTANTS,
         &[(0, Some(1), Some(0)), (1, Some(2), None)],
-        USUAL,
         6,
         Some((&[], 1)),
     ),
     (
         AFTER_A_PRODUCT,
         &[(0, None, Some(0)), (2, Some(1), None), (3, Some(2), None)],
-        USUAL,
         8,
         Some((&[], 1)),
-    ),
-    (
-        BESIDE_A_PRODUCT,
-        &[(0, Some(0), Some(1))],
-        USUAL,
-        3,
-        Some((&[], 3)),
     ),
     // What is issued first arrives last.
     (
@@ -147,35 +90,18 @@ const CASES: &[Case] = &[
             (6, Some(3), None),
             (7, Some(4), None),
         ],
-        USUAL,
         11,
         Some((&[7], 3)),
     ),
-    (
-        FAULT,
-        &[(0, Some(0), None), (1, Some(1), None)],
-        USUAL,
-        2,
-        None,
-    ),
+    (FAULT, &[(0, Some(0), None), (1, Some(1), None)], 2, None),
 ];
 
 #[test]
 fn emits_what_has_arrived_in_order_of_issue(rt: HostRuntime) -> Result<(), Fail> {
-    for (text, issues, times, taken, expected) in CASES {
-        let latencies = latencies(*times)?;
+    let usual = latencies(USUAL)?;
+    for (text, issues, taken, expected) in CASES {
         let schedule = issued(rt.alloc(), text, issues)?;
-        assert_run(&rt, rt.alloc(), &schedule, &latencies, *taken, *expected)?;
+        assert_run(&rt, rt.alloc(), &schedule, &usual, *taken, *expected)?;
     }
-    Ok(())
-}
-
-#[test]
-fn emits_from_either_unit(rt: HostRuntime) -> Result<(), Fail> {
-    let issues = [(0, Some(0), None), (1, None, Some(1))];
-    let schedule = issued(rt.alloc(), OUTPUTS, &issues)?;
-    let zero = Memory::zero(rt.alloc())?;
-    let outcome = run_schedule(rt.alloc(), &schedule, &Latencies::usual(), zero)?;
-    assert!(rt; left(&outcome) == Some((&[0, 0], 0)));
     Ok(())
 }
