@@ -24,16 +24,10 @@ MEMORIES = 20
 # Where what is known of addresses decides, with the cycles by the book and with addresses compared.
 EDGES = {
     "constants_that_differ": ("loadI 4 => r1\nloadI 8 => r2\nstore r1 => r1\nload r2 => r3\n", 11, 7),
-    "equal_constants": ("loadI 4 => r1\nloadI 4 => r2\nstore r1 => r1\nload r2 => r3\n", 11, 11),
     "fields_of_a_loaded_base": ("load r0 => r1\nstoreAI r0 => r1, 4\nloadAI r1, 8 => r2\n", 15, 11),
-    "two_loaded_bases": ("load r0 => r1\nload r9 => r2\nstore r0 => r1\nload r2 => r3\n", 15, 15),
-    "a_constant_and_a_base": ("load r0 => r1\nstore r0 => r1\noutput 8\n", 11, 11),
     "a_register_that_nobody_defined": ("loadI 4 => r1\nstore r1 => r9\noutput 4\n", 7, 6),
     "a_sum_that_wraps": ("loadI 2147483647 => r1\naddI r1, 2147483645 => r1\naddI r1, 4 => r1\n"
                          "store r0 => r1\noutput 4\n", 9, 8),
-    "a_sum_that_wraps_to_the_same": ("loadI 2147483647 => r1\naddI r1, 2147483645 => r1\naddI r1, 4 => r1\n"
-                                     "store r0 => r1\noutput 0\n", 9, 9),
-    "a_sum_of_two_bases": ("load r0 => r1\nload r9 => r2\nadd r1, r2 => r3\nstore r0 => r1\nload r3 => r4\n", 15, 15),
     "stores_keep_their_order": (FOUR_CONSTANTS + "store r1 => r4\nstoreAI r1 => r4, 4\n", 7, 7),
     "constants_of_one_slot": ("loadI 4 => r1\nloadI 1028 => r2\nstore r1 => r1\nstore r2 => r2\nload r1 => r3\n"
                               "load r2 => r4\n", 13, 12),

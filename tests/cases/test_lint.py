@@ -1,6 +1,6 @@
 """What `lint` says of wrong lines, one by one; its hints; and its texts at the limits."""
-from harness.program import TOP, ending, told
-from harness.suite import Case, rows_of, table
+from harness.program import TOP, Run
+from harness.suite import rows_of, table
 from language import MOST_BLOCKS, MOST_BYTES, MOST_OPERATIONS
 
 # So many faults are listed.
@@ -52,50 +52,40 @@ def totals(blocks, operations, faults):
     return b"blocks %d operations %d faults %d\n" % (blocks, operations, faults)
 
 
-class Lint(Case):
-    """What `lint` lists of a text, and its status."""
-
-    def __init__(self, name, given, out):
-        super().__init__(f"lint/{name}")
-        self.given, self.out = given, out
-
-    def passes(self):
-        status = 0 if self.out.endswith(b" faults 0\n") else 1
-        end = ending(["lint"], self.given)
-        self.assertEqual(end[1].decode(), self.out.decode())
-        self.assertEqual((end[0], end[2]), (status, b""), told(end))
+def linted(name, given, out):
+    return Run(f"lint/{name}", ["lint"], given, out, b"", 0 if out.endswith(b" faults 0\n") else 1)
 
 
 def cases():
     for line, what, at in WRONG:
-        yield Lint(line.decode("latin-1"), line, entry(1, line, what, at) + totals(0, 0, 1))
+        yield linted(line.decode("latin-1"), line, entry(1, line, what, at) + totals(0, 0, 1))
     lines = [case[0] for case in WRONG]
     entries = b"".join(entry(2 * k + 2, *case) for k, case in enumerate(WRONG))
-    yield Lint("all of them", b"nop\n" + b"\nnop\n".join(lines) + b"\n", entries + totals(1, len(lines), len(lines)))
+    yield linted("all of them", b"nop\n" + b"\nnop\n".join(lines) + b"\n", entries + totals(1, len(lines), len(lines)))
     for line, first, other, at in ENCODED:
-        yield Lint(f"first {line}", line, entry(1, line, first, at) + totals(0, 0, 1))
-        yield Lint(f"second {line}", b"nop\n" + line, entry(2, line, other, at) + totals(1, 1, 1))
+        yield linted(f"first {line}", line, entry(1, line, first, at) + totals(0, 0, 1))
+        yield linted(f"second {line}", b"nop\n" + line, entry(2, line, other, at) + totals(1, 1, 1))
     for given, hints in HINTS:
         blocks = max(1, given.count(b":"))
         operations = len([line for line in given.split(b"\n") if line])
-        yield Lint(given[:40].decode(), given, hints + totals(blocks, operations, 0))
+        yield linted(given[:40].decode(), given, hints + totals(blocks, operations, 0))
     yield from limits()
 
 
 def limits():
-    yield Lint("nothing", b"", totals(0, 0, 0))
-    yield Lint("longest text", b"\n" * MOST_BYTES, totals(0, 0, 0))
-    yield Lint("text too long", b"x" * (MOST_BYTES + 1), b"input longer than 16777216 bytes\n" + totals(0, 0, 1))
+    yield linted("nothing", b"", totals(0, 0, 0))
+    yield linted("longest text", b"\n" * MOST_BYTES, totals(0, 0, 0))
+    yield linted("text too long", b"x" * (MOST_BYTES + 1), b"input longer than 16777216 bytes\n" + totals(0, 0, 1))
     label = b"a: nop\n"
     many = entry(MOST_BLOCKS + 1, b"a: nop", "more than 65535 blocks", 0)
-    yield Lint("most blocks", label * MOST_BLOCKS, ALONE + totals(MOST_BLOCKS, MOST_BLOCKS, 0))
-    yield Lint("a block too many", label * (MOST_BLOCKS + 1), many + totals(MOST_BLOCKS, MOST_BLOCKS, 1))
+    yield linted("most blocks", label * MOST_BLOCKS, ALONE + totals(MOST_BLOCKS, MOST_BLOCKS, 0))
+    yield linted("a block too many", label * (MOST_BLOCKS + 1), many + totals(MOST_BLOCKS, MOST_BLOCKS, 1))
     beyond = [entry(MOST_OPERATIONS + k, b"nop", "more than 10000 operations in a block", 0) for k in (1, 3)]
-    yield Lint("operations too many", b"nop\n" * (MOST_OPERATIONS + 1) + b"\nnop\nB: nop\n",
+    yield linted("operations too many", b"nop\n" * (MOST_OPERATIONS + 1) + b"\nnop\nB: nop\n",
                b"".join(beyond) + totals(2, MOST_OPERATIONS + 1, 2))
     for count, more in ((MOST_LISTED, b""), (MOST_LISTED + 1, b"and 1 more\n"), (2_000_000, b"and 1999000 more\n")):
         bad = b"".join(entry(k, b"x", 'no such opcode "x"', 0) for k in range(1, MOST_LISTED + 1))
-        yield Lint(f"{count} faults", b"x\n" * count, bad + more + totals(0, 0, count))
+        yield linted(f"{count} faults", b"x\n" * count, bad + more + totals(0, 0, count))
 
 
 load_tests = table(cases)

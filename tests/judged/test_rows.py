@@ -62,10 +62,6 @@ ACCESSES = {
         "storeAI r2 => r4, 4\nstore r2 => r3\nstore r2 => r4\nstoreAI r2 => r3, 4\n"),
     "load_past_stores_of_one_word": ("store r2 => r3\nstore r2 => r4\nload r3 => r5\n" + STORED,
                                      "store r2 => r4\nstore r2 => r3\nstore r2 => r1\n"),
-    "store_overwritten_after_another": ("store r2 => r3\nstore r1 => r4\nstore r9 => r3\n",
-                                        "store r1 => r4\nstore r9 => r3\n"),
-    "load_between_two": ("load r3 => r5\nloadAI r3, 4 => r6\nloadAI r3, 8 => r5\n" + STORED,
-                         "load r3 => r5\nloadAI r3, 8 => r5\n" + STORED),
 }
 # A block, somebody's operations that do the same, six cycles apart, and the verdict.
 SAME = {
@@ -74,7 +70,6 @@ SAME = {
                                           "storeAI r8 => r9, 8\noutput 1032\n", "lawful"),
     "one_register_for_all_words": (LOADS_AND_STORES, "loadI 1028 => r1\nload r1 => r1\nmult r1, r1 => r1\n"
                                                      "loadI 1032 => r2\nstore r1 => r2\noutput 1032\n", "same"),
-    "known_product": (PRODUCT, "loadI 1024 => r0\nloadI 42 => r1\nstore r1 => r0\noutput 1024\n", "same"),
     "product_for_a_shift": (SUM, LOADED + "multI r2, 4 => r3\naddI r3, 12 => r4\nstore r4 => r1\n", "same"),
     "product_of_a_sum": (SUM, LOADED + "addI r2, 3 => r3\nmultI r3, 4 => r4\nstore r4 => r1\n", "same"),
     "sums_for_a_shift": (SUM, TWICE_DOUBLED + "addI r4, 12 => r4\nstore r4 => r1\n", "same"),
@@ -96,11 +91,7 @@ UNLIKE = {
     # A store to a known address stays where it is, before one to an unknown one.
     "stores_exchanged": (LOADED + "store r1 => r1\nstore r9 => r2\n", LOADED + "store r9 => r2\nstore r1 => r1\n"),
     # A load whose result nobody uses can fault, where its address isn't known.
-    "load_left_out": (UNUSED_LOAD, LOADED + "output 8\n"),
     "load_added": ("output 8\n", UNUSED_LOAD),
-    "fault_left_out": (FAULTS_FIRST, "output 8\n"),
-    "outputs_exchanged": (TWO_OUTPUTS, "output 8\noutput 4\n"),
-    "output_left_out": (TWO_OUTPUTS, "output 4\n"),
     "all_left_out_but_the_output": (LOADS_AND_STORES, "output 1032\n"),
     "stored_elsewhere": (LOADS_AND_STORES, LOADS_AND_STORES.replace("r1, 8", "r1, 12")),
 }
@@ -137,8 +128,6 @@ VERDICTS = {
                     "word 4: 0 for 4"),
     "two_shifts_by_16": (THREE + "rshiftI r2, 16 => r5\nrshiftI r5, 16 => r5\n" + STORED,
                          THREE + "rshiftI r2, 32 => r5\n" + STORED, "differs", "word 4: 9 for 0"),
-    "register_at_first": ("add r1, r2 => r3\nloadI 4 => r1\nstore r3 => r1\n",
-                          "loadI 4 => r1\nadd r1, r2 => r3\nstore r3 => r1\n", "differs", "word 4: 4 for 0"),
     "no_result_yet": ("loadI 4 => r1\nadd r1, r1 => r3\nstore r3 => r1\n",
                       "add r1, r1 => r3\nloadI 4 => r1\nstore r3 => r1\n", "differs", "word 4: 0 for 8"),
 }
@@ -360,8 +349,6 @@ def refusals():
     for words in (["--at", "2"], ["--at", "6", "--mult", "2"]):
         yield Run(f"judged/bad_start_{words[1]}", ["check", *words], b"a:", b"",
                   b"ilocfarm: --at is not a multiple of 4\n", 2)
-    for words in (["--workers", "2"], ["--load", "0"], ["--store", "17"], ["4294967296"]):
-        yield Run(f"judged/refused_words_{'_'.join(words)}", ["check", *words], b"a:", b"", None, 2)
     for line in UNREAD.keys() - OF_A_BLOCK:
         yield refused(f"unread_at_once: {line!r}", f"a: output 0\n{line}", f"line 2: {BAD}")
     for text in UNREAD_OF_NONE:
