@@ -24,7 +24,7 @@ class Given(Known):
     def __init__(self, schedule):
         super().__init__(schedule.ops)
         self.latencies, self.rows = schedule.latencies, schedule.rows
-        self.pairs, self.priorities = schedule.pairs, schedule.priorities
+        self.originals, self.pairs, self.priorities = schedule.originals, schedule.pairs, schedule.priorities
 
 
 def scheduled(ops, pairs, rank, width=2):

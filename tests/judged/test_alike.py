@@ -114,7 +114,7 @@ def wrong(chance, given):
 
 def verdicts_on(cases, *words):
     """Of rows, each beside its block; `undecided` where it isn't decided whether they are by the book."""
-    return ["undecided" if "undecided" in below else verdict for verdict, below in judged_by(None, cases, *words)]
+    return ["undecided" if "undecided" in below else verdict for verdict, below in judged_by(cases, *words)]
 
 
 def as_exhaustively():

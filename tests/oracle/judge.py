@@ -39,11 +39,11 @@ def proposed(number, name, rows, claim=None):
     return "".join(f"{line}\n" for line in [f"block {number} {name}", *map(row_text, rows), *ends]).encode()
 
 
-def judged_by(program, cases, *words):
+def judged_by(cases, *words):
     """Of rows, each beside its block, in one run: the verdict, and the lines below it."""
     text = text_of([ops for ops, _ in cases])
     text += b"".join(proposed(k, f"B{k}", rows) for k, (_, rows) in enumerate(cases, 1))
-    found = ENTRY.findall(ending(["check", *words], text, program)[1])
+    found = ENTRY.findall(ending(["check", *words], text)[1])
     if len(found) != len(cases):
         raise RuntimeError(f"{len(found)} verdicts on {len(cases)} blocks")
     return [(verdict.decode(), [line[2:] for line in below.decode().splitlines()])

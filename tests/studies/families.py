@@ -1,9 +1,15 @@
 """Blocks of 23 families, as compilers make them: a few steps of a loop, unrolled, with one way to address memory and
-with stores at once or last. A block has some 5 to 210 operations."""
-import random
+with stores at once or last. A block has some 5 to 210 operations.
 
+    tests/studies/run families [COUNT [SEED]]       prints so many of each family, 100 where it isn't given
+"""
+import random
+import re
+
+from harness.program import ending
 from judged.rewrites import Code as Operations
 from oracle.drawn import lab_block, made_block
+from oracle.operations import text_of
 
 MOST = 210
 AT = 1024
@@ -228,3 +234,22 @@ def blocks_of(family, count, chance):
 def families_of(count=100, seed=0):
     """The blocks of each family, by its name."""
     return {name: blocks_of(family, int(count), random.Random(f"{name} {seed}")) for name, family in FAMILIES.items()}
+
+
+def main(*words):
+    print(b"".join(map(text_of, families_of(*words).values())).decode(), end="")
+
+
+def pairs_in(words, listed, blocks):
+    out = ending(words, text_of(blocks))[1]
+    return [(int(cycles), int(least)) for cycles, least in re.findall(listed, out, re.MULTILINE)]
+
+
+def explained(blocks, *words):
+    """Of each block the cycles and the least."""
+    return pairs_in(["explain", *words], rb"^cycles (\d+) least (\d+)", blocks)
+
+
+def optimized(blocks, *words):
+    """Of each block the cycles of the best schedule that is found, and the bound."""
+    return pairs_in(["optimize", *words], rb"^cycles (\d+)\n// bound (\d+)", blocks)

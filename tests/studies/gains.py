@@ -1,8 +1,7 @@
-#!/usr/bin/env python3
 """What comparing addresses gains: cycles by the book, with `--disambiguate`, and of the best schedule that a search
 finds with it.
 
-    tests/studies/gains PROGRAM [COUNT [SEED [FOLDER]]]
+    tests/studies/run gains [COUNT [SEED [FOLDER]]]
 
 COUNT blocks of each family of families.py, 20 where it isn't given. A row has the mean cycles of a block; how many
 blocks are shorter with the option, how many longer, and how many shorter than any schedule by the book, since
@@ -10,21 +9,13 @@ blocks are shorter with the option, how many longer, and how many shorter than a
 the bounds that the search proves with it. FOLDER gets a listing of each of the three with a line for each family,
 which has the mean cycles, for `charts/compare`. The status is 1 where over 1 % of the blocks are longer.
 """
-import os
-import re
-import sys
 from operator import attrgetter
 from pathlib import Path
 from typing import NamedTuple
 
-sys.dont_write_bytecode = True
-sys.path.insert(0, os.path.dirname(os.path.dirname(os.path.abspath(__file__))))
-from harness.program import ending  # noqa: E402
-from oracle.operations import text_of  # noqa: E402
-from studies.families import families_of  # noqa: E402
+from studies.families import explained, families_of, optimized
 
 OPTION = "--disambiguate"
-FOUND = rb"^cycles (\d+)\n// bound (\d+)"
 NAMES = ("book", "option", "best")
 HEADS = (*NAMES, "shorter", "longer", "below", "gain", "gap")
 MOST_LONGER = 0.01
@@ -39,21 +30,9 @@ class Block(NamedTuple):
     bound: int
 
 
-def counted(program, blocks, *words):
-    out = ending(["counts", *words], text_of(blocks), program)[1]
-    return [*map(int, re.findall(rb"^block .* cycles (\d+)$", out, re.MULTILINE))]
-
-
-def optimized(program, blocks, *words):
-    """The cycles of the best schedule that is found, and the bound."""
-    out = ending(["optimize", *words], text_of(blocks), program)[1]
-    return [(int(cycles), int(bound)) for cycles, bound in re.findall(FOUND, out, re.MULTILINE)]
-
-
-def measured(program, blocks):
-    rows = zip(counted(program, blocks), counted(program, blocks, OPTION), optimized(program, blocks),
-               optimized(program, blocks, OPTION), strict=True)
-    return [Block(book, option, best, least, bound) for book, option, (_, least), (best, bound) in rows]
+def measured(blocks):
+    rows = zip(explained(blocks), explained(blocks, OPTION), optimized(blocks), optimized(blocks, OPTION), strict=True)
+    return [Block(book, option, best, least, bound) for (book, _), (option, _), (_, least), (best, bound) in rows]
 
 
 def mean(blocks, measure):
@@ -77,11 +56,11 @@ def show(name, blocks):
           + "".join(f"{share:9.1%}" for share in shares), flush=True)
 
 
-def main(program, count=20, seed=0, folder=None):
+def main(count=20, seed=0, folder=None):
     print("family          " + "".join(f"{head:>9}" for head in HEADS))
     families = {}
     for name, blocks in families_of(count, seed).items():
-        families[name] = measured(program, blocks)
+        families[name] = measured(blocks)
         show(name, families[name])
     every = [block for blocks in families.values() for block in blocks]
     show("all", every)
@@ -93,9 +72,3 @@ def main(program, count=20, seed=0, folder=None):
                  enumerate(families.items(), 1))
         Path(folder, listing).write_text("".join(lines), "ascii")
     return int(longer(every) > MOST_LONGER)
-
-
-if __name__ == "__main__":
-    if len(sys.argv) < 2 or sys.argv[1].startswith("-"):
-        sys.exit(__doc__)
-    sys.exit(main(*sys.argv[1:]))

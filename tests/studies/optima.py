@@ -1,26 +1,17 @@
-#!/usr/bin/env python3
 """How many blocks have a schedule that is proved optimal, by the bound alone and by a search, over families as
 compilers make them.
 
-    tests/studies/optima PROGRAM [COUNT [SEED [WORD..]]]
-    tests/studies/optima --blocks [COUNT [SEED]]    prints the blocks alone
+    tests/studies/run optima [COUNT [SEED [WORD..]]]
 
 COUNT blocks of each family of families.py, 100 where it isn't given. WORDs are options of `optimize`. A schedule is
 proved optimal where its cycles are the bound: of `explain` the least, of `optimize` what the search proves. The gap is
 that of all cycles over the bounds. Without WORDs the status is 1 where `explain` has fewer than 75 % of all, or
 `optimize` fewer than 99 %, or 99.5 % of those of up to 40 operations.
 """
-import os
-import re
-import sys
 import time
 from dataclasses import dataclass
 
-sys.dont_write_bytecode = True
-sys.path.insert(0, os.path.dirname(os.path.dirname(os.path.abspath(__file__))))
-from harness.program import ending  # noqa: E402
-from oracle.operations import text_of  # noqa: E402
-from studies.families import MOST, families_of  # noqa: E402
+from studies.families import MOST, explained, families_of, optimized
 
 SIZES = (40, 80, MOST)
 
@@ -46,27 +37,21 @@ class Row:
               + f" {1000 * self.seconds / max(1, self.blocks):9.2f}", flush=True)
 
 
-def pairs_of(program, words, line, blocks):
-    out = ending([*words], text_of(blocks), program)[1]
-    return [tuple(map(int, numbers)) for numbers in re.findall(line, out, re.MULTILINE)]
-
-
-def rows_of(program, blocks, words):
+def rows_of(blocks, words):
     """A row for each block, which all took the same time."""
     latencies = [word for k, word in enumerate(words) if "--nodes" not in (word, words[k - 1] if k else "")]
-    greedy = pairs_of(program, ["explain", *latencies], rb"^cycles ([0-9]+) least ([0-9]+)", blocks)
-    start = time.monotonic()
-    best = pairs_of(program, ["optimize", "--workers", "1", *words], rb"^cycles ([0-9]+)\n// bound ([0-9]+)", blocks)
+    greedy, start = explained(blocks, *latencies), time.monotonic()
+    best = optimized(blocks, "--workers", "1", *words)
     seconds = (time.monotonic() - start) / max(1, len(blocks))
     return [Row(1, len(ops), a == b, c == d, c, d, seconds)
             for ops, (a, b), (c, d) in zip(blocks, greedy, best, strict=True)]
 
 
-def main(program, count=100, seed=0, *words):
+def main(count=100, seed=0, *words):
     print("family            blocks  operations  by least  searched     gap  ms a block")
     rows, sizes = [], []
     for name, blocks in families_of(count, seed).items():
-        made = rows_of(program, blocks, words)
+        made = rows_of(blocks, words)
         sum(made, Row()).show(name)
         rows += made
     for low, high in zip((0, *SIZES), SIZES):
@@ -77,12 +62,3 @@ def main(program, count=100, seed=0, *words):
     is_aimed = (whole.greedy >= 0.75 * whole.blocks and whole.closed >= 0.99 * whole.blocks
                 and sizes[0].closed >= 0.995 * sizes[0].blocks)
     return 0 if words or is_aimed else 1
-
-
-if __name__ == "__main__":
-    if sys.argv[1:2] == ["--blocks"]:
-        sys.stdout.buffer.write(b"".join(map(text_of, families_of(*sys.argv[2:]).values())))
-        sys.exit(0)
-    if len(sys.argv) < 2 or sys.argv[1].startswith("-"):
-        sys.exit(__doc__)
-    sys.exit(main(*sys.argv[1:]))

@@ -1,34 +1,28 @@
-#!/usr/bin/env python3
 """How often what `check` says of wrong rows is their fault: of rows of which the fault is known from their making.
 
-    tests/studies/faults PROGRAM [COUNT [SEED]]     of so many blocks of each sort, with rows of each wrong kind
+    tests/studies/run faults [COUNT [SEED]]     of so many blocks of each sort, with rows of each wrong kind
 
 For each kind of rows that aren't by the book: how many there are, in how many the first line names an operation at
 fault, in how many some line does, in how many each operation at fault has a line, and how many lines there are. A kind
 ends in `_reused` where results take the first register that is free, and else each has its own.
 """
 import copy
-import os
 import random
 import re
-import sys
 from collections import Counter
 
-sys.dont_write_bytecode = True
-sys.path.insert(0, os.path.dirname(os.path.dirname(os.path.abspath(__file__))))
-from judged.labs import Given  # noqa: E402
-from judged.students import CHANGES, WRONG, named as called, registers_reused, slots_of  # noqa: E402
-from language import USUAL  # noqa: E402  (oracle finds it)
-from oracle.book import is_by_the_book  # noqa: E402
-from oracle.drawn import lab_block  # noqa: E402
-from oracle.judge import judged_by  # noqa: E402
-from oracle.machine import bad_row  # noqa: E402
-from oracle.operations import Op, words_for  # noqa: E402
-from oracle.scheduler import Schedule  # noqa: E402
+from judged.labs import Given
+from judged.students import CHANGES, WRONG, named, registers_reused, slots_of
+from language import USUAL
+from oracle.book import is_by_the_book
+from oracle.drawn import lab_block
+from oracle.judge import judged_by
+from oracle.machine import bad_row
+from oracle.operations import Op, words_for
+from oracle.scheduler import Schedule
 
 LATENCIES = (USUAL, {"load": 3, "store": 3, "mult": 2})
 AT_ONCE = 200           # blocks of a text
-FIRST_ROW = 0           # as rows are counted in the listing
 # Lines below that aren't about the book.
 OTHERS = re.compile(r"(?:output|word) \d+: \S+ for|(?:no )?fault|the block |and \d+ more")
 
@@ -76,7 +70,7 @@ def reused(given):
 
 
 def in_few_registers(kind):
-    made = called(lambda chance, given: kind(chance, given), f"{kind.__name__}_reused")
+    made = named(lambda chance, given: kind(chance, given), f"{kind.__name__}_reused")
     made.is_reused = True
     return made
 
@@ -113,25 +107,23 @@ def are_named(fault, line, rows):
             pattern = rf"^{place[:8]} \d+: {re.escape(place[9:])}(?![\w,])"
         else:
             row, unit = place
-            pattern = rf"row {row + FIRST_ROW}: {re.escape(str(rows[row][unit]))}(?![\w,] ?\d)(?!\w)"
+            pattern = rf"row {row}: {re.escape(str(rows[row][unit]))}(?![\w,] ?\d)(?!\w)"
         if re.search(pattern, line):
             return True
     return False
 
 
-def judged(program, latencies, cases):
+def judged(latencies, cases):
     """Of each case the lines that say why its rows are wrong."""
     for k in range(0, len(cases), AT_ONCE):
         some = [(ops, rows) for ops, rows, _ in cases[k:k + AT_ONCE]]
-        for _, lines in judged_by(program, some, *words_for(latencies)):
+        for _, lines in judged_by(some, *words_for(latencies)):
             yield [line for line in lines if not OTHERS.match(line)]
 
 
 def wrong_rows(chance, kind, blocks, latencies):
     for ops in blocks:
-        schedule = Schedule(ops, latencies)
-        given = Given(schedule)
-        given.originals = schedule.originals
+        given = Given(Schedule(ops, latencies))
         if hasattr(kind, "is_reused"):
             given = reused(given)
         rows = kind(chance, given)
@@ -139,19 +131,18 @@ def wrong_rows(chance, kind, blocks, latencies):
             yield ops, rows, faults(given, rows)
 
 
-def named(program, count, seed):
+def main(count=100, seed=0):
     sums = Counter()
     for kind in KINDS:
         counts, chance = Counter(), random.Random(f"faults {seed} {kind.__name__}")
         for number, sort in enumerate(SORTS):
             latencies = LATENCIES[number % 2]
-            cases = [*wrong_rows(chance, kind, [sort(chance) for _ in range(count)], latencies)]
-            cases = [case for case in cases if case[2]]
-            for (_, rows, at_fault), lines in zip(cases, judged(program, latencies, cases), strict=True):
-                names = [[are_named(named_one, line, rows) for named_one in at_fault] for line in lines]
-                counts += Counter(cases=1, first=bool(names) and any(names[0]), any=any(map(any, names)),
-                                  all=all(any(named[k] for named in names) for k in range(len(at_fault))),
-                                  lines=len(lines))
+            blocks = [sort(chance) for _ in range(int(count))]
+            cases = [case for case in wrong_rows(chance, kind, blocks, latencies) if case[2]]
+            for (_, rows, at_fault), lines in zip(cases, judged(latencies, cases), strict=True):
+                are_hit = [[are_named(fault, line, rows) for fault in at_fault] for line in lines]
+                counts += Counter(cases=1, first=bool(lines) and any(are_hit[0]), any=any(map(any, are_hit)),
+                                  all=bool(lines) and all(map(any, zip(*are_hit))), lines=len(lines))
         sums += counts
         show(kind.__name__, counts)
     show("all", sums)
@@ -160,10 +151,3 @@ def named(program, count, seed):
 def show(name, counts):
     kinds = ("cases", "first", "any", "all", "lines")
     print(f"{name:28}", *(f"{kind} {counts[kind]:5} " for kind in kinds), flush=True)
-
-
-def main(program, count=100, seed=0):
-    named(program, int(count), seed)
-
-
-sys.exit(main(*sys.argv[1:]))

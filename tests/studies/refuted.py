@@ -1,26 +1,21 @@
-#!/usr/bin/env python3
 """How many wrong rows the judge refutes by memories that it makes up, where a memory of zeros shows nothing.
 
-    tests/studies/refuted PROGRAM [COUNT [SEED]]       COUNT wrong rows of each layout, 400 where it isn't given
+    tests/studies/run refuted [COUNT [SEED]]       COUNT wrong rows of each layout, 400 where it isn't given
 
 Blocks load two inputs, compute, store and print, and a few take an address from memory; each layout puts their words
 elsewhere. Rows are wrong as students' are, and count only if some drawn memory shows a difference and zeros don't.
 Those of a layout are judged in one run, since the blocks of a run share what made-up memories may span; the verdict
 wanted is `differs`. The status is 1 where it is fewer than 96 % of all.
 """
-import os
 import random
-import sys
 
-sys.dont_write_bytecode = True
-sys.path.insert(0, os.path.dirname(os.path.dirname(os.path.abspath(__file__))))
-from judged.labs import Given  # noqa: E402
-from judged.rewrites import Code as Operations  # noqa: E402
-from judged.students import WRONG  # noqa: E402
-from language import USUAL  # noqa: E402  (oracle finds it)
-from oracle.judge import judged_by, why_void  # noqa: E402
-from oracle.machine import bad_row, difference, memories, words_from  # noqa: E402
-from oracle.scheduler import Schedule  # noqa: E402
+from judged.labs import Given
+from judged.rewrites import Code as Operations
+from judged.students import WRONG
+from language import USUAL
+from oracle.judge import judged_by, why_void
+from oracle.machine import bad_row, difference, memories, words_from
+from oracle.scheduler import Schedule
 
 AIM = 0.96
 MEMORIES = 8
@@ -94,17 +89,11 @@ def show(name, verdicts):
     print(f"{name:16} {verdicts.count('differs'):5} of {len(verdicts):5}, {verdicts.count('agrees')} agree", flush=True)
 
 
-def main(program, count=400, seed=0):
+def main(count=400, seed=0):
     every = []
     for layout in LAYOUTS:
-        found = [verdict for verdict, _ in judged_by(program, wrong_rows(layout, int(count), seed))]
+        found = [verdict for verdict, _ in judged_by(wrong_rows(layout, int(count), seed))]
         show(layout, found)
         every += found
     show("all", every)
     return 0 if every.count("differs") >= AIM * len(every) else 1
-
-
-if __name__ == "__main__":
-    if len(sys.argv) < 2 or sys.argv[1].startswith("-"):
-        sys.exit(__doc__)
-    sys.exit(main(*sys.argv[1:]))

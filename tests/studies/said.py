@@ -1,7 +1,6 @@
-#!/usr/bin/env python3
 """Whether `check` says why rows of alike operations aren't by the book, and whether what it says is no reason.
 
-    tests/studies/said PROGRAM [COUNT [SEED]]       of so many hand-ins
+    tests/studies/run said [COUNT [SEED]]       of so many hand-ins
 
 A hand-in is *silent* if no line says why. A line is *misleading* if it is so, and isn't wrong:
 
@@ -13,23 +12,19 @@ Outputs of one word are told apart by the order of issue, and stores beside outp
 operation may be any that differs from it in registers alone. The last line has how many rows aren't by the book, how
 many are silent, and how many lines of each kind mislead.
 """
-import os
 import random
 import re
-import sys
 from collections import Counter
 
-sys.dont_write_bytecode = True
-sys.path.insert(0, os.path.dirname(os.path.dirname(os.path.abspath(__file__))))
-from judged.test_alike import lawful, rewired, wrong  # noqa: E402
-from judged.labs import Given, put  # noqa: E402
-from judged.students import slots_of, with_slot  # noqa: E402
-from oracle import alike  # noqa: E402
-from oracle.book import Reasons, label, terms  # noqa: E402
-from oracle.judge import judged_by  # noqa: E402
-from oracle.machine import row_text  # noqa: E402
-from oracle.operations import Op, words_for  # noqa: E402
-from oracle.scheduler import Schedule  # noqa: E402
+from judged.test_alike import lawful, rewired, wrong
+from judged.labs import Given, put
+from judged.students import slots_of, with_slot
+from oracle import alike
+from oracle.book import Reasons, label, terms
+from oracle.judge import judged_by
+from oracle.machine import row_text
+from oracle.operations import Op, words_for
+from oracle.scheduler import Schedule
 
 AT_ONCE, MOST = 500, 8      # hand-ins of a text, operations of a block
 NAMES = ("load", "store", "mult")
@@ -114,12 +109,12 @@ def told(counts, kind, ops, rows, latencies, line=""):
         print(f"{kind}: {[*map(str, ops)]} {[*map(row_text, rows)]} {latencies} {line}", flush=True)
 
 
-def main(program, count=10_000, seed=0):
+def main(count=10_000, seed=0):
     chance, counts = random.Random(f"said {seed}"), Counter()
     for _ in range(int(count) // AT_ONCE):
         latencies = {name: chance.randint(1, 4) for name in NAMES}
         some = [handed_in(chance, latencies) for _ in range(AT_ONCE)]
-        said = judged_by(program, some, *words_for(latencies))
+        said = judged_by(some, *words_for(latencies))
         for (ops, rows), (verdict, lines) in zip(some, said, strict=True):
             why = [line for line in lines if WHY.match(line)]
             if verdict in ("units", "lawful") or "undecided" in lines:
@@ -132,6 +127,3 @@ def main(program, count=10_000, seed=0):
                 if kind := hand_in.misleads(line):
                     told(counts, kind, ops, rows, latencies, line)
     print(" ".join(f"{kind} {counts[kind]}" for kind in ("wrong", "silent", "order", "under_way", "for")))
-
-
-sys.exit(main(*sys.argv[1:]))

@@ -1,27 +1,23 @@
-#!/usr/bin/env python3
 """How many right hand-ins the judge only finds to agree on the memory handed in, by what was done to their blocks.
 
-    tests/studies/agrees PROGRAM [COUNT [SEED]]     COUNT hand-ins of each kind, 200 where it isn't given
+    tests/studies/run agrees [COUNT [SEED]]     COUNT hand-ins of each kind, 200 where it isn't given
 
 Blocks compute, load and store as the kinds of judged/rewrites.py need it. Each hand-in is run beside its block on drawn
 memories. So are 25 COUNT rows with one fault, which one of these shows; the last line counts their verdicts. The status
 is 1 where one of them passes, a right one is found wrong, or `agrees` is said of more than 3 % of a kind, or 2 % of O2.
 """
-import os
 import random
 import sys
 from collections import Counter
 from types import SimpleNamespace
 
-sys.dont_write_bytecode = True
-sys.path.insert(0, os.path.dirname(os.path.dirname(os.path.abspath(__file__))))
-from judged.labs import Given, scheduled  # noqa: E402
-from judged.rewrites import MORE, O1, O2, OTHERWISE, SAME, ZERO, Code  # noqa: E402
-from judged.students import WRONG, early_stores, other_priorities, own_names, registers_reused, told_apart  # noqa: E402
-from language import USUAL  # noqa: E402  (oracle finds it)
-from oracle.judge import PASSING, judged_by, why_void  # noqa: E402
-from oracle.machine import bad_row, difference, memories, row_text, words_from  # noqa: E402
-from oracle.scheduler import Schedule, pairs_of  # noqa: E402
+from judged.labs import Given, scheduled
+from judged.rewrites import MORE, O1, O2, OTHERWISE, SAME, ZERO, Code
+from judged.students import WRONG, early_stores, other_priorities, own_names, registers_reused, told_apart
+from language import USUAL
+from oracle.judge import PASSING, judged_by, why_void
+from oracle.machine import bad_row, difference, memories, row_text, words_from
+from oracle.scheduler import Schedule, pairs_of
 
 MEMORIES, MOST = 24, {"O2": 0.02}
 ORDERS = (own_names, registers_reused, other_priorities, told_apart, early_stores)
@@ -93,23 +89,17 @@ def wrong_rows(count, seed):
     return found[:count]
 
 
-def judged(program, name, *lists):
-    found = Counter(verdict for cases in lists for verdict, _ in judged_by(program, cases))
+def judged(name, *lists):
+    found = Counter(verdict for cases in lists for verdict, _ in judged_by(cases))
     print(f"{name:28}" + "".join(f"  {verdict} {found[verdict]:5}" for verdict in sorted(found)), flush=True)
     return found
 
 
-def main(program, count=200, seed=0):
+def main(count=200, seed=0):
     count, is_good = int(count), True
     for kind in (*ORDERS, *SAME, *OTHERWISE, *MORE, O1, O2):
-        found = judged(program, kind.__name__, right_rows(kind, count, seed))
+        found = judged(kind.__name__, right_rows(kind, count, seed))
         most = MOST.get(kind.__name__, 0.03) * count
         is_good &= found["agrees"] <= most and {*found} <= {*PASSING, "agrees"}
-    wrong = judged(program, "wrong", *(wrong_rows(count, f"{seed} {k}") for k in range(25)))
+    wrong = judged("wrong", *(wrong_rows(count, f"{seed} {k}") for k in range(25)))
     return 0 if is_good and not {*wrong} & PASSING else 1
-
-
-if __name__ == "__main__":
-    if len(sys.argv) < 2 or sys.argv[1].startswith("-"):
-        sys.exit(__doc__)
-    sys.exit(main(*sys.argv[1:]))
