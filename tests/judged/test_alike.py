@@ -3,13 +3,14 @@ search finds a pairing."""
 import random
 from collections import Counter
 
-from harness.program import TESTED, Run, ending, stored, told
+from harness.program import TESTED, Run
 from harness.suite import Check, table
 from judged.labs import Given, scheduled
 from judged.students import WRONG, own_names, registers_reused
-from language import MAX_NUMBER
+from judged.test_students import own_rows_pass
+from language import MAX_NUMBER, USUAL
 from oracle import alike
-from oracle.judge import ENTRY, judged_by
+from oracle.judge import judged_by
 from oracle.machine import bad_row, row_text
 from oracle.operations import Op, text_of, words_for
 from oracle.pairings import has_pairing
@@ -68,28 +69,12 @@ def parts(items, count):
     return [items[k:k + count] for k in range(0, len(items), count)]
 
 
-def own_rows_pass(blocks, made, latencies=()):
-    """Of our schedules that are made so, by each command that judges rows."""
-    for some in parts(blocks, AT_ONCE):
-        task, words = text_of(some), words_for(dict(latencies))
-        rows, file = ending([*made, *words], task)[1], stored("alike.iloc", task)
-        for asked in ([], ["--lawful"]):
-            end = ending(["check", *asked, *words, "--task", file], rows)
-            found = [groups[2] for groups in ENTRY.findall(end[1])]
-            if end[0] != PASSED or found != [b"lawful"] * len(some):
-                others = ([*map(str, ops)] for ops, verdict in zip(some, found) if verdict != b"lawful")
-                yield f"check {asked} {made} {words}: {next(others, told(end))}"
-        end = ending(["explain", *words, "--task", file], rows)
-        if end[0] != PASSED or b"not lawful" in end[1] or end[1].count(b"\npath ") != len(some):
-            yield f"explain {made} {words}: {told(end)}"
-
-
 def own_drawn(*constants):
     chance = random.Random(64)
     blocks = [alike.block(chance, constants=constants) for _ in range(OWN if TESTED.is_short else ALL_OWN)]
     for number, some in enumerate(parts(blocks, len(blocks) // len(MADE) + 1)):
-        latencies = (SHORT, LONG, {})[number % 3]
-        yield from own_rows_pass(some, MADE[number], latencies)
+        texts = [(text_of(part), (SHORT, LONG, USUAL)[number % 3]) for part in parts(some, AT_ONCE)]
+        yield from own_rows_pass(texts, MADE[number])
 
 
 # Rows for a tiny block, which `labs` has with our schedule of it.
@@ -161,8 +146,8 @@ def alike_checks():
     yield lawful_rows("behind_empty_rows", SUMS + "[ ]\n" * MILLION + ROWS_OF_SUMS, MILLION + 3, 3)
     yield lawful_rows("behind_empty_lines", SUMS + "[ ]\n" + "\n" * MILLION + ROWS_OF_SUMS, 4, 3)
     for made in MADE:
-        yield Check(f"judged/alike/sums/{'_'.join(made)}", own_rows_pass, [*alike.sums()], made)
-        yield Check(f"judged/alike/apart/{'_'.join(made)}", own_rows_pass, [APART], made)
+        for name, blocks in (("sums", [*alike.sums()]), ("apart", [APART])):
+            yield Check(f"judged/alike/{name}/{'_'.join(made)}", own_rows_pass, [(text_of(blocks), USUAL)], made)
     yield Check("judged/alike/own", own_drawn)
     yield Check("judged/alike/own_of_ends", own_drawn, *ENDS)
     yield Check("judged/alike/as_exhaustively", as_exhaustively)

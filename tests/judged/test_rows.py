@@ -7,11 +7,11 @@ from harness.program import TOP, Run, ending, told, unlike
 from harness.suite import Check, plain, rows_of, table
 from language import MOST_BLOCKS, MOST_BYTES, MOST_OPERATIONS, USUAL
 from oracle.book import MOST_FACTS
-from oracle.judge import ENTRY, NOT_SAME, entries_of, operations_of, status_of, total
+from oracle.judge import ENTRY, NOT_SAME, entries_of, operations_of, status_of, total, why_void, wrong_ending
 from oracle.machine import row_text, words_from
 from oracle.reader import NO_SUCH_BLOCK, read
 
-WORDS = ["check", "--at", "4", "9"]
+WORDS, MEMORY = ["check", "--at", "4", "9"], words_from(4, [9])
 # In lines, and in a table.
 VERDICT = re.compile(r"^(?:block \d+ \S+ |\d+,[^,]+,)(\w+)", re.MULTILINE)
 
@@ -254,7 +254,7 @@ def judged(name, text, verdict, *below, outputs=False):
 
 
 def wrongly_judged(given, verdict, below, outputs):
-    entry, = entries_of(given, USUAL, words_from(4, [9]), outputs)
+    entry, = entries_of(given, USUAL, MEMORY, outputs)
     end = ending([*WORDS, *["--outputs"] * outputs], given)
     lines = [line[2:] for line in end[1].decode().split("\n")[1:-2]]
     why = lines[len(below):]
@@ -267,14 +267,10 @@ def wrongly_judged(given, verdict, below, outputs):
 
 def isnt_passed(text):
     """What is wrong with what is said of rows that do something else than the block."""
-    given = text.encode("latin-1")
-    entry, = entries_of(given, USUAL, words_from(4, [9]))
-    status, out, err = ending(WORDS, given)
-    got = ENTRY.match(out)
-    if not got or status != NOT_SAME or err or out[got.end():] != total([entry]).encode():
-        yield told((status, out, err))
-    else:
-        yield from entry.wrong(got, is_right=False)
+    end = ending(WORDS, text.encode())
+    yield from wrong_ending(end, text.encode(), USUAL, MEMORY)
+    if end[0] != NOT_SAME:
+        yield told(end)
 
 
 def listed(name, text, *entries):
@@ -307,14 +303,10 @@ def outputs_alone():
     """With `--outputs` each verdict is right of emitted words and faults; `--lawful` changes the status alone."""
     for block, theirs, verdict, *_ in [*SAME.values(), *VERDICTS.values(), *SHOWN.values()]:
         given = (block + spread(theirs)).encode()
-        entry, = entries_of(given, USUAL, words_from(4, [9]), outputs=True)
-        status, out, err = ending([*WORDS, "--outputs"], given)
-        got = ENTRY.match(out)
-        if not got or err or status != status_of([got[3].decode()]) or out[got.end():] != total([entry]).encode():
-            yield f"{given!r}: {told((status, out, err))}"
-            continue
-        yield from entry.wrong(got, is_right=verdict == "same" and not entry.void)
-        due = status_of([got[3].decode()], lawful=True), out, err
+        is_right = verdict == "same" and not why_void(read(given)[0].ops, MEMORY, outputs=True)
+        status, out, err = end = ending([*WORDS, "--outputs"], given)
+        yield from wrong_ending(end, given, USUAL, MEMORY, is_right, outputs=True)
+        due = status_of(VERDICT.findall(out.decode()), lawful=True), out, err
         yield from unlike(repr(given), ending([*WORDS, "--outputs", "--lawful"], given), due)
 
 

@@ -1,18 +1,19 @@
 """Schedules handed in to `check`: our own, students' right and wrong ones, and texts that are cut and changed."""
 import random
+import re
 from functools import cache
 
 from cases.test_drawn import ODD
 from cases.test_stored import stored_cases
-from harness.program import TESTED, ending, told
+from harness.program import TESTED, ending, short, stored, told
 from harness.suite import Check, table
 from hostile.test_texts import KINDS, changed_texts
 from judged.labs import Given
 from judged.students import RIGHT, WRONG, ours
 from language import USUAL
 from oracle.drawn import lab_block, made_block
-from oracle.judge import ENTRY, NOT_SAME, proposed, request, wrong_ending
-from oracle.machine import cycles
+from oracle.judge import AT, ENTRY, NOT_SAME, proposed, request, wrong_ending
+from oracle.machine import cycles, words_from
 from oracle.operations import text_of, words_for
 from oracle.scheduler import Schedule
 
@@ -20,7 +21,7 @@ SLOW = {"load": 16, "store": 1, "mult": 1}
 EACH_LATENCIES = {"usual": USUAL, "odd": ODD, "slow": SLOW}
 WORDS = [3, 4_294_967_295, 1028, 70, 5, 1_000_000]
 BLOCKS = 8      # of a file
-FILES, ALL_FILES = 2000, 20_000
+FILES, ALL_FILES, OF_OWN = 500, 5000, 12
 SEEDS, ALL_SEEDS = 5, 100
 # Blocks and schedule lines of each form, with blanks of each kind and none, leading zeros and comments.
 LINES = b"""\
@@ -68,8 +69,8 @@ def handed_in(seed, name, kind):
 
 
 def judging_checks():
-    yield Check("judging/own/stored", own_listings, stored_texts())
-    yield Check("judging/own/made", own_listings, made_texts(FILES if TESTED.is_short else ALL_FILES))
+    yield Check("judging/own/stored", own_rows_pass, stored_texts())
+    yield Check("judging/own/made", own_rows_pass, made_texts(FILES if TESTED.is_short else ALL_FILES))
     for kind in (*RIGHT, *WRONG):
         yield Check(f"judging/students/{kind.__name__}", of_kind, kind)
     yield Check("judging/texts/cut", judged_texts, [LINES[:end] for end in range(len(LINES) + 1)])
@@ -80,32 +81,30 @@ def stored_texts():
     for case in stored_cases():
         if case.words == ["run"] and case.status == 0 and case.out:
             for latencies in EACH_LATENCIES.values():
-                yield latencies, case.given
+                yield case.given, latencies
 
 
 def made_texts(count):
     chance = random.Random(count)
     for _ in range(count):
         latencies = {name: chance.randint(1, 16) for name in USUAL} if chance.random() < 0.5 else USUAL
-        make = chance.choice([lab_block, lab_block, made_block])
-        yield latencies, text_of([make(chance) for _ in range(chance.choice([1, 2, 6]))])
+        blocks = [chance.choice([lab_block, lab_block, made_block])(chance) for _ in range(OF_OWN)]
+        yield text_of(blocks), latencies
 
 
-def own_listings(texts):
-    """Our own schedules are by the book, with the cycles that are listed."""
-    count = 0
-    for count, (latencies, text) in enumerate(texts, 1):
-        listing = ending(["schedule", *words_for(latencies)], text)[1]
-        got = ending(request(latencies), text + b"\n" + listing)
-        claims = [int(line.split()[1]) for line in listing.splitlines() if line.startswith(b"cycles")]
-        entries = [match.groups() for match in ENTRY.finditer(got[1])]
-        wrong = [groups for groups, claim in zip(entries, claims)
-                 if groups[2] != b"lawful" or int(groups[3]) != claim or int(groups[4]) != claim or groups[6]
-                 or groups[7]]
-        last = b"total %d ours %d least %d\n" % (sum(claims), sum(claims), sum(int(groups[5]) for groups in entries))
-        if wrong or len(entries) != len(claims) or got[0] or got[2] or not got[1].endswith(last):
-            yield f"{text!r}: {wrong or told(got)}"
-    print(f"{count} listings")
+def own_rows_pass(texts, made=("schedule",)):
+    """Of our schedules of texts, by each command that judges rows; they take the cycles that they claim."""
+    for text, latencies in texts:
+        words, file = words_for(latencies), stored("own.iloc", text)
+        rows = ending([*made, *words], text)[1]
+        due = [(b"lawful", b"")] * len(re.findall(rb"^block ", rows, re.MULTILINE))
+        for asked in ([], ["--lawful"]):
+            end = ending(["check", *asked, *words, "--task", file], rows)
+            if end[0] or [(groups[2], groups[6]) for groups in ENTRY.findall(end[1])] != due:
+                yield f"check {asked} {made} {words}: {short(text)} {told(end)}"
+        end = ending(["explain", *words, "--task", file], rows)
+        if end[0] or b"not lawful" in end[1] or end[1].count(b"\npath ") != len(due):
+            yield f"explain {made} {words}: {short(text)} {told(end)}"
 
 
 def of_kind(kind):
@@ -115,7 +114,7 @@ def of_kind(kind):
         text = handed_in(seed, name, kind)
         for words, outputs in (((), False), (WORDS, False), ((), True), (WORDS, True)):
             got = ending(request(latencies, words, outputs), text)
-            yield from wrong_ending(got, text, latencies, words, kind in RIGHT, outputs)
+            yield from wrong_ending(got, text, latencies, words_from(AT, words), kind in RIGHT, outputs)
 
 
 def judged_texts(texts):

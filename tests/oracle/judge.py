@@ -179,11 +179,11 @@ def status_of(verdicts, lawful=False):
     return 0 if set(verdicts) <= ({"lawful"} if lawful else PASSING) else NOT_SAME
 
 
-def wrong_ending(ending, given, latencies, words=(), is_right=False, outputs=False, rule=all_count):
+def wrong_ending(ending, given, latencies, start=words_from(AT, []), is_right=False, outputs=False, rule=all_count):
     """What is wrong with how a run of `check` ended."""
     status, out, err = ending
     try:
-        entries = entries_of(given, latencies, words_from(AT, words), outputs, rule)
+        entries = entries_of(given, latencies, start, outputs, rule)
     except Refused as why:
         if ending != (1, b"", f"ilocfarm: {why}\n".encode()):
             yield f"{told(ending)} in place of {why}"
