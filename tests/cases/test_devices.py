@@ -4,7 +4,6 @@ import os
 import resource
 import select
 import subprocess
-import tempfile
 
 from bench import measure
 from cases.test_stored import CASES, read
@@ -35,10 +34,10 @@ def device_cases():
     yield Check("device/little_room/help", little_room, ["--help"], b"List")
     yield Run("device/little_room_to_tell", ["run"], BAD, b"", b"ilocfarm", 1, with_room(8, "stderr"))
     yield refused("device/line_comes_before_input", b"", b"--at is not a multiple of 4", 2, ["run", "--at", "2"],
-                  by=files(stdin="/"))
-    yield refused("device/help_to_a_full_one", b"", UNWRITTEN, 4, ["--help"], by=files(stdout="/dev/full"))
-    yield listed("device/nothing_to_a_full_one", b"", b"", by=files(stdout="/dev/full"))
-    yield listed("device/nothing_to_a_closed_one", b"", b"", by=closed(1))
+                  by=redirected("</"))
+    yield refused("device/help_to_a_full_one", b"", UNWRITTEN, 4, ["--help"], by=redirected(">/dev/full"))
+    yield listed("device/nothing_to_a_full_one", b"", b"", by=redirected(">/dev/full"))
+    yield listed("device/nothing_to_a_closed_one", b"", b"", by=redirected(">&-"))
     yield Run("device/word_is_no_text", ["run", b"\xff"], FIRST, b"", NO_TEXT, 2)
     for number, (status, words) in enumerate(WORDS_ALONE):
         yield Check(f"device/words_alone_decide_{number}", words_alone_decide, status, words)
@@ -62,9 +61,9 @@ def inputs(command):
     given, out = (FIRST + ROWS, LAWFUL) if command == "check" else (FIRST, read(f"{CASES}/{name}", b""))
     yield listed(f"device/one_byte_at_a_time/{command}", given, out, [command], by=bytewise)
     yield refused(f"device/input_without_end/{command}", b"", b"input longer than 16777216 bytes", 1, [command],
-                  by=files(stdin="/dev/zero"))
-    yield unread("input_is_a_folder", files(stdin="/"))
-    yield unread("input_is_closed", closed(0))
+                  by=redirected("</dev/zero"))
+    yield unread("input_is_a_folder", redirected("</"))
+    yield unread("input_is_closed", redirected("<&-"))
     yield unread("input_is_not_there_yet", hasty(b""))
     yield unread("input_fails_in_mid_way", hasty(b"nop"))
     yield unread("input_fails_behind_a_fault", hasty(BAD))
@@ -76,28 +75,17 @@ def outputs(command):
     def unwritten(name, by, given=FIRST):
         return refused(f"device/{name}/{command}", given, UNWRITTEN, 4, [command], by=by)
 
-    yield unwritten("full", files(stdout="/dev/full"))
-    yield unwritten("output_is_closed", closed(1))
+    yield unwritten("full", redirected(">/dev/full"))
+    yield unwritten("output_is_closed", redirected(">&-"))
     yield unwritten("nobody_reads", broken(0))
     yield unwritten("somebody_reads_a_part", broken(10), LONG)
-    yield Run(f"device/nobody_to_tell/{command}", [command], BAD, b"", b"", 1, files(stderr="/dev/full"))
-    yield Run(f"device/nobody_to_tell_at_all/{command}", [command], BAD, b"", b"", 1, closed(2))
+    yield Run(f"device/nobody_to_tell/{command}", [command], BAD, b"", b"", 1, redirected("2>/dev/full"))
+    yield Run(f"device/nobody_to_tell_at_all/{command}", [command], BAD, b"", b"", 1, redirected("2>&-"))
 
 
-def files(**paths):
-    """Standard input, output or error is this file; what is written to it isn't seen."""
-    def by(words, given):
-        opened = {name: os.open(path, os.O_RDONLY if name == "stdin" else os.O_WRONLY) for name, path in paths.items()}
-        try:
-            return ending(words, given, **opened)
-        finally:
-            for file in opened.values():
-                os.close(file)
-    return by
-
-
-def closed(number):
-    return lambda words, given: ending(words, given, preexec_fn=lambda: os.close(number))
+def redirected(streams):
+    """A shell gives the run other streams; what is written to them isn't seen."""
+    return lambda words, given: ending(["-c", f'exec "$0" "$@" {streams}', TESTED.program, *words], given, "/bin/sh")
 
 
 def with_room(size, stream="stdout"):
@@ -133,9 +121,7 @@ def broken(taken):
         reader, writer = os.pipe()
         if not taken:
             os.close(reader)
-        with tempfile.TemporaryFile() as file:
-            file.write(given)
-            file.seek(0)
+        with open(stored("given", given), "rb") as file:
             child = subprocess.Popen([TESTED.program, *words], stdin=file, stdout=writer, stderr=subprocess.PIPE)
         os.close(writer)
         if taken:
@@ -184,7 +170,7 @@ def little_room(words, start):
 
 def words_alone_decide(status, words):
     """Where nothing has to be read, nothing is: standard input is a folder, which can't be read."""
-    got, due = files(stdin="/")(words, b""), ending(words)
+    got, due = redirected("</")(words, b""), ending(words)
     if got != due or due[0] != status:
         yield f"{told(got)} in place of {told(due)}"
 
