@@ -1,7 +1,7 @@
 """Blocks with many operations that are alike, and rows for them."""
 from itertools import product
 
-from language import ROLES
+from oracle.drawn import ops_of
 from oracle.operations import Op
 
 # The opcodes of which a block is drawn.
@@ -19,11 +19,8 @@ def sums():
 
 def block(chance, most=12, constants=()):
     """A block of few opcodes, registers and constants: of these, if any are given."""
-    opcodes, registers = chance.choice(FEW), chance.choice([2, 3, 4, 6])
-    constants = constants or chance.choice([[4], [4], [4, 8]])
-    return [Op(opcode,
-               [chance.choice(constants) if role == "c" else chance.randrange(registers) for role in ROLES[opcode]])
-            for opcode in chance.choices(opcodes, k=chance.randint(2, most))]
+    opcodes = chance.choices(chance.choice(FEW), k=chance.randint(2, most))
+    return ops_of(chance, opcodes, chance.choice([2, 3, 4, 6]), constants or chance.choice([[4], [4], [4, 8]]))
 
 
 def rewired(chance, ops):

@@ -5,14 +5,16 @@ from oracle.operations import Op
 FREE = ("add", "sub", "mult", "lshift", "rshift")
 
 
+def ops_of(chance, opcodes, registers, constants):
+    """An operation of each of these opcodes, with some of so many registers and of these constants."""
+    return [Op(opcode,
+               [chance.choice(constants) if role == "c" else chance.randrange(registers) for role in ROLES[opcode]])
+            for opcode in opcodes]
+
+
 def made_block(chance):
-    registers = chance.choice([2, 4, 9])
-    ops = []
-    for _ in range(chance.randrange(25)):
-        opcode = chance.choice(sorted(FORMS))
-        numbers = [chance.randrange(64) * 4 if role == "c" else chance.randrange(registers) for role in ROLES[opcode]]
-        ops.append(Op(opcode, numbers))
-    return ops
+    opcodes = chance.choices(sorted(FORMS), k=chance.randrange(25))
+    return ops_of(chance, opcodes, chance.choice([2, 4, 9]), range(0, 256, 4))
 
 
 def lab_block(chance):

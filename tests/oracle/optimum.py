@@ -1,9 +1,7 @@
 """The fewest cycles that a lawful schedule of a small block takes: by trying all rows, one after another."""
 from functools import lru_cache
 
-from language import ROLES
-from oracle.drawn import made_block
-from oracle.operations import Op
+from oracle.drawn import made_block, ops_of
 from oracle.scheduler import befores_of, beside
 
 ENOUGH = 9
@@ -15,9 +13,7 @@ def small_block(chance):
     """A block of any opcodes, or, each other time, of few registers and of opcodes that share the slots of a row."""
     if chance.randrange(2):
         return [op for op in made_block(chance) if op.opcode != "nop"][:ENOUGH]
-    opcodes = chance.sample(CROWDED, 4)
-    return [Op(opcode, [4 * chance.randrange(9) if role == "c" else chance.randrange(6) for role in ROLES[opcode]])
-            for opcode in chance.choices(opcodes, k=chance.randrange(2, ENOUGH + 1))]
+    return ops_of(chance, chance.choices(chance.sample(CROWDED, 4), k=chance.randint(2, ENOUGH)), 6, range(0, 36, 4))
 
 
 def odd_latencies(chance):
