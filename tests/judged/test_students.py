@@ -2,19 +2,21 @@
 import random
 import re
 from functools import cache
+from pathlib import Path
 
 from cases.test_drawn import ODD
 from cases.test_stored import stored_cases
-from harness.program import TESTED, ending, short, stored, told
+from harness.program import TESTED, TOP, ending, short, stored, told
 from harness.suite import Check, table
 from hostile.test_texts import KINDS, changed_texts
 from judged.labs import Given
-from judged.students import RIGHT, WRONG, ours
+from judged.students import RIGHT, WRONG, early, ours
 from language import USUAL
 from oracle.drawn import lab_block, made_block
 from oracle.judge import AT, ENTRY, NOT_SAME, proposed, request, wrong_ending
 from oracle.machine import cycles, words_from
 from oracle.operations import text_of, words_for
+from oracle.reader import read
 from oracle.scheduler import Schedule
 
 SLOW = {"load": 16, "store": 1, "mult": 1}
@@ -22,7 +24,7 @@ EACH_LATENCIES = {"usual": USUAL, "odd": ODD, "slow": SLOW}
 WORDS = [3, 4_294_967_295, 1028, 70, 5, 1_000_000]
 BLOCKS = 8      # of a file
 FILES, ALL_FILES, OF_OWN = 500, 5000, 12
-SEEDS, ALL_SEEDS = 5, 100
+SEEDS, ALL_SEEDS, EARLY = 5, 100, 10
 # Blocks and schedule lines of each form, with blanks of each kind and none, leading zeros and comments.
 LINES = b"""\
 a: loadI 1028 => r1 // of a block
@@ -73,6 +75,8 @@ def judging_checks():
     yield Check("judging/own/made", own_rows_pass, made_texts(FILES if TESTED.is_short else ALL_FILES))
     for kind in (*RIGHT, *WRONG):
         yield Check(f"judging/students/{kind.__name__}", of_kind, kind)
+    for second in (1036, 2048, 40_000):
+        yield Check(f"judging/early_products/{second}", early_products, second)
     yield Check("judging/texts/cut", judged_texts, [LINES[:end] for end in range(len(LINES) + 1)])
     yield Check("judging/texts/changed", judged_texts, changed_texts(SHORT_LINES, KINDS + b"[];c"))
 
@@ -115,6 +119,18 @@ def of_kind(kind):
         for words, outputs in (((), False), (WORDS, False), ((), True), (WORDS, True)):
             got = ending(request(latencies, words, outputs), text)
             yield from wrong_ending(got, text, latencies, words_from(AT, words), kind in RIGHT, outputs)
+
+
+def early_products(second):
+    """Of examples/dot.iloc, with its second vector at this address: the judge makes up a memory that shows each."""
+    block = Path(f"{TOP}/examples/dot.iloc").read_bytes().replace(b"loadI 1036 ", b"loadI %d " % second)
+    given = Given(Schedule(read(block)[0].ops, USUAL))
+    for seed in range(EARLY):
+        text = block + proposed(1, "dot", early("mult")(random.Random(seed), given))
+        end = ending(["check"], text)
+        if end[0] != NOT_SAME or not end[1].startswith(b"block 1 dot differs "):
+            yield told(end)
+        yield from wrong_ending(end, text, USUAL)
 
 
 def judged_texts(texts):
