@@ -15,8 +15,6 @@ from oracle.reader import read
 from oracle.scheduler import Schedule
 
 OPTION = "--disambiguate"
-NO_COMMAND = 2
-EXCLUDED = (["check", "--lawful"], ["explain", "--task", "/dev/null"])      # what is by the book
 RUNS, ALL_RUNS, OF_A_RUN = 2, 100, 300      # blocks of a run
 FILES, ALL_FILES, OF_A_FILE = 3, 250, 20    # blocks that are judged
 MAKERS = (aliasing_block, aliasing_block, lab_block, made_block)
@@ -95,12 +93,6 @@ def shorter_than_the_bound():
         yield f"{out}"
 
 
-def excluded():
-    for command, option, *more in EXCLUDED:
-        said = f"ilocfarm: {option} and {OPTION} exclude each other\n".encode()
-        yield from unlike(command, ending([command, OPTION, option, *more], b"output 0\n"), (NO_COMMAND, b"", said))
-
-
 def without(pair):
     """By addresses, but that these two don't count."""
     def rule(ops):
@@ -123,7 +115,6 @@ def allows_less(text, words, pair):
 def disambiguate_cases():
     yield Check("disambiguate/simulated", unlike_a_plain_run, RUNS if TESTED.is_short else ALL_RUNS)
     yield Check("disambiguate/judged", not_judged_the_same, FILES if TESTED.is_short else ALL_FILES)
-    yield Check("disambiguate/excluded", excluded)
     yield Check("disambiguate/shorter_than_the_bound", shorter_than_the_bound)
     for name, (text, book, apart) in EDGES.items():
         for words, cycles in ((["counts"], book), (["counts", OPTION], apart)):

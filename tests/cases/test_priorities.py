@@ -6,7 +6,7 @@ from harness.suite import table
 from language import MOST_BYTES
 from oracle.scheduler import ORDERS
 
-NOT_READ, NO_COMMAND, NO_DEVICE = 1, 2, 4
+NOT_READ, NO_DEVICE = 1, 4
 TAKING = (["schedule"], ["counts"], ["explain"], ["explain", "--cycles"], ["compare"])
 # Block a has three operations, b has none, c has one.
 THREE_BLOCKS = b"a: loadI 4 => r1\nnop\nloadI 8 => r2\noutput 4\nb: nop\nc: output 8\n"
@@ -49,8 +49,6 @@ def faults():
     for words in TAKING:
         yield Run(f"priorities/bad_block/{'_'.join(words)}", [*words, "--priorities", stored("bad", b"x")], b"x", b"",
                   b"ilocfarm: line 1: not understood\n", NOT_READ)
-    yield Run("priorities/with_task", ["explain", "--priorities", good, "--task", good], THREE_BLOCKS, b"",
-              b"ilocfarm: --priorities and --task exclude each other\n", NO_COMMAND)
 
 
 def priorities_cases():

@@ -93,8 +93,6 @@ def undecided_cases():
 
 def json_cases():
     yield from (listed.case(f"json/{name}", listed.in_json) for name, listed in LISTED.items() if listed.in_json)
-    yield Run("judged/json/two_forms", ["check", "--json", "--csv"], b"a:", b"",
-              b"ilocfarm: --csv and --json exclude each other\n", 2)
     yield from undecided_cases()
     yield Check("judged/json/tables", are_the_same, texts_of(SAME, VERDICTS, UNLIKE))
     yield Check("judged/json/lawful", are_the_same, texts_of(SAME, VERDICTS), "--lawful")
