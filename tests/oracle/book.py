@@ -109,6 +109,7 @@ class Reasons:
         self.ops = [op for op in block if op.opcode != "nop"]
         self.issued = issued_in(rows)
         self.given, self.read = [*sources_in_block(self.ops)], [*sources_in_rows(self.issued, latencies)]
+        self.here, self.there = terms(self.ops, self.given), terms([op for _, op in self.issued], self.read)
         self.due = [cycle + op.latency(latencies) for cycle, op in self.issued]
         self.left_out = lacking(self.ops, [op for _, op in self.issued])
         self.added = lacking([op for _, op in self.issued], self.ops)
@@ -177,18 +178,14 @@ class Reasons:
         here, there = ([i for i, own in enumerate(self.ops) if label(own) == label(op)] for op in (one, other))
         return any(i < o if side == "after" else o < i for i in here for o in there)
 
-    def terms(self):
-        return terms(self.ops, self.given), terms([op for _, op in self.issued], self.read)
-
     def stands_for(self, k, number, op):
         """Whether this operation of the block has its label, but reads something else."""
-        own, (here, there) = self.ops[int(number)], self.terms()
-        return str(own) == op and label(own) == label(self.issued[k][1]) and here[int(number)] != there[k]
+        own = self.ops[int(number)]
+        return str(own) == op and label(own) == label(self.issued[k][1]) and self.here[int(number)] != self.there[k]
 
     def is_like_none(self, k):
         """Whether no operation of the block has its label and reads what it reads, and so on."""
-        here, there = self.terms()
-        return there[k] not in here
+        return self.there[k] not in self.here
 
     def reads_others(self, k):
         """Whether it reads other than its counterpart: of a label the first is that of the block's first, and so on."""

@@ -20,7 +20,7 @@ from judged.test_alike import lawful, rewired, wrong
 from judged.labs import Given, put
 from judged.students import slots_of, with_slot
 from oracle import alike
-from oracle.book import Reasons, label, terms
+from oracle.book import Reasons, label
 from oracle.judge import judged_by
 from oracle.machine import row_text
 from oracle.operations import Op, words_for
@@ -37,11 +37,6 @@ FOR = re.compile(f"{ISSUE} for operation (\\d+): [^:]*")
 
 class HandIn(Reasons):
     """Rows for a block, whose operations are told apart by their numbers among those of a kind."""
-
-    def __init__(self, block, rows, latencies):
-        super().__init__(block, rows, latencies)
-        self.here = terms(self.ops, self.given)
-        self.there = terms([op for _, op in self.issued], self.read)
 
     def partners(self, k, are_told_apart):
         """The operations of the block that operation k may be."""
