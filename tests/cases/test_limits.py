@@ -1,4 +1,4 @@
-"""Inputs at the limits, which are too long to store."""
+"""Inputs at the limits, which are too long to store; hostile/test_sizes has those whose time and memory count too."""
 from harness.program import listed, refused
 from harness.suite import table
 from language import MOST_BLOCKS, MOST_BYTES, MOST_OPERATIONS, WORDS
@@ -19,9 +19,7 @@ def made_cases():
 
 def texts():
     too_long = b"input longer than 16777216 bytes"
-    yield listed("made/longest_text", b"\n" * MOST_BYTES, b"")
     yield refused("made/text_too_long", b"\n" * (MOST_BYTES + 1), too_long)
-    yield refused("made/long_bad_line", b"." * MOST_BYTES, b"line 1: not understood")
     yield refused("made/too_long_and_bad", b"." * (MOST_BYTES + 1), too_long)
     yield refused("made/too_long_behind_a_bad_line", b".\n".ljust(MOST_BYTES + 1), too_long)
     yield refused("made/longest_behind_a_bad_line", b".\n".ljust(MOST_BYTES), b"line 1: not understood")
@@ -51,10 +49,7 @@ def numbers():
 
 
 def blocks():
-    heads = b"".join(b"block %d A\n" % k for k in range(1, MOST_BLOCKS + 1))
     too_many = b"line 65536: more than 65535 blocks"
-    yield listed("made/most_blocks", b"A:\n" * MOST_BLOCKS, heads)
-    yield refused("made/too_many_blocks", b"A:\n" * (MOST_BLOCKS + 1), too_many)
     yield refused("made/too_many_with_the_unnamed", b"nop\n" + b"A:\n" * MOST_BLOCKS, too_many)
     yield refused("made/bad_line_with_too_many", b"A:\n" * MOST_BLOCKS + b"A: nop nop\n", b"line 65536: not understood")
 
@@ -66,7 +61,6 @@ def operations():
     yield listed("made/most_operations", many, b"block 1 -\n")
     yield listed("made/most_operations_twice", many + b"B:\n" + many, b"block 1 -\nblock 2 B\n")
     yield listed("made/most_outputs", outputs, b"block 1 -\n" + b"0\n" * MOST_OPERATIONS)
-    yield refused("made/too_many_operations", many + b"nop\n", too_many % (MOST_OPERATIONS + 1))
     yield refused("made/too_many_in_the_second_block", b"nop\nB:" + many + b"nop\n", too_many % (MOST_OPERATIONS + 2))
 
 
