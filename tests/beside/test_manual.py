@@ -146,7 +146,11 @@ class Manual(Place):
         for name in self.commands():
             shown = self.call("ilocfarm", name, "--help")
             self.expect(f"{name}: status", shown[0], 0)
-            self.expect(f"help {name}", self.call("ilocfarm", "help", name), shown)
+            for words in ((name, "-h"), ("help", name)):
+                self.expect(words, self.call("ilocfarm", *words), shown)
+        for words in (("run", "--at", "2", "-h"), ("schedule", "--load", "1", "--help")):
+            got = self.call("ilocfarm", *words, given=b"output 0\n")
+            self.expect(words, got, self.call("ilocfarm", words[0], "--help"))
 
     def test_completes(self):
         self.make()

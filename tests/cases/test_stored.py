@@ -71,7 +71,7 @@ def spelled_twice(case):
 
 
 def as_simulated(case):
-    is_of_run_alone = {"-h", "--help", "--where"} & set(case.words)
+    is_of_run_alone = {"--help", "--where"} & set(case.words)
     if case.words[:1] == ["run"] and case.status == 0 and not is_of_run_alone:
         yield again(case, "simulated", ["simulate", *case.words[1:]])
         slow = ["simulate", *case.words[1:], "--load", "16", "--store", "1", "--mult", "16"]
