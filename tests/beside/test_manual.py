@@ -7,10 +7,10 @@ from harness.place import COMMAND, Place
 from harness.program import SECONDS, TESTED, TOP
 from harness.terminal import terminal
 from language import MAX_NUMBER, MOST_BLOCKS, MOST_BYTES, MOST_OPERATIONS
+from oracle.scheduler import ORDERS
 
 PAGE = f"{TOP}/man/ilocfarm.1"
 LITERAL = re.compile(r"^\.Bd -literal.*\n((?:(?!\.Ed).*\n)*)\.Ed\n", re.MULTILINE)
-PRIORITIES = "chain slack descendants successors latency order"
 # The words of a line, the last of which is to be completed, and what is offered.
 COMPLETIONS = (
     (["s"], "simulate schedule"),
@@ -22,7 +22,7 @@ COMPLETIONS = (
      "--at --load --store --mult --nodes --task --either-slot --disambiguate --lawful --operations --outputs --csv "
      "--json --help"),
     (["help", "c"], "counts compare check"),
-    (["counts", "--priority", ""], PRIORITIES),
+    (["counts", "--priority", ""], " ".join(ORDERS)),
     (["schedule", "--load", "1", "--priority", "s"], "slack successors"),
     (["run", "--at", "4", "1"], ""),
     (["run", "<", ""], ""),
@@ -32,7 +32,7 @@ COMPLETIONS = (
 COMPLETIONS_BESIDE = (
     ("ilocview", ["t"], "timeline"),
     ("ilocview", ["page", "--l"], "--load"),
-    ("ilocview", ["timeline", "blocks", "--priority", "s"], "slack successors"),
+    ("ilocview", ["timeline", "blocks", "--priority", ""], " ".join(ORDERS)),
     ("ilocview", ["page", ""], ""),
     ("ilocgrade", ["tasks", "--le"], "--lenient"),
     ("ilocgrade", ["--policy", "b"], "best"),
@@ -59,8 +59,8 @@ IN_FISH = (
     ("ilocfarm counts --wo", "--workers\tHow many workers share the blocks, 1 to 8 [default: 2]\n"),
     ("ilocfarm run < examples/fir", "examples/first.iloc\n"),
     ("ilocfarm explain --priority s",
-     "".join(f"{name}\tWhat goes first: chain, slack, descendants, successors, latency or order "
-             "[default: chain]\n" for name in ("slack", "successors"))),
+     "".join(f"{name}\tWhat goes first: {', '.join(ORDERS[:-1])} or {ORDERS[-1]} [default: chain]\n"
+             for name in ("slack", "successors"))),
     ("ilocview time", "timeline\ta schedule: units over cycles\n"),
     ("ilocview page examples/fir", "examples/first.iloc\n"),
     ("ilocgrade --policy b",
