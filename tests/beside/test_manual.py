@@ -15,12 +15,8 @@ LITERAL = re.compile(r"^\.Bd -literal.*\n((?:(?!\.Ed).*\n)*)\.Ed\n", re.MULTILIN
 COMPLETIONS = (
     (["s"], "simulate schedule"),
     (["--v"], "--version"),
-    (["run", "--"], "--at --where --help"),
     (["counts", "--load", ""], ""),
     (["counts", "--load", "1", "--m"], "--mult"),
-    (["check", "--"],
-     "--at --load --store --mult --nodes --task --either-slot --disambiguate --lawful --operations --outputs --csv "
-     "--json --help"),
     (["help", "c"], "counts compare check"),
     (["counts", "--priority", ""], " ".join(ORDERS)),
     (["schedule", "--load", "1", "--priority", "s"], "slack successors"),
@@ -153,8 +149,12 @@ class Manual(Place):
             self.expect(words, got, self.call("ilocfarm", words[0], "--help"))
 
     def test_completes(self):
+        """Of each command all options that its help lists, and what some lines offer."""
         self.make()
-        for name, words, offered in (*(("ilocfarm", *row) for row in COMPLETIONS), *COMPLETIONS_BESIDE):
+        helps = {name: self.call("ilocfarm", name, "--help")[1].decode() for name in self.commands()}
+        options = [([name, "--"], " ".join(re.findall(r"^ +(?:-\w, )?(--[\w-]+)", text, re.MULTILINE)))
+                   for name, text in helps.items()]
+        for name, words, offered in (*(("ilocfarm", *row) for row in (*options, *COMPLETIONS)), *COMPLETIONS_BESIDE):
             done = self.call("bash", "-c", COMPLETE, name, *words)
             self.expect(f"completions of {name} {words}", done, (0, f"{offered}\n".encode(), b""))
 
