@@ -187,7 +187,10 @@ impl Optimizer {
         }
     }
 
-    /// A block's greedy schedules by its dependence graph, whose least is handed in, and by each heuristic.
+    /// How many cycles a block's greedy schedules by each heuristic take, and the shortest of them, by the block's dependence graph
+    /// and its least by the graph's rule of memory.
+    ///
+    /// Promise: The cycles are those of the schedules that are greedy by the rule, and `optimize` promises as much of the best.
     pub fn orders(&mut self, block: &Block, graph: &Graph, least: u64) -> Result<Orders, NoMemory>
         requires graph { graph.now.ops ≡ renamed block.now.ops }
         requires least { least ≡ least_of_under graph.now.rule graph.now.latencies graph.now.ops }
@@ -288,7 +291,8 @@ impl Optimizer {
         Ok(Some(sought))
     }
 
-    /// The same, by the least of the block, which is handed in: its greedy schedules are made only if there is to be a search.
+    /// What a search with so many nodes finds of the cycles of a block with this least, if there is to be one: only then are its
+    /// greedy schedules made.
     pub fn seek_if(
         &mut self,
         block: &Block,
