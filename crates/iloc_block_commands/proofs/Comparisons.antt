@@ -1,13 +1,12 @@
 -- What is found of a block by each heuristic.
-use Rattle.std.proofs.Common.{◌≡◌, ◌==◌, ◌<◌, ◌≤◌, ℕ, Bool, true, false, List, [], ◌∷◌, ◌++◌, ◌+◌, ◌*◌, take, get_or, append_assoc, append-nil, inl, inr, None, Option, Some, length, refl, sym, ap, ap₂, subst, ◌∙◌, arith}
+use Rattle.std.proofs.Common.{◌≡◌, ◌==◌, ◌<◌, ◌≤◌, ℕ, Bool, true, false, List, [], ◌∷◌, ◌++◌, ◌+◌, take, get_or, append_assoc, append-nil, inl, inr, None, Option, Some, length, refl, sym, ap, ap₂, subst, ◌∙◌, arith}
 use Rattle.std.proofs.lemmas.Bool.{and_parts, eqb-true}
 use Rattle.std.proofs.lemmas.List.{ext_get_or, get_or_default, take_more}
 use Rattle.std.proofs.lemmas.Grind.{flat_map-append}
-use Rattle.std.proofs.lemmas.List.Sums.{count_by-le-length, length-filter}
 use Rattle.std.specs.List.{list_all, range_with_len}
 use Rattle.iloc_rules.specs.Steps.Members.{In}
 use Rattle.iloc_rules.proofs.Basics.Members.{in_range_from}
-use Rattle.std.specs.Prelude.{codes, slice_index, sum_by}
+use Rattle.std.specs.Prelude.{codes, slice_index}
 use Rattle.iloc_ops.specs.Limits.{MAX_OPS}
 use Rattle.iloc_ops.specs.declared.file.Block.{Block}
 use Rattle.iloc_ops.specs.declared.op.Op.{Op}
@@ -15,14 +14,7 @@ use Rattle.iloc_timed.specs.declared.latencies.Latencies.{Latencies}
 use Rattle.iloc_timed.specs.Schedule.{Table}
 use Rattle.iloc_rules.specs.declared.memory_rule.MemoryRule.{MemoryRule}
 use Rattle.iloc_rules.specs.Heuristics.Listed.{heuristics}
-use Rattle.iloc_rules.specs.Delays.{Counts}
-use Rattle.iloc_rules.specs.Greedy.{IsGreedyWhere}
-use Rattle.iloc_rules.specs.Renaming.{renamed}
 use Rattle.iloc_rules.specs.Rule.{counts_by, priorities_under}
-use Rattle.iloc_rules.specs.declared.delay_pairs.TheConstants.{LONGEST_DELAY}
-use Rattle.iloc_rules.proofs.Bounds.BusyCycles.{busy_bound_where}
-use Rattle.iloc_rules.proofs.Renamed.MentionedSources.{length-renamed_by}
-use Rattle.iloc_timed.specs.Latency.{latency}
 use Rattle.iloc_bound.specs.Bound.{least_under}
 use Rattle.iloc_rules.specs.declared.heuristic.Heuristic.{Heuristic}
 use Rattle.iloc_rules.specs.declared.heuristic.Heuristic.TheVariants.{Chain}
@@ -33,22 +25,9 @@ use Rattle.iloc_block_commands.specs.Compare.{AreCounts, IsComparedCycles, IsOwn
 use Rattle.iloc_listing.specs.Listing.{cycles_of}
 use Rattle.iloc_listing.specs.Limits.{most_cycles}
 use Rattle.iloc_listing.specs.Schedules.{IsCountUnder}
-use Rattle.iloc_listing.proofs.Schedules.{latencies_at_most}
+use Rattle.iloc_listing.proofs.Schedules.{cycles_few_where}
 use Rattle.iloc_block_commands.specs.declared.compare.ComparedCycles.{ComparedCycles}
 use Rattle.iloc_block_commands.proofs.Listers.{is_count_under}
-
--- renaming adds no operation
-renamed_fits : (block : List Op) → length (renamed block) ≤ length block
-renamed_fits block = grind (arith, length-renamed_by, length-filter, count_by-le-length)
-
--- a greedy schedule takes few cycles, whichever pairs count
-cycles_few_where : (counts : Counts) (prios : List ℕ) (lat : Latencies) (block : List Op) (s : Table)
-    → IsGreedyWhere counts prios lat block s.ops s.rows → length block ≤ MAX_OPS → cycles_of lat s ≤ most_cycles
-cycles_few_where counts prios lat block s greedy short =
-    let busy : cycles_of lat s ≤ sum_by (latency lat) s.ops = busy_bound_where counts prios lat block s.ops s.rows greedy in
-    let most : sum_by (latency lat) s.ops ≤ LONGEST_DELAY * length s.ops = latencies_at_most lat s.ops in
-    let longest : length s.ops ≤ length block = rw greedy.lawful.names (renamed_fits block) in
-    omega arith
 
 -- the bound is small, since some schedule takes as many cycles
 pub bound_small : (rule : MemoryRule) (heuristic : Heuristic) (lat : Latencies) (b : Block) (n : ℕ)
