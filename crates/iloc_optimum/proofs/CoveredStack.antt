@@ -1,12 +1,5 @@
 -- The stack of windows covers what is within the first ones.
-use Rattle.std.proofs.Common.{◌≡◌, ℕ, ◌+◌, ◌<◌, ◌≤◌, List, [], ◌∷◌, ◌++◌, length, get_or, set, ◌⊎◌, inl, inr, Bool, true, false, not, refl, arith}
-use Rattle.std.proofs.lemmas.Bool.{cases_lt}
-use Rattle.std.specs.Prelude.{IsTrue}
-use Rattle.iloc_timed.specs.declared.kind.Kind.{Kind}
-use Rattle.iloc_sched.specs.declared.edges.Edge.{Edge}
-use Rattle.iloc_optimum.specs.declared.windows.Windows.{Windows}
-use Rattle.iloc_optimum.specs.Timing.{Within, IsTiming, AreSized}
-use Rattle.iloc_optimum.specs.Steps.Covered.{InOne, EachSized, IsCovered}
+use Rattle.iloc_optimum.proofs.Common.{◌≡◌, ℕ, ◌+◌, ◌<◌, ◌≤◌, Bool, true, false, not, ◌⊎◌, List, [], ◌∷◌, ◌++◌, length, get_or, set, IsTrue, refl, inl, inr, arith, cases_lt, Kind, Edge, EachSized, InOne, IsCovered, AreSized, IsTiming, Within, Windows}
 use Rattle.iloc_optimum.proofs.NarrowerWindows.{raised, lowered}
 
 abbrev pub Keeps : Windows → (ℕ → ℕ) → Type 0

@@ -1,18 +1,6 @@
 -- Windows that fill their cycles keep the other operations of the share out.
-use Rattle.std.proofs.Common.{◌≡◌, ℕ, ◌+◌, ◌-◌, ◌*◌, ◌<◌, ◌≤◌, zero, suc, Bool, true, false, cond, ◌&&◌, List, length, get_or, ◌⊎◌, inl, inr, arith}
-use Rattle.std.specs.Prelude.{count_by, nat_lt}
-use Rattle.std.specs.List.{range_with_len}
-use Rattle.std.proofs.lemmas.Bool.{and_parts, cases_lt, and_from}
+use Rattle.iloc_optimum.proofs.Common.{◌≡◌, ℕ, zero, suc, ◌+◌, ◌-◌, ◌*◌, ◌<◌, ◌≤◌, Bool, true, false, cond, ◌&&◌, ◌⊎◌, List, length, get_or, nat_lt, count_by, inl, inr, arith, and_from, and_parts, cases_lt, range_with_len, Kind, count_range, from_range, count_by-cons, at_least, count-mono, width, Share, count_inside, is_inside, Crowd, Within, belongs, between}
 use Rattle.std.proofs.lemmas.Bool.Decides.{nat_tests}
-use Rattle.iloc_timed.specs.declared.kind.Kind.{Kind}
-use Rattle.iloc_bound.specs.declared.share.Share.{Share}
-use Rattle.iloc_optimum.specs.Timing.{Within, Crowd, between, belongs}
-use Rattle.iloc_optimum.specs.Steps.Inside.{is_inside, count_inside}
-use Rattle.iloc_bound.specs.Shares.{width}
-use Rattle.iloc_rules.proofs.Basics.CountedRanges.{count_range}
-use Rattle.iloc_rules.proofs.Basics.Members.{from_range}
-use Rattle.iloc_rules.proofs.Basics.Slots.{count_by-cons}
-use Rattle.iloc_bound.proofs.Counting.{at_least, count-mono}
 
 pub is_less : (q p : ℕ) → nat_lt q p ≡ true → q < p
 is_less q p h = grind (arith, nat_tests)

@@ -1,40 +1,17 @@
 -- The best schedule and the bound while they are improved: `Optimizer::optimize`.
-use Rattle.std.proofs.Common.{◌≡◌, ◌∙◌, ℕ, ◌+◌, ◌<◌, ◌≤◌, List, [], ◌∷◌, ◌++◌, length, get_or, take, map, sym, ap, subst, ◌⊎◌, inl, inr, arith}
-use Rattle.std.specs.Prelude.{slice_index, slice_set}
-use Rattle.std.proofs.lemmas.Bool.{cases_lt}
-use Rattle.iloc_ops.specs.declared.op.Op.{Op}
-use Rattle.iloc_timed.specs.declared.kind.Kind.{Kind}
-use Rattle.iloc_timed.specs.declared.latencies.Latencies.{Latencies}
-use Rattle.iloc_timed.specs.declared.row.Row.{Row}
-use Rattle.iloc_timed.specs.Cycles.{cycles}
-use Rattle.iloc_timed.specs.Kinds.{kind}
+use Rattle.iloc_optimum.proofs.Common.{◌≡◌, ℕ, ◌+◌, ◌<◌, ◌≤◌, ◌⊎◌, List, [], ◌∷◌, map, length, get_or, take, slice_index, slice_set, sym, ap, ◌∙◌, subst, inl, inr, arith, take_all, get_or-set_other, get_or-set_same, cases_lt, get_or_default, take_more, Op, cycles, kind, Kind, Latencies, Row, from_append, from_map, heuristics, renamed, priorities_under, Chain, MemoryRule, Edge, ruled_least_bound, least_under, IsBound, AreDelayPairs, AreLeft, IsAsShortAs, IsCountOf, IsOptimumOf, cycles_of, HasNone, Windows}
 use Rattle.iloc_timed.specs.Schedule.{Table}
 use Rattle.iloc_timed.proofs.WholeRuns.{short_latency}
-use Rattle.std.proofs.lemmas.List.{get_or-set_other, get_or-set_same, get_or_default, take_all, take_more}
 use Rattle.iloc_rules.specs.declared.delay_pairs.TheConstants.{LONGEST_DELAY}
-use Rattle.iloc_sched.specs.declared.edges.Edge.{Edge}
 use Rattle.iloc_rules.specs.declared.heuristic.Heuristic.{Heuristic}
-use Rattle.iloc_rules.specs.declared.heuristic.Heuristic.TheVariants.{Chain}
-use Rattle.iloc_rules.specs.declared.memory_rule.MemoryRule.{MemoryRule}
-use Rattle.iloc_rules.specs.Heuristics.Listed.{heuristics}
-use Rattle.iloc_bound.specs.Bound.{least_under}
-use Rattle.iloc_rules.specs.Renaming.{renamed}
-use Rattle.iloc_rules.specs.Rule.{priorities_under}
 use Rattle.iloc_sched.specs.Scheduled.{IsTheScheduleBy}
 use Rattle.iloc_rules.proofs.Basics.IssueCycles.{issue_cycle_within}
 use Rattle.iloc_rules.proofs.Basics.Maxima.{fold_max_reached}
 use Rattle.iloc_rules.specs.Steps.Members.{In}
-use Rattle.iloc_rules.proofs.Basics.Members.{from_append, from_map}
 use Rattle.iloc_rules.proofs.PriorityValues.Named.{listed}
-use Rattle.iloc_bound.proofs.LeastBound.{ruled_least_bound}
 use Rattle.iloc_rules.proofs.Outcome.LawfulOutcomes.{ruled_same_outcome}
 use Rattle.iloc_optimum.specs.declared.optimizer.Optimum.{Optimum}
-use Rattle.iloc_optimum.specs.declared.windows.Windows.{Windows}
-use Rattle.iloc_optimum.specs.Bound.{IsBound}
-use Rattle.iloc_optimum.specs.Laws.{AreDelayPairs, AreLeft}
-use Rattle.iloc_optimum.specs.Timing.{HasNone}
 use Rattle.iloc_optimum.proofs.LawfulTimings.{bound_raised}
-use Rattle.iloc_optimum.specs.Optimum.{cycles_of, IsAsShortAs, IsCountOf, IsOptimumOf}
 use Rattle.iloc_optimum.specs.Steps.Improving.{IsLawfulBy, IsShortened}
 
 -- any schedule ends within the longest latency after its rows

@@ -1,36 +1,14 @@
 -- The cycles of issue in a lawful schedule are a timing within the first windows: `laws::lawful_schedules_are_timings`,
 -- `laws::nothing_left_raises_the_bound`.
-use Rattle.std.proofs.Common.{◌≡◌, ◌∙◌, ℕ, zero, suc, ◌+◌, ◌-◌, ◌*◌, ◌<◌, ◌≤◌, ◌&&◌, List, length, map, replicate, get_or, sym, ap, subst, inl, inr, arith}
-use Rattle.std.specs.Prelude.{count_by}
-use Rattle.std.specs.List.{range_with_len}
-use Rattle.std.proofs.lemmas.List.{length-map, get_or-map}
+use Rattle.iloc_optimum.proofs.Common.{◌≡◌, ℕ, zero, suc, ◌+◌, ◌-◌, ◌*◌, ◌<◌, ◌≤◌, ◌&&◌, List, map, length, get_or, replicate, count_by, sym, ap, ◌∙◌, subst, inl, inr, arith, and_from, and_parts, cases_lt, get_or-map, length-map, All-weaker, range_with_len, Op, cycles, kind, Latencies, Row, renamed, counts_by, MemoryRule, Edge, tail_within_under, length-tails_under, tails_under, shares, width, Share, AreDelayPairs, AreLeft, LawfulSchedulesAreTimings, NothingLeftRaisesTheBound, ReachedBoundsAreOptimal, Crowd, IsTiming, Within, belongs, between, Windows}
 use Rattle.std.proofs.Math.ListN as lists
-use Rattle.std.proofs.lemmas.Bool.{and_parts, cases_lt, and_from}
-use Rattle.std.proofs.lemmas.List.Elements.{All-weaker}
-use Rattle.iloc_ops.specs.declared.op.Op.{Op}
 use Rattle.iloc_ops.specs.declared.op.Op.TheVariants.{Nop}
 use Rattle.iloc_meaning.specs.Trace.{op_at}
-use Rattle.iloc_timed.specs.declared.latencies.Latencies.{Latencies}
-use Rattle.iloc_timed.specs.declared.row.Row.{Row}
-use Rattle.iloc_timed.specs.Cycles.{cycles}
-use Rattle.iloc_timed.specs.Kinds.{kind}
 use Rattle.iloc_timed.specs.Rows.{issue_cycle}
-use Rattle.iloc_bound.specs.declared.share.Share.{Share}
-use Rattle.iloc_rules.specs.declared.memory_rule.MemoryRule.{MemoryRule}
 use Rattle.iloc_rules.specs.Delays.{IsDelayPairWhere}
 use Rattle.iloc_rules.specs.Lawful.{IsLawfulWhere}
-use Rattle.iloc_bound.specs.Bound.{tails_under}
-use Rattle.iloc_rules.specs.Renaming.{renamed}
-use Rattle.iloc_rules.specs.Rule.{counts_by}
-use Rattle.iloc_bound.specs.Shares.{shares, width}
-use Rattle.iloc_bound.proofs.LeastBound.{tail_within_under}
 use Rattle.iloc_bound.proofs.RowsHold.{Holds, holds_memory, holds_products, holds_outputs, holds_all}
 use Rattle.iloc_bound.proofs.TailBound.{crowd_of}
-use Rattle.iloc_bound.proofs.TailParts.{length-tails_under}
-use Rattle.iloc_sched.specs.declared.edges.Edge.{Edge}
-use Rattle.iloc_optimum.specs.declared.windows.Windows.{Windows}
-use Rattle.iloc_optimum.specs.Laws.{AreDelayPairs, AreLeft, LawfulSchedulesAreTimings, NothingLeftRaisesTheBound, ReachedBoundsAreOptimal}
-use Rattle.iloc_optimum.specs.Timing.{Within, IsTiming, Crowd, belongs, between}
 use Rattle.iloc_optimum.proofs.FullCycles.{count_grows}
 
 holds_of : (s : Share) (ops : List Op) → Holds (shares s) (width s) ops

@@ -1,3 +1,4 @@
+pub mod Common
 mod NarrowerWindows
 mod FullCycles
 mod CoveredStack

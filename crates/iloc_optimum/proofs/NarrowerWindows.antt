@@ -1,12 +1,7 @@
 -- A narrower window, where no operation is issued outside it.
-use Rattle.std.proofs.Common.{ℕ, ◌+◌, ◌≤◌, ◌<◌, List, length, set, get_or-set_other, get_or-set_same, arith}
-use Rattle.std.specs.Prelude.{slice_index_or}
-use Rattle.std.proofs.lemmas.List.{length-set}
-use Rattle.std.proofs.lemmas.List.Elements.{All-get_or}
-use Rattle.iloc_sched.specs.declared.edges.Edge.{Edge}
+use Rattle.iloc_optimum.proofs.Common.{ℕ, ◌+◌, ◌<◌, ◌≤◌, List, length, set, slice_index_or, arith, length-set, get_or-set_other, get_or-set_same, All-get_or, Edge, LeadsBetween, WaitsFor, Within}
 use Rattle.iloc_sched.specs.Steps.Views.{no_edge}
 use Rattle.iloc_sched.proofs.Basics.Cases.{by_eq}
-use Rattle.iloc_optimum.specs.Timing.{Within, WaitsFor, LeadsBetween}
 
 pub raised : (firsts lasts : List ℕ) (t : ℕ → ℕ) (k v : ℕ) → k < length firsts → v ≤ t k → Within firsts lasts t
     → Within (set firsts k v) lasts t

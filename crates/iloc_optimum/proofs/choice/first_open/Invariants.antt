@@ -1,5 +1,4 @@
-use Rattle.std.proofs.Common.{◌<◌, length, get_or}
-use Rattle.std.specs.Prelude.{MatchOption}
+use Rattle.iloc_optimum.proofs.Common.{◌<◌, length, get_or, MatchOption}
 use Rattle.iloc_optimum.proofs.choice.first_open.Given as goal
 
 abbrev pub invariant-loop-i : goal.invariant-loop-i

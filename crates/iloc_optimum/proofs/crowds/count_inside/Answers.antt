@@ -1,6 +1,4 @@
-use Rattle.std.proofs.lemmas.Grind.{common_steps}
-use Rattle.std.proofs.Common.{arith}
-use Rattle.iloc_rules.proofs.Basics.CountedRanges.{count_most}
+use Rattle.iloc_optimum.proofs.Common.{arith, common_steps, count_most}
 use Rattle.iloc_optimum.proofs.FullCycles.{count_next}
 use Rattle.iloc_optimum.proofs.crowds.count_inside.Goals as goal
 

@@ -1,5 +1,4 @@
-use Rattle.std.proofs.Common.{◌≡◌}
-use Rattle.iloc_optimum.specs.Steps.Inside.{count_inside}
+use Rattle.iloc_optimum.proofs.Common.{◌≡◌, count_inside}
 use Rattle.iloc_optimum.proofs.crowds.count_inside.Given as goal
 
 abbrev pub invariant-loop-i : goal.invariant-loop-i

@@ -1,8 +1,4 @@
-use Rattle.std.proofs.Common.{◌≡◌, ◌+◌, ◌-◌, ◌*◌, ◌≤◌, length, ap₂, sym, subst₂, ◌∙◌, arith}
-use Rattle.iloc_bound.proofs.Counting.{is_at_least}
-use Rattle.iloc_optimum.specs.Timing.{Within}
-use Rattle.iloc_optimum.specs.Steps.Inside.{count_inside}
-use Rattle.iloc_bound.specs.Shares.{width}
+use Rattle.iloc_optimum.proofs.Common.{◌≡◌, ◌+◌, ◌-◌, ◌*◌, ◌≤◌, length, sym, ◌∙◌, ap₂, subst₂, arith, is_at_least, width, count_inside, Within}
 use Rattle.iloc_optimum.proofs.FullCycles.{too_many}
 use Rattle.iloc_optimum.proofs.crowds.hold.Goals as goal
 use Rattle.iloc_optimum.proofs.crowds.hold.Goals.{then-count-room, else-count-room}

@@ -1,5 +1,4 @@
-use Rattle.std.proofs.Common.{◌≡◌, ℕ, length}
-use Rattle.iloc_optimum.specs.Timing.{Within, FitsShares}
+use Rattle.iloc_optimum.proofs.Common.{◌≡◌, ℕ, length, FitsShares, Within}
 use Rattle.iloc_optimum.proofs.crowds.hold_each.Given as goal
 
 abbrev pub invariant-loop-span : goal.invariant-loop-span

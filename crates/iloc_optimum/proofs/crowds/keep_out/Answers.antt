@@ -1,10 +1,4 @@
-use Rattle.std.proofs.Common.{◌+◌, sym, subst₂, ◌∙◌, ◌≡◌, ◌≢◌, ℕ, ◌*◌, ◌-◌, ◌<◌, ◌≤◌, true, List, length, get_or, set, get_or-set_other, ◌⊎◌, inl, inr, arith}
-use Rattle.iloc_optimum.specs.Steps.Inside.{IsKept, count_inside}
-use Rattle.std.proofs.lemmas.List.{length-set}
-use Rattle.iloc_timed.specs.declared.kind.Kind.{Kind}
-use Rattle.iloc_bound.specs.declared.share.Share.{Share}
-use Rattle.iloc_optimum.specs.Timing.{Within, belongs}
-use Rattle.iloc_bound.specs.Shares.{width}
+use Rattle.iloc_optimum.proofs.Common.{◌≡◌, ℕ, ◌+◌, ◌-◌, ◌*◌, ◌<◌, ◌≤◌, true, ◌≢◌, ◌⊎◌, List, length, get_or, set, sym, ◌∙◌, subst₂, inl, inr, arith, length-set, get_or-set_other, Kind, width, Share, IsKept, count_inside, Within, belongs}
 use Rattle.iloc_optimum.proofs.NarrowerWindows.{raised, lowered}
 use Rattle.iloc_optimum.proofs.FullCycles.{left_over}
 use Rattle.iloc_optimum.proofs.crowds.keep_out.Goals as goal

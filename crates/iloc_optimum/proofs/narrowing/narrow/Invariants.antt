@@ -1,5 +1,4 @@
-use Rattle.std.proofs.Common.{◌≡◌, ℕ, length}
-use Rattle.iloc_optimum.specs.Timing.{Within, IsTiming}
+use Rattle.iloc_optimum.proofs.Common.{◌≡◌, ℕ, length, IsTiming, Within}
 use Rattle.iloc_optimum.proofs.narrowing.narrow.Given as goal
 
 abbrev pub invariant-loop : goal.invariant-loop

@@ -1,15 +1,6 @@
-use Rattle.std.proofs.Common.{◌≡◌, ◌∙◌, ◌+◌, ◌-◌, ◌*◌, ◌<◌, ◌≤◌, length, ap, arith, ℕ, zero, suc, Bool, true, cond, ◌&&◌, List, refl, ◌⊎◌}
+use Rattle.iloc_optimum.proofs.Common.{◌≡◌, ℕ, zero, suc, ◌+◌, ◌-◌, ◌*◌, ◌<◌, ◌≤◌, Bool, true, cond, ◌&&◌, ◌⊎◌, List, length, count_by, refl, ap, ◌∙◌, arith, and_from, cases_lt, range_with_len, Kind, count_by-cons, width, Share, count_inside, is_inside, FitsShares, Within, belongs, between}
 use Rattle.iloc_bound.specs.declared.share.Share.TheVariants.{All}
-use Rattle.iloc_bound.specs.Shares.{width}
-use Rattle.iloc_optimum.specs.Steps.Inside.{count_inside, is_inside}
 use Rattle.iloc_optimum.proofs.FullCycles.{is_less, in_between, issued_inside}
-use Rattle.std.specs.Prelude.{count_by}
-use Rattle.std.specs.List.{range_with_len}
-use Rattle.std.proofs.lemmas.Bool.{cases_lt, and_from}
-use Rattle.iloc_timed.specs.declared.kind.Kind.{Kind}
-use Rattle.iloc_bound.specs.declared.share.Share.{Share}
-use Rattle.iloc_rules.proofs.Basics.Slots.{count_by-cons}
-use Rattle.iloc_optimum.specs.Timing.{Within, FitsShares, between, belongs}
 use Rattle.iloc_optimum.proofs.nests.is_overfull.Goals as goal
 
 -- Nests that more windows are in than they hold.

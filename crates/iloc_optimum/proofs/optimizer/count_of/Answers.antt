@@ -1,5 +1,4 @@
-use Rattle.std.proofs.lemmas.Grind.{common_steps}
-use Rattle.std.proofs.Common.{arith}
+use Rattle.iloc_optimum.proofs.Common.{arith, common_steps}
 use Rattle.iloc_optimum.proofs.Improvements.{cycles_within}
 use Rattle.iloc_optimum.proofs.optimizer.count_of.Goals as goal
 

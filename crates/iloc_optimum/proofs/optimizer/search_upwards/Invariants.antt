@@ -1,5 +1,4 @@
-use Rattle.std.proofs.Common.{◌≤◌}
-use Rattle.iloc_optimum.specs.Optimum.{IsOptimumOf}
+use Rattle.iloc_optimum.proofs.Common.{◌≤◌, IsOptimumOf}
 use Rattle.iloc_optimum.proofs.optimizer.search_upwards.Given as goal
 
 abbrev pub invariant-loop-limit : goal.invariant-loop-limit

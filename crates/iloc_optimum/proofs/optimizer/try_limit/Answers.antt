@@ -1,11 +1,5 @@
-use Rattle.std.proofs.lemmas.Grind.{common_steps}
-use Rattle.std.proofs.Common.{◌≡◌, ◌≤◌, ◌+◌, sym, subst, arith}
-use Rattle.std.proofs.lemmas.List.{length-map, length-replicate}
-use Rattle.iloc_bound.proofs.TailParts.{length-tails_under}
-use Rattle.iloc_optimum.specs.Bound.{IsBound}
+use Rattle.iloc_optimum.proofs.Common.{◌≡◌, ◌+◌, ◌≤◌, sym, subst, arith, common_steps, length-map, length-replicate, length-tails_under, IsBound, cycles_of, HasNone}
 use Rattle.iloc_optimum.specs.Found.{IsFound}
-use Rattle.iloc_optimum.specs.Optimum.{cycles_of}
-use Rattle.iloc_optimum.specs.Timing.{HasNone}
 use Rattle.iloc_optimum.proofs.Improvements.{one_lawful, refuted, with_bound, with_schedule}
 use Rattle.iloc_optimum.proofs.optimizer.try_limit.Goals as goal
 

@@ -1,5 +1,4 @@
-use Rattle.std.proofs.Common.{◌≤◌, ap, subst, ◌∙◌}
-use Rattle.iloc_optimum.specs.Optimum.{cycles_of}
+use Rattle.iloc_optimum.proofs.Common.{◌≤◌, ap, ◌∙◌, subst, cycles_of}
 use Rattle.iloc_optimum.proofs.Improvements.{count_of_the, shortened}
 use Rattle.iloc_optimum.proofs.optimizer.try_order.Goals as goal
 

@@ -1,7 +1,4 @@
-use Rattle.std.proofs.lemmas.Grind.{common_steps}
-use Rattle.std.proofs.Common.{arith, ◌++◌, ◌∷◌, [], subst, sym, ◌∙◌, ap}
-use Rattle.iloc_optimum.specs.Timing.{AreSized}
-use Rattle.iloc_optimum.specs.Steps.Covered.{IsCovered}
+use Rattle.iloc_optimum.proofs.Common.{[], ◌∷◌, ◌++◌, sym, ap, ◌∙◌, subst, arith, common_steps, IsCovered, AreSized}
 use Rattle.iloc_optimum.proofs.CoveredStack.{sized_last, covered_without, covered_by, not_false}
 use Rattle.iloc_optimum.proofs.search.search_windows.Goals as goal
 use Rattle.iloc_optimum.proofs.search.search_windows.Goals.{then-branch+in-Some-first_open+in_ok-late+in_ok-push-2+in_ok-push-3, else-branch}

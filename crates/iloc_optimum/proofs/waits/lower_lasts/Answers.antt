@@ -1,5 +1,4 @@
-use Rattle.std.proofs.Common.{◌≡◌, ◌+◌, ◌-◌, ◌<◌, ◌≤◌, length, get_or, ◌∙◌, arith}
-use Rattle.std.proofs.lemmas.List.{length-set, get_or_read}
+use Rattle.iloc_optimum.proofs.Common.{◌≡◌, ◌+◌, ◌-◌, ◌<◌, ◌≤◌, length, get_or, ◌∙◌, arith, length-set, get_or_read}
 use Rattle.iloc_optimum.proofs.NarrowerWindows.{lowered, edge_at, ends_at, waits_at}
 use Rattle.iloc_optimum.proofs.waits.lower_lasts.Goals as goal
 

@@ -1,6 +1,4 @@
-use Rattle.std.proofs.lemmas.Grind.{common_steps}
-use Rattle.std.proofs.Common.{arith}
-use Rattle.std.proofs.lemmas.List.{length-set, get_or_read}
+use Rattle.iloc_optimum.proofs.Common.{arith, length-set, common_steps, get_or_read}
 use Rattle.iloc_optimum.proofs.NarrowerWindows.{raised, edge_at, ends_at, waits_at}
 use Rattle.iloc_optimum.proofs.waits.raise_firsts.Goals as goal
 

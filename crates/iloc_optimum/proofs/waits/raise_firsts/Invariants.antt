@@ -1,5 +1,4 @@
-use Rattle.std.proofs.Common.{◌≡◌, ℕ, length, List}
-use Rattle.iloc_optimum.specs.Timing.{Within, WaitsFor}
+use Rattle.iloc_optimum.proofs.Common.{◌≡◌, ℕ, List, length, WaitsFor, Within}
 use Rattle.iloc_optimum.proofs.waits.raise_firsts.Given as goal
 
 abbrev pub invariant-loop-edge : goal.invariant-loop-edge

@@ -1,5 +1,4 @@
-use Rattle.std.proofs.lemmas.Grind.{common_steps}
-use Rattle.std.proofs.Common.{arith}
+use Rattle.iloc_optimum.proofs.Common.{arith, common_steps}
 use Rattle.iloc_optimum.proofs.CoveredStack.{none_true}
 use Rattle.iloc_optimum.proofs.waits.wait.Goals as goal
 

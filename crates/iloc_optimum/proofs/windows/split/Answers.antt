@@ -1,6 +1,4 @@
-use Rattle.std.proofs.lemmas.Grind.{common_steps}
-use Rattle.std.proofs.Common.{arith}
-use Rattle.std.proofs.lemmas.List.{get_or_read}
+use Rattle.iloc_optimum.proofs.Common.{arith, common_steps, get_or_read}
 use Rattle.iloc_optimum.proofs.CoveredStack.{split_keeps}
 use Rattle.iloc_optimum.proofs.windows.split.Goals as goal
 

@@ -1,9 +1,4 @@
-use Rattle.std.proofs.Common.{◌≡◌, ap, get_or, length, refl, replicate, subst, ◌+◌, ◌∙◌, length-set, arith}
-use Rattle.std.specs.Prelude.{slice_index}
-use Rattle.iloc_rules.specs.Heuristics.Listed.{heuristics}
-use Rattle.iloc_rules.specs.declared.heuristic.Heuristic.TheVariants.{Chain}
-use Rattle.iloc_bound.specs.Bound.{least_of_under}
-use Rattle.iloc_optimum.specs.Optimum.{IsCountOf, cycles_of}
+use Rattle.iloc_optimum.proofs.Common.{◌≡◌, length, get_or, replicate, slice_index, refl, ap, ◌∙◌, subst, arith, length-set, heuristics, Chain, least_of_under, IsCountOf, cycles_of}
 use Rattle.iloc_optimum.proofs.Improvements.{best_of_all, best_of_more, best_of_one, count_of_the, counts_more}
 use Rattle.iloc_optimum.proofs.optimizer.Optimizer.orders.Goals as goal
 

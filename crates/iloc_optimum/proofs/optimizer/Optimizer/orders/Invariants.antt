@@ -1,8 +1,4 @@
-use Rattle.std.proofs.Common.{ℕ, ◌≡◌, ◌<◌, get_or, length}
-use Rattle.std.specs.Prelude.{slice_index}
-use Rattle.iloc_rules.specs.Heuristics.Listed.{heuristics}
-use Rattle.iloc_rules.specs.declared.heuristic.Heuristic.TheVariants.{Chain}
-use Rattle.iloc_optimum.specs.Optimum.{IsCountOf}
+use Rattle.iloc_optimum.proofs.Common.{◌≡◌, ℕ, ◌<◌, length, get_or, slice_index, heuristics, Chain, IsCountOf}
 use Rattle.iloc_optimum.proofs.Improvements.{IsBestOf}
 use Rattle.iloc_optimum.proofs.optimizer.Optimizer.orders.Given as goal
 
