@@ -1,32 +1,11 @@
 -- What is found of a block by each heuristic.
-use Rattle.std.proofs.Common.{◌≡◌, ◌==◌, ◌<◌, ◌≤◌, ℕ, Bool, true, false, List, [], ◌∷◌, ◌++◌, ◌+◌, take, get_or, append_assoc, append-nil, inl, inr, None, Option, Some, length, refl, sym, ap, ap₂, subst, ◌∙◌, arith}
-use Rattle.std.proofs.lemmas.Bool.{and_parts, eqb-true}
-use Rattle.std.proofs.lemmas.List.{ext_get_or, get_or_default, take_more}
-use Rattle.std.proofs.lemmas.Grind.{flat_map-append}
-use Rattle.std.specs.List.{list_all, range_with_len}
+use Rattle.iloc_block_commands.proofs.Common.{◌≡◌, ℕ, ◌+◌, ◌<◌, ◌≤◌, Bool, true, false, List, [], ◌∷◌, ◌++◌, length, get_or, take, ◌==◌, slice_index, Some, None, codes, Option, sym, refl, ap, ◌∙◌, subst, ap₂, inl, inr, append_assoc, append-nil, arith, ext_get_or, eqb-true, flat_map-append, get_or_default, take_more, list_all, range_with_len, Block, Op, Table, Latencies, heuristics, counts_by, priorities_under, Heuristic, Chain, MemoryRule, least_under, AreOrders, IsCountOf, cycles_few_where, most_cycles, cycles_of, IsCountUnder, AreCounts, IsComparedCycles, IsOwnCount, column, columns, compare_ending, cycles_by, fewest, optimal, place, sums_line, tally_line, ComparedCycles}
+use Rattle.std.proofs.lemmas.Bool.{and_parts}
 use Rattle.iloc_rules.specs.Steps.Members.{In}
 use Rattle.iloc_rules.proofs.Basics.Members.{in_range_from}
-use Rattle.std.specs.Prelude.{codes, slice_index}
 use Rattle.iloc_ops.specs.Limits.{MAX_OPS}
-use Rattle.iloc_ops.specs.declared.file.Block.{Block}
-use Rattle.iloc_ops.specs.declared.op.Op.{Op}
-use Rattle.iloc_timed.specs.declared.latencies.Latencies.{Latencies}
-use Rattle.iloc_timed.specs.Schedule.{Table}
-use Rattle.iloc_rules.specs.declared.memory_rule.MemoryRule.{MemoryRule}
-use Rattle.iloc_rules.specs.Heuristics.Listed.{heuristics}
-use Rattle.iloc_rules.specs.Rule.{counts_by, priorities_under}
-use Rattle.iloc_bound.specs.Bound.{least_under}
-use Rattle.iloc_rules.specs.declared.heuristic.Heuristic.{Heuristic}
-use Rattle.iloc_rules.specs.declared.heuristic.Heuristic.TheVariants.{Chain}
 use Rattle.iloc_bound.proofs.LeastBound.{ruled_least_bound}
-use Rattle.iloc_optimum.specs.Optimum.{AreOrders, IsCountOf}
 use Rattle.iloc_optimum.specs.declared.optimizer.Orders.{Orders}
-use Rattle.iloc_block_commands.specs.Compare.{AreCounts, IsComparedCycles, IsOwnCount, column, columns, compare_ending, cycles_by, fewest, optimal, place, sums_line, tally_line}
-use Rattle.iloc_listing.specs.Listing.{cycles_of}
-use Rattle.iloc_listing.specs.Limits.{most_cycles}
-use Rattle.iloc_listing.specs.Schedules.{IsCountUnder}
-use Rattle.iloc_listing.proofs.Schedules.{cycles_few_where}
-use Rattle.iloc_block_commands.specs.declared.compare.ComparedCycles.{ComparedCycles}
 use Rattle.iloc_block_commands.proofs.Listers.{is_count_under}
 
 -- the bound is small, since some schedule takes as many cycles

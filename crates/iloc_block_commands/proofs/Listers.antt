@@ -1,42 +1,18 @@
 -- What the commands list of a block.
-use Rattle.std.proofs.Common.{◌≡◌, ℕ, ◌+◌, ◌≤◌, ℤ, false, List, [], ◌++◌, drop, length, Option, Some, refl, ap, ap₂, sym, ◌∙◌, append-nil, ◌&&◌, Bool, arith}
-use Rattle.std.proofs.lemmas.List.{drop_all}
-use Rattle.std.specs.Prelude.{is_none, None, IfSome}
-use Rattle.iloc_ops.specs.declared.file.Block.{Block}
-use Rattle.iloc_ops.specs.declared.op.Op.{Op}
+use Rattle.iloc_block_commands.proofs.Common.{◌≡◌, ℕ, ◌+◌, ◌≤◌, Bool, false, ◌&&◌, List, [], ◌++◌, length, drop, ℤ, is_none, IfSome, Some, None, Option, sym, refl, ap, ◌∙◌, ap₂, append-nil, arith, drop_all, Block, Op, outcome, shown, Table, timed_outcome, Latencies, counts_by, priorities_under, MemoryRule, IsOptimumOf, has, memory_rule, Csv, Where, the_greedy_under, bound_comment, count_line, cycles_of, entries, opening_as, outcome_entry, schedule_entry, shown_entry, words_or_fault, IsCountUnder, ranks_under, lined_listing, Own, own_of, IsCompareEntry, IsCompareListing, IsComparedCycles, compare_line, ending_for, opening_for, IsCountEntry, IsCountListing, count_ending, count_header, IsOptimizeEntry, IsScheduleEntry, ComparedCycles}
 use Rattle.iloc_fault.proofs.Places.{one_place}
-use Rattle.iloc_timed.specs.declared.latencies.Latencies.{Latencies}
-use Rattle.iloc_timed.specs.Schedule.{Table}
 use Rattle.iloc_optimum.specs.declared.optimizer.Optimum.{Optimum}
-use Rattle.iloc_optimum.specs.Optimum.{IsOptimumOf}
-use Rattle.iloc_meaning.specs.Outcome.{outcome, shown}
 use Rattle.iloc_meaning.specs.declared.outcome.Outcome.{Outcome}
-use Rattle.iloc_timed.specs.Timed.{timed_outcome}
 use Rattle.iloc_rules.proofs.Outcome.LawfulOutcomes.{ruled_same_outcome}
-use Rattle.iloc_args.specs.Flags.{has}
-use Rattle.iloc_args.specs.declared.flag.Flag.TheVariants.{Csv, Where}
 use Rattle.iloc_args.specs.declared.request.Request.{Request}
-use Rattle.iloc_block_commands.specs.Compare.{IsCompareEntry, IsCompareListing, IsComparedCycles, compare_line, ending_for, opening_for}
-use Rattle.iloc_block_commands.specs.Counts.{IsCountEntry, IsCountListing, count_ending, count_header}
-use Rattle.iloc_listing.specs.Listing.{count_line, bound_comment, cycles_of, entries, opening_as, outcome_entry, schedule_entry, shown_entry, words_or_fault}
-use Rattle.iloc_block_commands.specs.Optimize.{IsOptimizeEntry}
 use Rattle.iloc_block_commands.specs.Run.{IsRunEntry, IsShownOf}
 use Rattle.iloc_driver.specs.Command.{initial_memory}
-use Rattle.iloc_block_commands.specs.Schedule.{IsScheduleEntry}
 use Rattle.iloc_block_commands.specs.Simulate.{IsSimulateEntry}
-use Rattle.iloc_driver.specs.Priorities.{Own, own_of}
-use Rattle.iloc_listing.specs.Schedules.{IsCountUnder, ranks_under}
 use Rattle.iloc_driver.specs.Work.{by_own}
-use Rattle.iloc_rules.specs.declared.memory_rule.MemoryRule.{MemoryRule}
-use Rattle.iloc_rules.specs.Rule.{counts_by, priorities_under}
 use Rattle.iloc_rules.specs.Greedy.{IsGreedyWhere}
-use Rattle.iloc_args.specs.Rule.{memory_rule}
 use Rattle.iloc_rules.specs.Renaming.{numbering, renamed, without_nops}
 use Rattle.iloc_rules.proofs.Renamed.MentionedSources.{length-renamed_by}
 use Rattle.iloc_driver.specs.Entries.{AreListed, Adds}
-use Rattle.iloc_block_commands.specs.declared.compare.ComparedCycles.{ComparedCycles}
-use Rattle.iloc_driver.proofs.Entries.{lined_listing}
-use Rattle.iloc_listing.proofs.Schedules.{the_greedy_under}
 
 -- the words, or that there is a fault, are what is shown, unless the place of the fault is asked for
 pub shown_plainly : (asked : Bool) (ops : List Op) (memory : List ℤ) (came : Outcome) (words : Option (List ℤ))

@@ -1,6 +1,4 @@
-use Rattle.std.proofs.Common.{ap, ◌∙◌}
-use Rattle.iloc_sched.specs.Graph.GraphOf.{GraphOf}
-use Rattle.iloc_listing.specs.Listing.{cycles_of}
+use Rattle.iloc_block_commands.proofs.Common.{ap, ◌∙◌, GraphOf, cycles_of}
 use Rattle.iloc_block_commands.proofs.Listers.{is_count_under}
 use Rattle.iloc_block_commands.proofs.compare.count_by.Goals as goal
 

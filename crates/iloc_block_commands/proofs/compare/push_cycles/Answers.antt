@@ -1,5 +1,4 @@
-use Rattle.std.proofs.Common.{◌∙◌}
-use Rattle.iloc_block_commands.specs.Compare.{cycles_by}
+use Rattle.iloc_block_commands.proofs.Common.{◌∙◌, cycles_by}
 use Rattle.iloc_block_commands.proofs.Comparisons.{cycles_at, columns_more}
 use Rattle.iloc_block_commands.proofs.compare.push_cycles.Goals as goal
 

@@ -1,7 +1,4 @@
-use Rattle.std.proofs.Common.{◌≡◌, ◌++◌, take}
-use Rattle.std.specs.List.{flat_map}
-use Rattle.iloc_rules.specs.Heuristics.Listed.{heuristics}
-use Rattle.iloc_block_commands.specs.Compare.{column, cycles_by}
+use Rattle.iloc_block_commands.proofs.Common.{◌≡◌, ◌++◌, take, flat_map, heuristics, column, cycles_by}
 use Rattle.iloc_block_commands.proofs.compare.push_cycles.Given as goal
 
 abbrev pub invariant-loop-place : goal.invariant-loop-place

@@ -1,7 +1,5 @@
-use Rattle.std.proofs.Common.{◌≡◌, ◌++◌, codes, take}
-use Rattle.std.specs.List.{flat_map}
+use Rattle.iloc_block_commands.proofs.Common.{◌≡◌, ◌++◌, take, codes, flat_map, heuristics}
 use Rattle.iloc_args.specs.Priority.{priority_word}
-use Rattle.iloc_rules.specs.Heuristics.Listed.{heuristics}
 use Rattle.iloc_block_commands.proofs.compare.push_names.Given as goal
 
 abbrev pub invariant-loop-heuristic : goal.invariant-loop-heuristic

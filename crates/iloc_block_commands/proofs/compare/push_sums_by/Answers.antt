@@ -1,6 +1,4 @@
-use Rattle.std.proofs.Common.{false, sum_by, sym}
-use Rattle.iloc_block_commands.specs.Compare.{counted_by}
-use Rattle.iloc_block_commands.specs.Steps.Tallies.{counted}
+use Rattle.iloc_block_commands.proofs.Common.{false, sum_by, sym, counted_by, counted}
 use Rattle.iloc_block_commands.proofs.Comparisons.{columns_more, place_there}
 use Rattle.iloc_block_commands.proofs.compare.push_sums_by.Goals as goal
 

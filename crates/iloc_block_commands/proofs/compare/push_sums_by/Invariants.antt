@@ -1,8 +1,4 @@
-use Rattle.std.proofs.Common.{◌≡◌, ◌++◌, false, sum_by, take}
-use Rattle.std.specs.List.{flat_map}
-use Rattle.iloc_rules.specs.Heuristics.Listed.{heuristics}
-use Rattle.iloc_block_commands.specs.Compare.{column, counted_by}
-use Rattle.iloc_block_commands.specs.Steps.Tallies.{counted}
+use Rattle.iloc_block_commands.proofs.Common.{◌≡◌, false, ◌++◌, take, sum_by, flat_map, heuristics, column, counted_by, counted}
 use Rattle.iloc_block_commands.proofs.compare.push_sums_by.Given as goal
 
 abbrev pub invariant-loop-place : goal.invariant-loop-place

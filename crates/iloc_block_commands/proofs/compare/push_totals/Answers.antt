@@ -1,9 +1,5 @@
-use Rattle.std.proofs.Common.{◌∙◌, sym}
-use Rattle.std.specs.Prelude.{is_some}
-use Rattle.std.proofs.lemmas.Result.{on_ok_weaker}
+use Rattle.iloc_block_commands.proofs.Common.{is_some, sym, ◌∙◌, on_ok_weaker, has, Csv}
 use Rattle.iloc_block_commands.proofs.Comparisons.{totals_pushed}
-use Rattle.iloc_args.specs.Flags.{has}
-use Rattle.iloc_args.specs.declared.flag.Flag.TheVariants.{Csv}
 use Rattle.iloc_block_commands.proofs.compare.push_totals.Goals as goal
 
 pub returns : goal.returns

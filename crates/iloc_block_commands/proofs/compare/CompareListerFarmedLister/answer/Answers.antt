@@ -1,12 +1,4 @@
-use Rattle.std.proofs.lemmas.Grind.{common_steps}
-use Rattle.std.proofs.Common.{◌≤◌, ap, arith, subst, ◌∙◌}
-use Rattle.std.specs.Prelude.{option_copied}
-use Rattle.iloc_sched.specs.Graph.GraphOf.{GraphOf, of_block}
-use Rattle.iloc_bound.specs.Bound.{least_of_under, least_under}
-use Rattle.iloc_args.specs.Rule.{memory_rule}
-use Rattle.iloc_rules.specs.declared.heuristic.Heuristic.TheVariants.{Chain}
-use Rattle.iloc_optimum.specs.Optimum.{AreOrders, IsSoughtIf}
-use Rattle.iloc_listing.specs.Limits.{most_cycles}
+use Rattle.iloc_block_commands.proofs.Common.{◌≤◌, option_copied, ap, ◌∙◌, subst, arith, common_steps, Chain, GraphOf, of_block, least_of_under, least_under, AreOrders, IsSoughtIf, memory_rule, most_cycles}
 use Rattle.iloc_block_commands.proofs.Comparisons.{all_counted, bound_small}
 use Rattle.iloc_block_commands.proofs.Listers.{each_ranked}
 use Rattle.iloc_block_commands.proofs.compare.CompareListerFarmedLister.answer.Goals as goal

@@ -1,6 +1,4 @@
-use Rattle.std.proofs.Common.{◌∙◌, ◌++◌, ap, ap₂, arith}
-use Rattle.iloc_block_commands.specs.Compare.{compare_line, ending_for, opening_for}
-use Rattle.iloc_listing.specs.Listing.{entries}
+use Rattle.iloc_block_commands.proofs.Common.{◌++◌, ap, ◌∙◌, ap₂, arith, entries, compare_line, ending_for, opening_for}
 use Rattle.iloc_block_commands.proofs.Listers.{compared_listing, gone_over}
 use Rattle.iloc_block_commands.proofs.compare.CompareListerFarmedLister.listing.Goals as goal
 

@@ -1,6 +1,4 @@
-use Rattle.std.proofs.Common.{◌≡◌, ◌+◌, ◌++◌, drop}
-use Rattle.iloc_block_commands.specs.Compare.{compare_line, opening_for}
-use Rattle.iloc_listing.specs.Listing.{entries}
+use Rattle.iloc_block_commands.proofs.Common.{◌≡◌, ◌+◌, ◌++◌, drop, entries, compare_line, opening_for}
 use Rattle.iloc_block_commands.proofs.compare.CompareListerFarmedLister.listing.Given as goal
 
 abbrev pub invariant-loop-index : goal.invariant-loop-index

@@ -1,7 +1,4 @@
-use Rattle.std.proofs.Common.{◌≡◌, ◌≤◌, ◌*◌, sum_by, take}
-use Rattle.iloc_rules.specs.declared.heuristic.Heuristic.{Heuristic}
-use Rattle.iloc_block_commands.specs.Compare.{counted_by, place}
-use Rattle.iloc_block_commands.specs.Steps.Tallies.{counted}
+use Rattle.iloc_block_commands.proofs.Common.{◌≡◌, ◌*◌, ◌≤◌, take, sum_by, Heuristic, counted_by, place, counted}
 use Rattle.iloc_block_commands.proofs.compare.Tally.sum.Given as goal
 
 abbrev pub invariant-loop-comparison : goal.invariant-loop-comparison

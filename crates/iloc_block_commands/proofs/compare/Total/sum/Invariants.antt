@@ -1,5 +1,4 @@
-use Rattle.std.proofs.Common.{◌≡◌, ◌≤◌, ◌*◌, sum_by, take}
-use Rattle.iloc_block_commands.specs.Steps.Tallies.{added}
+use Rattle.iloc_block_commands.proofs.Common.{◌≡◌, ◌*◌, ◌≤◌, take, sum_by, added}
 use Rattle.iloc_block_commands.proofs.compare.Total.sum.Given as goal
 
 abbrev pub invariant-loop-comparison : goal.invariant-loop-comparison

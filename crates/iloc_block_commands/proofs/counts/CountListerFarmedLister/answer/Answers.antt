@@ -1,8 +1,4 @@
-use Rattle.std.proofs.Common.{ap, ◌∙◌}
-use Rattle.std.specs.Prelude.{option_copied}
-use Rattle.iloc_sched.specs.Graph.GraphOf.{GraphOf, of_block}
-use Rattle.iloc_args.specs.Rule.{memory_rule}
-use Rattle.iloc_listing.specs.Schedules.{ranks_under}
+use Rattle.iloc_block_commands.proofs.Common.{option_copied, ap, ◌∙◌, GraphOf, of_block, memory_rule, ranks_under}
 use Rattle.iloc_block_commands.proofs.Listers.{each_ranked, is_count_under}
 use Rattle.iloc_block_commands.proofs.counts.CountListerFarmedLister.answer.Goals as goal
 

@@ -1,6 +1,4 @@
-use Rattle.std.proofs.Common.{◌∙◌, ◌++◌, ap, ap₂, arith}
-use Rattle.iloc_block_commands.specs.Counts.{count_ending, count_header, listing_of_counts}
-use Rattle.iloc_listing.specs.Listing.{count_line, opening_as}
+use Rattle.iloc_block_commands.proofs.Common.{◌++◌, ap, ◌∙◌, ap₂, arith, count_line, opening_as, count_ending, count_header, listing_of_counts}
 use Rattle.iloc_block_commands.proofs.Listers.{counted_listing, gone_over}
 use Rattle.iloc_block_commands.proofs.counts.CountListerFarmedLister.listing.Goals as goal
 

@@ -1,6 +1,4 @@
-use Rattle.std.proofs.Common.{◌≡◌, ◌+◌, ◌++◌, drop}
-use Rattle.iloc_block_commands.specs.Counts.{count_header}
-use Rattle.iloc_listing.specs.Listing.{count_line, entries, opening_as}
+use Rattle.iloc_block_commands.proofs.Common.{◌≡◌, ◌+◌, ◌++◌, drop, count_line, entries, opening_as, count_header}
 use Rattle.iloc_block_commands.proofs.counts.CountListerFarmedLister.listing.Given as goal
 
 abbrev pub invariant-loop-index : goal.invariant-loop-index

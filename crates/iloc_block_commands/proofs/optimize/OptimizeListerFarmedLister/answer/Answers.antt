@@ -1,7 +1,4 @@
-use Rattle.std.proofs.Common.{ap, subst, ◌∙◌}
-use Rattle.iloc_sched.specs.Graph.GraphOf.{GraphOf, of_block}
-use Rattle.iloc_optimum.specs.Optimum.{IsOptimumOf}
-use Rattle.iloc_args.specs.Rule.{memory_rule}
+use Rattle.iloc_block_commands.proofs.Common.{ap, ◌∙◌, subst, GraphOf, of_block, IsOptimumOf, memory_rule}
 use Rattle.iloc_block_commands.proofs.Listers.{optimum_is}
 use Rattle.iloc_block_commands.proofs.optimize.OptimizeListerFarmedLister.answer.Goals as goal
 

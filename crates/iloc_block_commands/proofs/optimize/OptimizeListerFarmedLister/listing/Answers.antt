@@ -1,8 +1,4 @@
-use Rattle.std.proofs.lemmas.Result.{IfOk-weaker}
-use Rattle.iloc_args.specs.Rule.{memory_rule}
-use Rattle.iloc_block_commands.specs.Optimize.{IsOptimizeEntry}
-use Rattle.iloc_listing.specs.Listing.{total_of_all}
-use Rattle.iloc_driver.proofs.Entries.{made_listing}
+use Rattle.iloc_block_commands.proofs.Common.{IfOk-weaker, memory_rule, total_of_all, made_listing, IsOptimizeEntry}
 use Rattle.iloc_block_commands.proofs.optimize.OptimizeListerFarmedLister.listing.Goals as goal
 
 pub with_total-requires : goal.with_total-requires

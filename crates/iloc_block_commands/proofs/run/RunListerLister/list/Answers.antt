@@ -1,6 +1,4 @@
-use Rattle.std.proofs.Common.{◌∙◌, ap, sym}
-use Rattle.iloc_meaning.specs.Outcome.{outcome, shown}
-use Rattle.iloc_driver.proofs.Entries.{if_ok}
+use Rattle.iloc_block_commands.proofs.Common.{sym, ap, ◌∙◌, outcome, shown, if_ok}
 use Rattle.iloc_block_commands.proofs.Listers.{run_listed}
 use Rattle.iloc_block_commands.proofs.run.RunListerLister.list.Goals as goal
 

@@ -1,6 +1,4 @@
-use Rattle.std.proofs.Common.{ap, ◌∙◌}
-use Rattle.std.specs.Prelude.{option_copied}
-use Rattle.iloc_sched.specs.Graph.GraphOf.{GraphOf, of_block}
+use Rattle.iloc_block_commands.proofs.Common.{option_copied, ap, ◌∙◌, GraphOf, of_block}
 use Rattle.iloc_block_commands.proofs.Listers.{each_ranked, schedule_is}
 use Rattle.iloc_block_commands.proofs.schedule.ScheduleListerFarmedLister.answer.Goals as goal
 

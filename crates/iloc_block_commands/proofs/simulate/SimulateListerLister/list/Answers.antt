@@ -1,8 +1,4 @@
-use Rattle.std.proofs.Common.{◌∙◌, ap}
-use Rattle.iloc_meaning.specs.Outcome.{shown}
-use Rattle.iloc_timed.specs.Timed.{timed_outcome}
-use Rattle.iloc_sched.specs.Graph.GraphOf.{of_block}
-use Rattle.iloc_driver.proofs.Entries.{if_ok}
+use Rattle.iloc_block_commands.proofs.Common.{ap, ◌∙◌, shown, timed_outcome, of_block, if_ok}
 use Rattle.iloc_block_commands.proofs.Listers.{simulate_listed}
 use Rattle.iloc_block_commands.proofs.simulate.SimulateListerLister.list.Goals as goal
 
