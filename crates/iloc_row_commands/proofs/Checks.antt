@@ -1,17 +1,14 @@
 -- What is said of proposals.
-use Rattle.iloc_row_commands.proofs.Common.{◌≡◌, ℕ, ◌+◌, ◌≤◌, List, ◌++◌, length, ℤ, Some, None, Option, refl, ap, ◌∙◌, subst, append_assoc, arith, Block, Op, cycles, MAX_ROWS, Table, Latencies, Proposed, IsGreedy, IsGreedyWhere, cycles_few_where, cycles_within, the_greedy, the_greedy_under, most_cycles, cycles_of, Adds}
+use Rattle.iloc_row_commands.proofs.Common.{◌≡◌, ℕ, ◌+◌, ◌≤◌, List, ◌++◌, length, ℤ, Some, None, Option, refl, ap, ◌∙◌, subst, append_assoc, arith, Block, Op, cycles, MAX_ROWS, Table, Latencies, Proposed, IsGreedy, IsGreedyWhere, least_under, IsSoughtIf, cycles_few_where, cycles_within, the_greedy, the_greedy_under, most_cycles, cycles_of, Adds, IsCheckEntry, IsSaid, IsSmall, check_head}
 use Rattle.iloc_ops.specs.Limits.{MAX_OPS}
 use Rattle.iloc_rows.specs.declared.proposal.unread.Unread.{Unread}
 use Rattle.iloc_rules.specs.declared.heuristic.Heuristic.TheVariants.{Chain}
 use Rattle.iloc_rules.specs.declared.delay_pairs.TheConstants.{LONGEST_DELAY}
 use Rattle.iloc_rules.specs.declared.memory_rule.MemoryRule.{MemoryRule}
 use Rattle.iloc_rules.specs.Rule.{counts_by, priorities_under}
-use Rattle.iloc_bound.specs.Bound.{least_under}
 use Rattle.iloc_bound.proofs.LeastBound.{ruled_least_bound}
 use Rattle.iloc_verdict.specs.declared.checked.Checked.{Checked}
 use Rattle.iloc_comparison.specs.declared.task.CheckOptions.{CheckOptions}
-use Rattle.iloc_row_commands.specs.Check.{IsCheckEntry, IsSaid, check_head, IsSmall}
-use Rattle.iloc_optimum.specs.Optimum.{IsSoughtIf}
 
 -- a schedule by a rule of memory: the cycles are few, and so is the bound
 abbrev pub IsRuled : MemoryRule → Latencies → List Op → Table → Type 0

@@ -1,6 +1,5 @@
 -- Until rows leave the greedy choice they take what the greedy schedule takes; for `departure_of`.
-use Rattle.iloc_row_commands.proofs.Common.{◌≡◌, ℕ, zero, suc, ◌+◌, ◌<◌, ◌≤◌, max, Bool, true, false, not, ◌⊎◌, List, [], ◌∷◌, length, Some, None, fold, Option, option_map, find, sym, refl, ap, ◌∙◌, inl, inr, true≢false, arith, Op, cycles, holds, issue_cycle, row_at, slots, Latencies, IsGreedyBy, chosen, ready, choice_at, departure, leaves_choice, take_the_same}
-use Rattle.std.specs.List.{list_all, range_with_len}
+use Rattle.iloc_row_commands.proofs.Common.{◌≡◌, ℕ, zero, suc, ◌+◌, ◌<◌, ◌≤◌, max, Bool, true, false, not, ◌⊎◌, List, [], ◌∷◌, length, Some, None, fold, Option, option_map, find, sym, refl, ap, ◌∙◌, inl, inr, true≢false, arith, list_all, range_with_len, Op, cycles, holds, issue_cycle, row_at, slots, Latencies, IsGreedyBy, chosen, ready, choice_at, departure, leaves_choice, take_the_same}
 use Rattle.std.proofs.lemmas.Bool.{and_parts, cases_eq, cases_lt, not-false}
 use Rattle.std.proofs.lemmas.Option.{none-some}
 use Rattle.iloc_meaning.specs.Trace.{op_at}

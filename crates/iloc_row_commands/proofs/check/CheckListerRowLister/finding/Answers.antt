@@ -1,9 +1,5 @@
-use Rattle.std.proofs.Common.{◌∙◌, ap, rules, tests}
-use Rattle.std.specs.List.{list_all}
-use Rattle.std.proofs.lemmas.Iterator.{YieldsList-from_slice}
-use Rattle.std.proofs.lemmas.Iterator.Search.{all_from_yields_List}
+use Rattle.iloc_row_commands.proofs.Common.{ap, ◌∙◌, rules, tests, YieldsList-from_slice, all_from_yields_List, list_all, finding_of}
 use Rattle.iloc_verdict.specs.Checked.{passes}
-use Rattle.iloc_driver.specs.Fault.{finding_of}
 use Rattle.iloc_row_commands.proofs.check.CheckListerRowLister.finding.Goals as goal
 
 pub returns : goal.returns

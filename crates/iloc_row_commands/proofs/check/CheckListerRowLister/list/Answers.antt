@@ -1,10 +1,5 @@
-use Rattle.std.proofs.Common.{◌≡◌, ap, subst, sym, ◌∙◌}
-use Rattle.iloc_bound.specs.Bound.{least_of_under, least_under}
+use Rattle.iloc_row_commands.proofs.Common.{◌≡◌, sym, ap, ◌∙◌, subst, GraphOf, of_block, least_of_under, least_under, IsSoughtIf, cycles_of, options_of}
 use Rattle.iloc_args.specs.Rule.{memory_rule}
-use Rattle.iloc_sched.specs.Graph.GraphOf.{GraphOf, of_block}
-use Rattle.iloc_listing.specs.Listing.{cycles_of}
-use Rattle.iloc_row_commands.specs.Check.{options_of}
-use Rattle.iloc_optimum.specs.Optimum.{IsSoughtIf}
 use Rattle.iloc_row_commands.proofs.Checks.{check_listed, small_check}
 use Rattle.iloc_row_commands.proofs.check.CheckListerRowLister.list.Goals as goal
 

@@ -1,7 +1,6 @@
-use Rattle.iloc_row_commands.proofs.Common.{◌≡◌, sym, ap, ◌∙◌, on_ok_weaker}
+use Rattle.iloc_row_commands.proofs.Common.{◌≡◌, sym, ap, ◌∙◌, on_ok_weaker, GraphOf}
 use Rattle.iloc_rules.specs.declared.memory_rule.MemoryRule.TheVariants.{Book}
 use Rattle.iloc_rules.specs.Heuristics.{priorities_by}
-use Rattle.iloc_sched.specs.Graph.GraphOf.{GraphOf}
 use Rattle.iloc_row_commands.proofs.explain.explained.push_own.Goals as goal
 
 pub explain_by_graph-requires-clause-graph : goal.explain_by_graph-requires-clause-graph
