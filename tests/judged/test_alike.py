@@ -3,10 +3,12 @@ search finds a pairing."""
 import random
 from collections import Counter
 
-from harness.program import TESTED, Run
+from harness.program import TESTED, listed
 from harness.suite import Check, table
 from judged.labs import Given, scheduled
 from judged.students import WRONG, own_names, registers_reused
+from judged.test_apart import parts
+from judged.test_rows import LISTED
 from judged.test_students import own_rows_pass
 from language import MAX_NUMBER, USUAL
 from oracle import alike
@@ -16,7 +18,6 @@ from oracle.operations import Op, text_of, words_for
 from oracle.pairings import has_pairing
 from oracle.scheduler import ORDERS, Schedule
 
-PASSED = 0
 OWN, ALL_OWN = 5000, 50_000
 TINY, ALL_TINY = 2000, 20_000
 MOST_TINY = 7
@@ -24,38 +25,6 @@ AT_ONCE = 500           # blocks of a text
 # How schedules are made.
 MADE = [*(["schedule", "--priority", by] for by in ORDERS), ["optimize", "--nodes", "20"]]
 SHORT, LONG = {"load": 2, "store": 3, "mult": 1}, {"load": 16, "store": 7, "mult": 2}
-
-# Blocks, and rows by the book in which some operations may be any of several of the block.
-SUMS = "loadI 4 => r0\nloadI 4 => r1\nadd r0, r0 => r2\nadd r1, r1 => r3\nadd r0, r1 => r4\n"
-ROWS_OF_SUMS = "[ loadI 4 => r0 ; loadI 4 => r1 ]\n[ add r0, r1 => r4 ; add r0, r0 => r2 ]\n[ add r1, r1 => r3 ; ]\n"
-SEVEN_LOADS = """\
-load r0 => r7
-load r0 => r6
-add r6, r3 => r14
-load r0 => r5
-add r2, r5 => r8
-add r4, r2 => r12
-load r0 => r7
-load r0 => r5
-add r1, r1 => r9
-add r5, r7 => r10
-add r5, r4 => r13
-add r7, r6 => r11
-load r0 => r1
-load r0 => r1
-"""
-# Ours, with two targets renamed that nobody reads.
-ROWS_OF_LOADS = """\
-[ load r0 => r2 ; add r8, r6 => r40 ]
-[ load r0 => r5 ; add r12, r12 => r13 ]
-[ load r0 => r10 ; nop ]
-[ load r0 => r11 ; nop ]
-[ load r0 => r1 ; nop ]
-[ load r0 => r41 ; add r2, r3 => r4 ]
-[ load r0 => r18 ; add r6, r5 => r7 ]
-[ add r10, r2 => r16 ; nop ]
-[ add r11, r10 => r14 ; add r11, r8 => r15 ]
-"""
 
 # The first and the last constants, some of which are one modulo 2^31 - 1, and operations that differ in them alone.
 ENDS = [0, 1, MAX_NUMBER - 1, MAX_NUMBER]
@@ -65,15 +34,15 @@ MILLION = 1_000_000
 NOT_FOUND = {"void", "undecided"}     # of rows for a block that shows nothing
 
 
-def parts(items, count):
+def chunks(items, count):
     return [items[k:k + count] for k in range(0, len(items), count)]
 
 
 def own_drawn(*constants):
     chance = random.Random(64)
     blocks = [alike.block(chance, constants=constants) for _ in range(OWN if TESTED.is_short else ALL_OWN)]
-    for number, some in enumerate(parts(blocks, len(blocks) // len(MADE) + 1)):
-        texts = [(text_of(part), (SHORT, LONG, USUAL)[number % 3]) for part in parts(some, AT_ONCE)]
+    for number, some in enumerate(chunks(blocks, len(blocks) // len(MADE) + 1)):
+        texts = [(text_of(part), (SHORT, LONG, USUAL)[number % 3]) for part in chunks(some, AT_ONCE)]
         yield from own_rows_pass(texts, MADE[number])
 
 
@@ -134,17 +103,16 @@ def graphs():
                 yield f"{points} points: {found}"
 
 
-def lawful_rows(name, text, cycles, ours, *words):
-    """By `check` of a block with rows that take so many cycles, where ours and the least take as many as is said."""
-    listing = f"block 1 - lawful cycles {cycles} ours {ours} least {ours}\ntotal {cycles} ours {ours} least {ours}\n"
-    return Run(f"judged/alike/{name}", ["check", *words], text.encode(), listing.encode(), b"", PASSED)
+def lawful_rows(name, text, cycles):
+    """By `check` of a block with rows that take so many cycles, where ours and the least take three."""
+    listing = f"block 1 - lawful cycles {cycles} ours 3 least 3\ntotal {cycles} ours 3 least 3\n"
+    return listed(f"judged/alike/{name}", text, listing.encode(), ["check"])
 
 
 def alike_checks():
-    yield lawful_rows("sums_of_constants", SUMS + ROWS_OF_SUMS, 3, 3)
-    yield lawful_rows("sums_of_loads", SEVEN_LOADS + ROWS_OF_LOADS, 11, 11, "--lawful")
-    yield lawful_rows("behind_empty_rows", SUMS + "[ ]\n" * MILLION + ROWS_OF_SUMS, MILLION + 3, 3)
-    yield lawful_rows("behind_empty_lines", SUMS + "[ ]\n" + "\n" * MILLION + ROWS_OF_SUMS, 4, 3)
+    block, rows = parts(LISTED["alike_sums"].text)
+    yield lawful_rows("behind_empty_rows", block + b"\n" + b"[ ]\n" * MILLION + rows, MILLION + 3)
+    yield lawful_rows("behind_empty_lines", block + b"\n[ ]\n" + b"\n" * MILLION + rows, 4)
     for made in MADE:
         for name, blocks in (("sums", [*alike.sums()]), ("apart", [APART])):
             yield Check(f"judged/alike/{name}/{'_'.join(made)}", own_rows_pass, [(text_of(blocks), USUAL)], made)

@@ -14,6 +14,8 @@ from bench import inputs
 from cases.test_disambiguate import OPTION
 from harness.program import ALONE, FARMED, TESTED, ending, stored, told
 from harness.suite import Check, table
+from judged.test_apart import parts
+from judged.test_rows import LISTED
 from language import USUAL
 from oracle.judge import proposed
 from oracle.reader import read
@@ -34,22 +36,9 @@ BAD = b"output 0\nadd r1 r2 => r3\n"
 ROWS = (b"block 1 A\n[ loadI 64 => r1 ; nop ]\n[ storeAI r1 => r1, 4 ; nop ]\nblock 2 B\n[ output 64 ; nop ]\n"
         b"[ nop ; output 0 ]\nblock 3 C\n[ output 2 ; output 2 ]\n"
         b"block 4 D\n[ output 8 ; nop ]\n[ loadI 8 => r3 ; nop ]\n")
-# By name a block and rows for it: sums of which each may be one of several of the block; wrong rows of which only a
-# memory that is made up shows it; and an operation that reads what is brought elsewhere.
-JUDGED = {
-    "alike operations": (
-        b"a: loadI 4 => r0\nloadI 4 => r1\nadd r0, r0 => r2\nadd r1, r1 => r3\nadd r0, r1 => r4\n",
-        b"block 1 a\n[ loadI 4 => r0 ; loadI 4 => r1 ]\n[ add r0, r1 => r4 ; add r0, r0 => r2 ]\n"
-        b"[ add r1, r1 => r3 ]\n"),
-    "a word read too early": (
-        b"a: loadI 2048 => r0\nload r0 => r1\nadd r1, r1 => r2\nstoreAI r2 => r0, 4\noutput 2052\n",
-        b"block 1 a\n[ loadI 2048 => r0 ]\n[ load r0 => r1 ]\n[ add r1, r1 => r2 ]\n"
-        b"[ storeAI r2 => r0, 4 ]\n[ output 2052 ]\n"),
-    "a sum in another register": (
-        b"a: loadI 4 => r1\nloadI 5 => r2\nadd r1, r2 => r3\nstore r3 => r1\nstoreAI r2 => r1, 4\n",
-        b"block 1 a\n[ loadI 4 => r1 ; loadI 5 => r2 ]\n[ add r1, r2 => r2 ]\n"
-        b"[ store r3 => r1 ]\n[ storeAI r2 => r1, 4 ]\n"),
-}
+# Rows of rows.cases: sums of which each may be one of several of the block; wrong rows of which only a memory that is
+# made up shows it; and an operation that reads what is brought elsewhere.
+JUDGED = ("alike_sums", "source_changed_where_registers_are_reused", "result_in_a_register_of_others")
 NO_ROW = b"a: output 0\nblock 1 a\nnop nop\n"
 UNREAD = b"a: output 0\nblock 1 a\n[ nop nop ]\n"
 
@@ -137,7 +126,8 @@ def few_runs():
     yield from runs("5 blocks", SMALL, ROWS)
     yield Asked(["counts"], "a bad line", BAD)
     yield Asked(["lint"], "a bad line", BAD)
-    for name, (block, rows) in JUDGED.items():
+    for name in JUDGED:
+        block, rows = parts(LISTED[name].text)
         for command in ("check", "explain"):
             yield Asked([command, "--task", stored(f"{name}.iloc", block)], name, rows)
     yield Asked(["check"], "a bad row", NO_ROW)
