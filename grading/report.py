@@ -15,10 +15,10 @@ from urllib.parse import quote
 
 import svg
 from language import PASSING
-from words import count, number, shown, told
+from words import SENTENCES, count, number, shown, told
 
-ASK = ("agrees", "changed", "unlawful", "undecided", "void", "unjudged")
-COLOURS = {**dict.fromkeys(PASSING, "right"), **dict.fromkeys(ASK, "ask"), "missing": "none"}    # the others are wrong
+# By verdict a colour of the page; the others are wrong.
+COLOURS = {**dict.fromkeys(PASSING, "right"), **dict.fromkeys(SENTENCES["open"], "ask"), "missing": "none"}
 LONGEST = 120           # bytes of a folder's name
 PLAIN = " -_.@,'()"     # in it, beside letters, marks and digits
 PAGE = Path(__file__).resolve().with_name("report.html")

@@ -5,6 +5,7 @@ from pathlib import Path
 
 SENTENCES = ConfigParser(interpolation=None)
 SENTENCES.read_string(Path(__file__).with_name("sentences.ini").read_text("utf-8"))
+VERDICTS = {**SENTENCES["verdicts"], **SENTENCES["open"]}
 
 
 def shown(text, most=200):
@@ -68,7 +69,7 @@ def told(mark, is_staff=True):
     head = f"{shown(mark.task.name)}: {number(mark.points)} points."
     if mark.task.is_hidden and not is_staff:
         return [f"{head} The task is hidden."]
-    head += f" {SENTENCES['verdicts'][mark.verdict]}"
+    head += f" {VERDICTS[mark.verdict]}"
     if mark.cycles is not None:
         head += (f" {count(mark.cycles, 'cycle')}; the reference takes {mark.task.ours}, "
                  f"the bound {mark.task.rule} is {mark.task.least}.")
