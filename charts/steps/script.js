@@ -21,13 +21,13 @@ function sends(operation, place) {
 function eventsOf(trace) {
   const events = trace.trim().split("\n").map(line => ({ line, ...EVENT.exec(line).groups }));
   const issues = new Map();
-  for (const it of events) {
-    it.cycle = +(it.arrives ?? it.issued);
-    it.reads = [...(it.reads || "").matchAll(READ)].map(read => read.groups);
-    if (it.operation) issues.set(it.issued, [...issues.get(it.issued) || [], it]);
+  for (const event of events) {
+    event.cycle = +(event.arrives ?? event.issued);
+    event.reads = [...(event.reads || "").matchAll(READ)].map(read => read.groups);
+    if (event.operation) issues.set(event.issued, [...issues.get(event.issued) || [], event]);
   }
-  for (const it of events.filter(it => it.place)) {
-    issues.get(it.from).find(issue => !issue.write && sends(issue.operation, it.place)).write = it;
+  for (const write of events.filter(event => event.place)) {
+    issues.get(write.from).find(issue => !issue.write && sends(issue.operation, write.place)).write = write;
   }
   return events;
 }
@@ -35,8 +35,8 @@ function eventsOf(trace) {
 // By place the first value that the trace has of it.
 function firstValues(events) {
   const first = new Map();
-  for (const it of events) {
-    for (const { place, value } of it.place ? [{ place: it.place, value: it.was }] : it.reads) {
+  for (const event of events) {
+    for (const { place, value } of event.place ? [{ place: event.place, value: event.was }] : event.reads) {
       if (!first.has(place)) first.set(place, value);
     }
   }
@@ -47,10 +47,10 @@ function firstValues(events) {
 function told(event) {
   const made = element("li", event.place ? "write" : event.kind === "fault" ? "early" : "");
   let end = 0;
-  for (const it of event.operation ? event.line.matchAll(READ) : []) {
-    if (!it.groups.until) continue;
-    made.append(event.line.slice(end, it.index), element("span", "early", it[0]));
-    end = it.index + it[0].length;
+  for (const read of event.operation ? event.line.matchAll(READ) : []) {
+    if (!read.groups.until) continue;
+    made.append(event.line.slice(end, read.index), element("span", "early", read[0]));
+    end = read.index + read[0].length;
   }
   made.append(event.line.slice(end));
   return made;
@@ -61,12 +61,12 @@ class Stepper {
     this.section = section;
     this.last = +section.dataset.last;
     this.events = eventsOf(this.find("pre").textContent);
-    this.writes = this.events.filter(it => it.place);
-    this.issues = this.events.filter(it => it.operation);
+    this.writes = this.events.filter(event => event.place);
+    this.issues = this.events.filter(event => event.operation);
     this.first = firstValues(this.events);
     this.places = [...this.first.keys()].sort((a, b) => a.match(/\d+/) - b.match(/\d+/));
-    this.marked = new Map(this.issues.map(it => [`${it.cycle}.${it.unit}`, []]));
-    section.querySelectorAll("[data-op]").forEach(it => this.marked.get(it.dataset.op)?.push(it));
+    this.marked = new Map(this.issues.map(issue => [`${issue.cycle}.${issue.unit}`, []]));
+    section.querySelectorAll("[data-op]").forEach(part => this.marked.get(part.dataset.op)?.push(part));
     this.band = document.createElementNS("http://www.w3.org/2000/svg", "rect");
     const given = { class: "band", width: "100%", height: section.dataset.height };
     for (const [name, value] of Object.entries(given)) this.band.setAttribute(name, value);
@@ -103,43 +103,45 @@ class Stepper {
 
   // The machine after what happens in this cycle.
   show(cycle) {
-    const now = this.events.filter(it => it.cycle === cycle);
-    const flights = this.issues.filter(it => it.cycle <= cycle && it.write?.cycle > cycle).map(it => it.write);
-    const reads = new Map(now.flatMap(it => it.reads.map(read => [read.place, read.until])));
+    const now = this.events.filter(event => event.cycle === cycle);
+    const begun = this.issues.filter(issue => issue.cycle <= cycle);
+    const flights = begun.map(issue => issue.write).filter(write => write?.cycle > cycle);
+    const reads = new Map(now.flatMap(event => event.reads.map(read => [read.place, read.until])));
     this.showCells(cycle, now, flights, reads);
     this.list(".flights", flights.sort((a, b) => a.cycle - b.cycle)
-      .map(it => element("li", "", `${it.place} = ${it.value} at ${it.arrives}`)), "nothing");
-    this.list(".emitted", this.issues.filter(it => it.cycle <= cycle && it.operation.startsWith("output"))
-      .flatMap(it => it.reads).map(it => element("li", "", it.value)), "nothing");
+      .map(write => element("li", "", `${write.place} = ${write.value} at ${write.arrives}`)), "nothing");
+    this.list(".emitted", begun.filter(issue => issue.operation.startsWith("output"))
+      .flatMap(issue => issue.reads).map(read => element("li", "", read.value)), "nothing");
     this.list(".events", now.map(told), "nothing arrives, and nothing is issued");
     this.mark(cycle, reads);
     this.place(cycle);
   }
 
   showCells(cycle, now, flights, reads) {
-    const values = new Map(this.writes.filter(it => it.cycle <= cycle).map(it => [it.place, it.value]));
+    const values = new Map(this.writes.filter(write => write.cycle <= cycle).map(write => [write.place, write.value]));
     const cells = this.places.map(place => {
-      const state = [now.some(it => it.place === place) && "new", reads.has(place) && "read",
-        reads.get(place) && "early", flights.some(it => it.place === place) && "due", !values.has(place) && "idle"];
+      const state = [now.some(write => write.place === place) && "new", reads.has(place) && "read",
+        reads.get(place) && "early", flights.some(write => write.place === place) && "due",
+        !values.has(place) && "idle"];
       const kind = state.filter(Boolean).join(" ");
       return { place, kind, text: `${place.replace("word ", "")} = ${values.get(place) ?? this.first.get(place)}` };
     });
-    const isRegister = it => it.place.startsWith("r");
-    const made = cells => cells.map(it => element("li", it.kind, it.text));
-    this.list(".registers", made(cells.filter(it => isRegister(it) && it.kind !== "idle")), "all are 0");
-    this.list(".words", made(cells.filter(it => !isRegister(it))), "no word is used");
+    const isRegister = cell => cell.place.startsWith("r");
+    const made = cells => cells.map(cell => element("li", cell.kind, cell.text));
+    this.list(".registers", made(cells.filter(cell => isRegister(cell) && cell.kind !== "idle")), "all are 0");
+    this.list(".words", made(cells.filter(cell => !isRegister(cell))), "no word is used");
   }
 
   // Marks each operation by what becomes of it, in block, schedule and graph.
   mark(cycle, reads) {
-    for (const it of this.issues) {
-      const state = [it.cycle === cycle && "issued", it.cycle > cycle && "later",
-        it.cycle < cycle && it.write?.cycle > cycle && "flying",
-        it.cycle === cycle && it.reads.some(read => read.until) && "early",
-        it.write && reads.get(it.write.place) === it.write.arrives && "awaited"].filter(Boolean).join(" ");
-      if (it.state === state) continue;
-      it.state = state;
-      this.marked.get(`${it.cycle}.${it.unit}`).forEach(marked => marked.setAttribute("class", state));
+    for (const issue of this.issues) {
+      const state = [issue.cycle === cycle && "issued", issue.cycle > cycle && "later",
+        issue.cycle < cycle && issue.write?.cycle > cycle && "flying",
+        issue.cycle === cycle && issue.reads.some(read => read.until) && "early",
+        issue.write && reads.get(issue.write.place) === issue.write.arrives && "awaited"].filter(Boolean).join(" ");
+      if (issue.state === state) continue;
+      issue.state = state;
+      this.marked.get(`${issue.cycle}.${issue.unit}`).forEach(part => part.setAttribute("class", state));
     }
   }
 
@@ -151,8 +153,8 @@ class Stepper {
     this.find("input").setAttribute("aria-valuetext", said);
     this.find("output").textContent = said;
     this.band.setAttribute("y", top);
-    for (const it of this.section.querySelectorAll("[data-first]")) {
-      it.hidden = cycle < +it.dataset.first || cycle > +it.dataset.last;
+    for (const turn of this.section.querySelectorAll("[data-first]")) {
+      turn.hidden = cycle < +turn.dataset.first || cycle > +turn.dataset.last;
     }
     const issued = this.find(".source .issued");
     reveal(this.find(".timeline"), top);
@@ -166,7 +168,7 @@ function reveal(box, top) {
   }
 }
 
-const steppers = [...document.querySelectorAll("section")].map(it => new Stepper(it));
+const steppers = [...document.querySelectorAll("section")].map(section => new Stepper(section));
 let shown = steppers[0];
 const KEYS = {
   ArrowLeft: () => shown.step(-1), ArrowRight: () => shown.step(1),
@@ -176,14 +178,14 @@ const KEYS = {
 // `#K.C` is block K at cycle C.
 function followHash() {
   const [, number, cycle] = /^#(\d+)\.(\d+)$/.exec(location.hash) || [];
-  shown = steppers.find(it => it.section.id === `block-${number}`) || shown;
-  steppers.forEach(it => { it.section.hidden = it !== shown; });
+  shown = steppers.find(stepper => stepper.section.id === `block-${number}`) || shown;
+  steppers.forEach(stepper => { stepper.section.hidden = stepper !== shown; });
   if (cycle) shown.go(+cycle);
 }
 
 followHash();
 addEventListener("hashchange", followHash);
-addEventListener("beforeprint", () => document.querySelectorAll("details").forEach(it => { it.open = true; }));
+addEventListener("beforeprint", () => document.querySelectorAll("details").forEach(each => { each.open = true; }));
 addEventListener("keydown", event => {
   const isTaken = event.altKey || event.ctrlKey || event.metaKey || event.target.closest?.("input, .scroll");
   if (isTaken || !Object.hasOwn(KEYS, event.key)) return;
