@@ -41,8 +41,7 @@ class Ratios:
 class Curve:
     """Curves that rise with the share of blocks, and a table."""
 
-    def __init__(self, columns, wrong, mark):
-        self.mark = mark
+    def __init__(self, columns, wrong):
         least = [column for column in columns if column.name == LEAST]
         self.base = (least or columns)[0]
         left_out = set(wrong) | {k for column in columns for k, value in enumerate(column.values) if value == 0}
@@ -89,7 +88,7 @@ class Curve:
         points.append((self.x(self.high), self.y(share)))
         line = svg.element("polyline", points=" ".join(f"{svg.number(x)},{svg.number(y)}" for x, y in points),
                            fill="none", stroke=ratios.column.colour, stroke_width=2)
-        marks = [self.mark(ratios.column, self.x(ratios.at(share)), self.y(share)) for share in MARKS]
+        marks = [ratios.column.mark(self.x(ratios.at(share)), self.y(share)) for share in MARKS]
         return svg.group(": ".join([ratios.column.name, ", ".join(self.told(ratios))]), line, *marks)
 
     def told(self, ratios):
@@ -101,7 +100,7 @@ class Curve:
         for head, place in zip(HEADS, PLACES):
             yield svg.text(LEFT + place, y, head, "ink head", text_anchor="end" if place else "start")
         for row, ratios in enumerate(self.all, 1):
-            yield self.mark(ratios.column, LEFT - 16, y + LINE * row - 4)
+            yield ratios.column.mark(LEFT - 16, y + LINE * row - 4)
             for text, place in zip(ratios.texts(), PLACES):
                 yield svg.text(LEFT + place, y + LINE * row, text, text_anchor="end" if place else "start")
 

@@ -2,7 +2,7 @@
 from heapq import heappop, heappush
 
 import svg
-from listing import CHAIN, COLOURS, MOST_CYCLES, PASSED, PATH, WRONG
+from listing import CHAIN, COLOURS, MOST_CYCLES, PASSED, PATH, WRONG, read_block
 
 HEIGHT = 18         # of a row
 LANE = 9            # from one bar to the next
@@ -114,3 +114,17 @@ class Chart:
 
     def picture(self):
         return svg.picture(self.width, self.y(self.block.cycles) + HEIGHT + MARGIN, self.title(), self.parts())
+
+
+def drawn(lines, wanted, latencies):
+    """The picture of a listing's block of this number, with these latencies where the listing shows no others."""
+    block = read_block(lines, wanted)
+    if block.reasons:
+        found, *why = block.reasons
+        raise svg.Unread(f"the rows of block {block.number} are {found}" + f": {'; '.join(why)}" * bool(why))
+    latencies = block.latencies(latencies)
+    if block.is_headed and not block.verdict:
+        block.check(latencies)
+    else:
+        block.cycles = block.end(latencies)
+    return Chart(block, latencies).picture()

@@ -1,8 +1,9 @@
-"""Cases of ilocview: it draws what the scripts of charts/ draw of what the program lists."""
+"""Cases of ilocview: it draws what charts/ draws of what the program lists."""
 import os
 import shutil
 import sys
 
+from comparison import drawn as compared
 from harness.place import Place
 
 LAB = ("--load", "3", "--store", "3", "--mult", "2")
@@ -90,10 +91,10 @@ class View(Place):
             self.write(path, self.read(BOOK))
         self.write("counts", self.listings(("counts",), given=self.read(BOOK)))
         here = os.path.basename(self.folder)
-        for paths, names in ((["a=b.iloc", "c d.iloc"], ["a-b", "c d"]),
+        for paths, names in ((["a=b.iloc", "c d.iloc"], ["a=b", "c d"]),
                              (["c d.iloc", "other/c d.iloc"], [here, "other"])):
-            drawn = self.printed("charts/compare", *(f"{name}=counts" for name in names))
-            self.draws(["compare", *paths], drawn)
+            drawn = compared((name, "counts", self.read("counts")) for name in names)
+            self.draws(["compare", *paths], drawn.encode())
 
     def test_forms(self):
         self.needs("rsvg-convert", "dot")
