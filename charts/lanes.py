@@ -109,8 +109,7 @@ class Chart:
         bars = {id(operation): self.bar(operation, lane) for flights in self.flights for operation, lane in flights}
         for operation in self.block.operations:
             told = "\n".join([operation.told(self.latencies), *self.block.wrong.get(operation.cycle, [])])
-            yield svg.group(told, *bars.get(id(operation), []), *self.box(operation),
-                            data_op=f"{operation.cycle}.{operation.unit}")
+            yield svg.group(told, *bars.get(id(operation), []), *self.box(operation), data_op=operation.place())
 
     def picture(self):
         return svg.picture(self.width, self.y(self.block.cycles) + HEIGHT + MARGIN, self.title(), self.parts())

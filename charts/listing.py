@@ -55,6 +55,9 @@ class Operation:
     def defined(self):
         return next(iter(self.registers("d")), None)
 
+    def place(self):
+        return f"{self.cycle}.{self.unit}"
+
     def label(self):
         return self.spelling if self.number < 0 else f"{self.number}: {self.spelling}"
 

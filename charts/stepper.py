@@ -1,7 +1,6 @@
 """The page on which a reader steps through what the timed machine does, of listings of blocks."""
 import base64
 import hashlib
-import os
 import re
 from html import escape
 from pathlib import Path
@@ -11,22 +10,18 @@ from language import kind_of
 from layers import Drawing
 
 MOST = 60           # operations of a graph that is drawn
-PARTS = os.path.join(os.path.dirname(os.path.realpath(__file__)), "steps")
+PARTS = Path(__file__).resolve().with_name("steps")
 
 
 def part(name):
-    return Path(os.path.join(PARTS, name)).read_text("utf-8")
+    return (PARTS / name).read_text("utf-8")
 
 
 def source_of(block):
-    """The block's operations, each marked by where it is issued; where they aren't known, those that are issued."""
-    if block.source:
-        places = {operation.number: f"{operation.cycle}.{operation.unit}" for operation in block.operations}
-        lines = sorted(block.source.items())
-    else:
-        places = {k: f"{operation.cycle}.{operation.unit}" for k, operation in enumerate(block.operations)}
-        lines = [(k, operation.spelling) for k, operation in enumerate(block.operations)]
-    return "".join(f'<li value="{k}" data-op="{places.get(k, "")}">{escape(text)}</li>' for k, text in lines)
+    """The block's operations, each marked by where it is issued."""
+    places = {operation.number: operation.place() for operation in block.operations}
+    return "".join(f'<li value="{k}" data-op="{places.get(k, "")}">{escape(text)}</li>'
+                   for k, text in sorted(block.source.items()))
 
 
 def drawing_of(block):
@@ -35,7 +30,7 @@ def drawing_of(block):
     early = {(i, j) for i, j, d in block.edges
              if block.is_wrong() and i in cycles and j in cycles and cycles[j] < cycles[i] + d}
     opcodes = [block.source[k].split()[0] for k in range(len(block.source))]
-    places = {operation.number: f"{operation.cycle}.{operation.unit}" for operation in block.operations}
+    places = {operation.number: operation.place() for operation in block.operations}
     drawing = Drawing([f"{k} {opcode}" for k, opcode in enumerate(opcodes)], block.edges)
     kinds = [*map(kind_of, opcodes)]
     return drawing.picture(f"dependence graph of block {block.number}", kinds, places, block.chain, early)
@@ -56,7 +51,7 @@ def candidate_of(operations, text):
     if not priority:
         return f"<li>and {number[1:]} more</li>"
     found = operations.get(int(number))
-    place = f' data-op="{found.cycle}.{found.unit}"' if found else ""
+    place = f' data-op="{found.place()}"' if found else ""
     return f'<li{place}>{number} {escape(found.source if found else "")} <b>{priority}</b></li>'
 
 

@@ -5,12 +5,16 @@ import time
 from pathlib import Path
 from xml.etree import ElementTree
 
+import stepper
 from cases.test_stored import CASES, read
 from harness.browser import LEAST_CONTRAST, contrast
 from harness.place import Place
 from harness.program import TOP
+from listing import lines_of
 from oracle.drawn import lab_block
 from oracle.operations import text_of
+from svg import Unread
+from traced import read_traces
 
 SVG = "{http://www.w3.org/2000/svg}"
 # A stored case, and its listing.
@@ -47,6 +51,11 @@ def shape(mark):
     """The corners of a mark, from the first on."""
     corners = [tuple(map(float, corner.split(","))) for corner in (mark.get("points") or "").split()]
     return tuple((round(x - corners[0][0], 1), round(y - corners[0][1], 1)) for x, y in corners)
+
+
+def page_of(listing):
+    """The page that is drawn of listings."""
+    return stepper.drawn(read_traces(lines_of(listing)))
 
 
 class Charts(Place):
@@ -301,13 +310,20 @@ class Charts(Place):
         self.refuses("compare", [f"l{k}" for k in range(37)], b"", "more than 36 listings can't be told apart")
 
     def test_page_refuses(self):
-        """A listing that was changed: a number that is too long, edges from and to no operation."""
-        listing = self.listings(["graph"], ["trace"], given=BLOCK)
-        for old, new, said in (
-                (b"issue 0", b"issue " + b"0" * 5000, "a number of 5000 digits: 0000000000.."),
-                (b"b1_5 -> b1_6", b"b1_5 -> b1_9", "the graph of block 1 lacks an operation"),
-                (b"b1_5 -> b1_6", b"b1_6 -> b1_5", "the graph of block 1 lacks an operation")):
-            self.refuses("page", (), listing.replace(old, new), said)
+        """Listings that were cut off or changed, and those that lack a trace."""
+        whole = self.listings(["graph"], ["trace"], given=BLOCK)
+        for given, said in (
+                (b"", "there is no trace of a block"),
+                (self.listings(["graph"], given=BLOCK), "there is no trace of a block"),
+                (whole[:-3], "line "),
+                (whole.replace(b"issue 0", b"issue 5"), "no operation before sends what arrives: "),
+                (whole.replace(b"issue 0", b"issue " + b"0" * 5000), "a number of 5000 digits: 0000000000.."),
+                (whole.replace(b"b1_5 -> b1_6", b"b1_5 -> b1_9"), "the graph of block 1 lacks an operation"),
+                (whole.replace(b"b1_5 -> b1_6", b"b1_6 -> b1_5"), "the graph of block 1 lacks an operation"),
+                *((b"block 1 -\nissue 0 unit 0 nop\n" + line, "line 3 is none of a listing") for line in (
+                    b"issue 0 unit 0 <br>", b"issue 0 unit 0 nop reads <br>", b"write 1 <br> = 1 was 0 from 0"))):
+            with self.assertRaisesRegex(Unread, f"^{said}"):
+                page_of(given)
 
     def test_compare_of_many(self):
         """Above sixty blocks ratios, not rows: a curve a listing, and a table."""

@@ -1,18 +1,19 @@
-"""Cases of charts/page in a browser: what each cycle shows beside the trace, keys, links, what a screen reader meets,
-narrow and printed; and pages of odd listings."""
+"""Cases of pages in a browser: what each cycle shows beside the trace, keys, links, what a screen reader meets, narrow
+and printed; and pages of odd listings."""
 import random
 import re
 
+from beside.test_charts import page_of
 from harness.browser import Browser
 from harness.place import Place
 from harness.program import TESTED
+from listing import CHAIN, WRONG
 from oracle.drawn import lab_block
 from oracle.operations import text_of
 
 WRITE = re.compile(r"write (\d+) (r\d+|word \d+) = (-?\d+) was (-?\d+) from (\d+)")
 ISSUE = re.compile(r"(issue|fault) (\d+) unit (\d) (.+?)(?: (reads|emits) (.+))?")
 READ = re.compile(r"(r\d+|word \d+) = (-?\d+)(?: until (\d+))?")
-WRONG = '[stroke="#d6409f"]'
 CLASS = "examples/class"
 # A sum beside a product, whose result comes later.
 BESIDE = b"loadI 1024 => r1\nadd r1, r1 => r2\nmult r1, r1 => r3\nstore r2 => r1\nstore r3 => r1\n"
@@ -74,7 +75,7 @@ class Page(Place):
 
     def open(self, listing, fragment=""):
         """Makes a page of a listing and opens it; nothing may go wrong there until the end of the case."""
-        self.write("page.html", self.printed("charts/page", given=listing))
+        self.write("page.html", page_of(listing))
         self.lines = listing.decode().splitlines()
         self.browser.problems.clear()
         self.browser.open(self.path("page.html"), fragment)
@@ -87,10 +88,11 @@ class Page(Place):
         return self.value('document.querySelector("section:not([hidden]) output").textContent')
 
     def texts(self, what):
-        return self.value(f'[...document.querySelectorAll("section:not([hidden]) {what}")].map(it => it.textContent)')
+        shown = f'document.querySelectorAll("section:not([hidden]) {what}")'
+        return self.value(f"[...{shown}].map(part => part.textContent)")
 
     def marked(self, where, kind):
-        return sorted(self.value(f'[...document.querySelectorAll("{where}.{kind}")].map(it => it.dataset.op)'))
+        return sorted(self.value(f'[...document.querySelectorAll("{where}.{kind}")].map(part => part.dataset.op)'))
 
     def shows(self, lines, cycle, last):
         """Registers, words, results under way, emitted words, events, and marks in block, schedule and graph."""
@@ -169,8 +171,8 @@ class Page(Place):
         self.expect("register", self.texts(".cells .early"), ["r2 = 0"])
         self.expect("reader", self.marked("[data-op]", "early"), ["6.0"] * 3)
         self.expect("result", self.marked("[data-op]", "awaited"), ["2.0"] * 3)
-        self.expect("row", self.value(f"document.querySelectorAll('.timeline g rect{WRONG}').length"), 1)
-        self.expect("delay", self.value(f"document.querySelectorAll('.graph path{WRONG}').length"), 1)
+        for part in ".timeline g rect", ".graph path":
+            self.expect(part, self.value(f"document.querySelectorAll('{part}[stroke=\"{WRONG}\"]').length"), 1)
 
     def test_click(self):
         self.open(self.ben())
@@ -212,18 +214,10 @@ class Page(Place):
         self.value('dispatchEvent(new Event("beforeprint"))')
         for what, wanted in (("#block-3", "block"), ("#block-1 .now", "none")):
             self.expect(what, self.value(f'getComputedStyle(document.querySelector("{what}")).display'), wanted)
-        self.expect("traces", self.value('[...document.querySelectorAll("details")].every(it => it.open)'), True)
-
-    def test_alone(self):
-        """Nothing is fetched, and a trace alone makes a page."""
-        for listing in (self.ben(), self.listings(("trace", "3", "4"), given=self.read(f"{CLASS}/tasks/both.iloc"))):
-            self.open(listing)
-            self.expect("links out", re.findall(r'(?:src|href)="(?!#)[^"]*|url\(|@import', self.text("page.html")), [])
-        self.browser.key("End")
-        self.expect("last", self.said(), "cycle 16 of 16")
+        self.expect("traces", self.value('[...document.querySelectorAll("details")].every(part => part.open)'), True)
 
     def test_markup(self):
-        """Hostile texts of a listing are shown as they are, or refused: no element and no script comes of them."""
+        """Hostile texts of a listing are shown as they are: no element and no script comes of them."""
         bad = "<img/src=x/onerror=document.title='had'></pre><script>document.title='had'</script>"
         trace = ("issue 0 unit 0 add r1, r1 => r1 reads r1 = 3\nwrite 1 r1 = 6 was 3 from 0\n",
                  f"  row 0: {bad}\n", f'        b1_0 [label="0: {bad}\\npriority 1"];\n')
@@ -232,25 +226,12 @@ class Page(Place):
         self.expect("made", self.value('document.querySelectorAll("img, script").length'), 1)
         for where in (".said li", ".source li"):
             self.expect(where, bad in self.texts(where)[0], True)
-        for line in (f"issue 0 unit 0 {bad}", f"issue 0 unit 0 nop reads {bad}", f"write 1 {bad} = 1 was 0 from 0"):
-            status, out, err = self.call("charts/page", given=f"block 1 -\nissue 0 unit 0 nop\n{line}\n".encode())
-            self.expect(line, (status, out, err.startswith(b"charts/page: line 3 is none of a listing")),
-                        (1, b"", True))
 
-    def test_odd_listings(self):
-        """Cut off, of two versions, none: refused with the reason, or joined as far as it goes."""
-        whole = self.ben()
-        trace = self.listings(("trace", "3", "4"), given=self.read(f"{CLASS}/tasks/both.iloc"))
-        for given, said in (
-                (b"", b"there is no trace of a block"),
-                (self.listings(("graph",), given=FAULTS), b"there is no trace of a block"),
-                (trace[:-3], b"line "),
-                (trace.replace(b"issue 0", b"issue 5"), b"no operation before sends what arrives: ")):
-            status, out, err = self.call("charts/page", given=given)
-            self.expect(said, (status, out, err.startswith(b"charts/page: " + said)), (1, b"", True))
+    def test_other_latencies(self):
+        """Listings that don't agree are joined as far as it goes."""
         explained = self.listings(("explain", "--load", "9"), given=self.read(f"{CLASS}/tasks/both.iloc"))
-        self.open(whole + explained)
-        self.expect("chain", self.value("document.querySelectorAll('[stroke=\"#e5484d\"]').length"), 0)
+        self.open(self.ben() + explained)
+        self.expect("chain", self.value(f"document.querySelectorAll('[stroke=\"{CHAIN}\"]').length"), 0)
 
     def test_large(self):
         """Ten thousand operations: the graph isn't drawn, and the page steps."""

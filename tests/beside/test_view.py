@@ -1,8 +1,10 @@
 """Cases of ilocview: it draws what charts/ draws of what the program lists."""
 import os
+import re
 import shutil
 import sys
 
+from beside.test_charts import page_of
 from comparison import drawn as compared
 from harness.place import Place
 
@@ -44,16 +46,19 @@ class View(Place):
         self.expect(f"the file of {words}", self.read(f"drawn.{ending}"), drawn)
 
     def test_page(self):
-        """Of our schedules and of rows, on the words that the task has a line for, or those that are given."""
+        """Of our schedules and of rows, on the words that the task has a line for, or those that are given; nothing is
+        fetched."""
         commands = (["explain"], ["explain", "--cycles"], ["graph"], ["trace"])
         listing = self.listings(*([*command, *LAB] for command in commands), given=self.read(BOOK))
-        self.draws(["page", *LAB, BOOK], self.printed("charts/page", given=listing))
+        self.draws(["page", *LAB, BOOK], page_of(listing).encode())
         listing = self.listings(*commands[:3], ("trace", "--at", "8", "3", "4294967292"), given=self.read(DAN))
-        self.draws(["page", DAN, "-i", "8", "3", "-4"], self.printed("charts/page", given=listing))
+        self.draws(["page", DAN, "-i", "8", "3", "-4"], page_of(listing).encode())
         rows = ("--task", TASK, *WORDS)
         listing = self.listings(("graph",), given=self.read(TASK))
         listing += self.listings(("trace", *rows), ("check", *rows), given=self.read(BEN))
-        self.draws(["page", TASK, BEN], self.printed("charts/page", given=listing))
+        self.draws(["page", TASK, BEN], page_of(listing).encode())
+        out = re.findall(r'(?:src|href)="(?!#)[^"]*|url\(|@import', self.text("drawn.html"))
+        self.expect("links out", out, [])
 
     def test_timeline(self):
         """With the latencies of its listing, whatever they are; docs/ has two as they are drawn."""

@@ -84,16 +84,14 @@ class Class(Graded):
                 self.expect(f"{page}: addresses are compared", is_said, words == "--disambiguate")
 
     def test_pages(self):
-        """A link leads to the page that charts/page makes of a hand-in's listings, and says what the feedback does."""
+        """A link leads to the page that ilocview draws of a hand-in, which says what the feedback does."""
         plain = partial(re.sub, "(?s)<title>.*?</title>|<ul class=.said.*?</ul>", "")
         for words in (), ("--load=6",):
             self.call("ilocgrade", BOTH, CLASS, *(f"--check={word}" for word in words))
-            task, of_rows = f"{BOTH}/both.iloc", (*words, "--task", f"{BOTH}/both.iloc", "3", "4")
             for name in "ben", "eve":
-                listings = self.listings(("graph", *words), given=self.read(task))
-                listings += self.listings(("trace", *of_rows), ("check", *of_rows), given=self.rows(name))
-                page = f"feedback/{name}/both.html"
-                made, due = self.text(f"grades/{page}"), self.printed("charts/page", given=listings).decode()
+                page, task, rows = f"feedback/{name}/both.html", f"{BOTH}/both.iloc", f"{CLASS}/{name}/both.rows"
+                made = self.text(f"grades/{page}")
+                due = self.printed("ilocview", "page", task, rows, *words).decode()
                 self.expect(f"{name}'s page", plain(made), plain(due))
                 said = unescape(re.sub("<.*?>", "", made[made.index("<ul class=\"said wrong"):]))
                 for line in self.feedback(name)[3:-2]:

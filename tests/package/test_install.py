@@ -135,12 +135,12 @@ class Install(Place):
     def test_folder_becomes_file(self):
         """What was a folder of an older version, and is a file of this one."""
         self.installs("made")
-        os.remove(self.path("made/share/ilocfarm/charts/page"))
-        self.write("made/share/ilocfarm/charts/page/older", "")
-        older = "share/ilocfarm/charts/page/\nshare/ilocfarm/charts/page/older\n"
+        os.remove(self.path("made/share/ilocfarm/charts/curve.py"))
+        self.write("made/share/ilocfarm/charts/curve.py/older", "")
+        older = "share/ilocfarm/charts/curve.py/\nshare/ilocfarm/charts/curve.py/older\n"
         self.write("made/share/ilocfarm/installed", self.text("made/share/ilocfarm/installed") + older)
         self.installs("made")
-        self.expect("page", self.read("made/share/ilocfarm/charts/page"), self.read("charts/page"))
+        self.expect("file", self.read("made/share/ilocfarm/charts/curve.py"), self.read("charts/curve.py"))
         self.removes("made")
 
     def test_what_was_there(self):

@@ -12,8 +12,8 @@ from harness.program import TOP
 
 FLOOR = (3, 9)
 READS = (3, 6)      # a script is read by this one as far as to say that it is too old
-SCRIPTS = ("charts/compare", "charts/ilocview", "charts/page", "charts/timeline", "cluster/join", "cluster/split",
-           "grading/ilocgrade", "man/make")
+SCRIPTS = ("charts/compare", "charts/ilocview", "charts/timeline", "cluster/join", "cluster/split", "grading/ilocgrade",
+           "man/make")
 SAYS = f"needs Python {FLOOR[0]}.{FLOOR[1]} or later, and this is "
 ASKS = re.compile(r'"""\nimport sys\n\nif sys.version_info < \((\d), (\d+)\):\n    sys.stderr.write\("(\S+) (.*?)" \+ ')
 PAGES = {"packaging/control": "python3 (>= {}.{})", "README.md": "Python {}.{}", "docs/INSTALL.md": "Python {}.{}",
@@ -21,7 +21,7 @@ PAGES = {"packaging/control": "python3 (>= {}.{})", "README.md": "Python {}.{}",
 TASK, ROWS = "examples/class/tasks/both.iloc", "examples/class/submissions/ben/both.rows"
 # What is run, by bash.
 LINES = (
-    "charts/compare counts counts", "charts/timeline < explain", "charts/page < trace",
+    "charts/compare counts counts", "charts/timeline < explain",
     "cluster/split examples/dot.iloc pieces", "cluster/job pieces ilocfarm counts", "cluster/join pieces",
     f"ilocview page {TASK} {ROWS}", f"ilocview timeline {TASK} {ROWS}", "ilocview compare examples/dot.iloc",
     "ilocgrade examples/class/tasks examples/class/submissions --pictures all --lenient",
