@@ -2,7 +2,6 @@
 import ast
 import glob
 import os
-import re
 import subprocess
 import unittest
 from functools import cache
@@ -15,9 +14,9 @@ READS = (3, 6)      # a script is read by this one as far as to say that it is t
 SCRIPTS = ("charts/compare", "charts/ilocview", "charts/timeline", "cluster/join", "cluster/split", "grading/ilocgrade",
            "man/make")
 SAYS = f"needs Python {FLOOR[0]}.{FLOOR[1]} or later, and this is "
-ASKS = re.compile(r'"""\nimport sys\n\nif sys.version_info < \((\d), (\d+)\):\n    sys.stderr.write\("(\S+) (.*?)" \+ ')
-PAGES = {"packaging/control": "python3 (>= {}.{})", "README.md": "Python {}.{}", "docs/INSTALL.md": "Python {}.{}",
-         "install": "Python {}.{}", "package": "Python {}.{}"}
+PAGES = {"charts/floor.py": "if sys.version_info < ({}, {}):\n", "packaging/control": "python3 (>= {}.{})",
+         "README.md": "Python {}.{}", "docs/INSTALL.md": "Python {}.{}", "install": "Python {}.{}",
+         "package": "Python {}.{}"}
 TASK, ROWS = "examples/class/tasks/both.iloc", "examples/class/submissions/ben/both.rows"
 # What is run, by bash.
 LINES = (
@@ -57,13 +56,13 @@ def pythons():
 
 class Floor(Place):
     def test_each_script_asks(self):
-        """Of the same version, before it reads anything else, and in words that an older Python reads."""
+        """Before it imports what an older Python may lack, and in words that it reads."""
         self.expect("scripts", tuple(scripts()), SCRIPTS)
+        ast.parse(self.text("charts/floor.py"), feature_version=READS)
         for name in SCRIPTS:
-            text = self.text(name)
-            ast.parse(text, feature_version=READS)
-            major, minor, called, says = ASKS.search(text).groups()
-            self.expect(name, (int(major), int(minor), called in name, says), (*FLOOR, True, SAYS))
+            lines = [ast.unparse(line) for line in ast.parse(self.text(name), feature_version=READS).body[1:]]
+            before = {line for line in lines[:lines.index("import floor")] if "import " in line}
+            self.expect(name, before <= {"import os", "import sys"}, True)
 
     def test_pages_name_it(self):
         for name, words in PAGES.items():
