@@ -2,6 +2,7 @@
 import os
 import re
 from dataclasses import dataclass
+from itertools import accumulate
 
 import svg
 from curve import Curve
@@ -95,8 +96,7 @@ class Column:
         if self.shape == LEAST:
             return svg.line(x, y - 8, x, y + 8, stroke=self.colour, stroke_width=2)
         if self.shape == OURS:
-            return svg.element("circle", cx=float(x), cy=float(y), r=MARK + 2, fill="none", stroke=self.colour,
-                               stroke_width=2)
+            return svg.element("circle", cx=x, cy=y, r=MARK + 2, fill="none", stroke=self.colour, stroke_width=2)
         return svg.mark(self.shape, x, y, self.colour, MARK)
 
 
@@ -127,7 +127,8 @@ class Chart:
         self.end = self.step * -(-max(most, 1) // self.step)
         self.wrong = set(wrong)
         self.left = MARGIN + max(svg.width_of(text) for text in [*self.names, "total"]) + 14
-        self.numbers = self.left + PLOT + 18
+        widths = [svg.width_of(max(column.name, str(sum(column.values)), key=len)) + 24 for column in columns]
+        self.ends = [*accumulate(widths, initial=self.left + PLOT + 12)][1:]        # of each column's numbers
 
     def totals(self):
         return [sum(value for k, value in enumerate(column.values) if k not in self.wrong) for column in self.columns]
@@ -138,13 +139,6 @@ class Chart:
     def y(self, row):
         return TOP + HEIGHT * row + HEIGHT / 2
 
-    def column_ends(self):
-        """Where the numbers of each column end."""
-        x = self.numbers
-        for column in self.columns:
-            x += svg.width_of(max([column.name, str(sum(column.values))], key=len)) + 24
-            yield x - 6
-
     def grid(self):
         bottom = TOP + HEIGHT * len(self.names)
         for cycles in range(0, self.end + 1, self.step):
@@ -153,7 +147,7 @@ class Chart:
 
     def heads(self):
         yield svg.text(MARGIN, 20, "cycles of each block", "ink head")
-        for end, column in zip(self.column_ends(), self.columns):
+        for end, column in zip(self.ends, self.columns):
             yield column.mark(end - svg.width_of(column.name) - 10, TOP - 13)
             yield svg.text(end, TOP - 9, column.name, text_anchor="end")
 
@@ -173,10 +167,9 @@ class Chart:
                          *self.numbers_at(y, values, self.verdicts(row)))
 
     def numbers_at(self, y, values, more=""):
-        ends = list(self.column_ends())
-        yield from (svg.text(end, y + 4, str(value), text_anchor="end") for end, value in zip(ends, values))
+        yield from (svg.text(end, y + 4, str(value), text_anchor="end") for end, value in zip(self.ends, values))
         if more:
-            yield svg.text(ends[-1] + 14, y + 4, more)
+            yield svg.text(self.ends[-1] + 14, y + 4, more)
 
     def below(self):
         """What is written beside the totals."""
@@ -193,7 +186,7 @@ class Chart:
     def picture(self):
         beside = [self.below(), *map(self.verdicts, range(len(self.names)))]
         told = max((svg.width_of(text) + 14 for text in beside if text), default=0)
-        width = list(self.column_ends())[-1] + told + MARGIN
+        width = self.ends[-1] + told + MARGIN
         title = "cycles of " + " and ".join(listing.name for listing in self.listings)
         return svg.picture(width, self.y(len(self.names)) + HEIGHT, title, self.parts())
 

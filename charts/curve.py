@@ -2,6 +2,7 @@
 import bisect
 import math
 from dataclasses import dataclass
+from statistics import geometric_mean
 
 import svg
 
@@ -29,11 +30,8 @@ class Ratios:
     def share(self, ratio):
         return bisect.bisect_right(self.sorted, ratio) / len(self.sorted)
 
-    def mean(self):
-        return math.exp(sum(map(math.log, self.sorted)) / len(self.sorted))
-
     def texts(self):
-        numbers = (self.mean(), self.at(0.9), self.sorted[-1])
+        numbers = (geometric_mean(self.sorted), self.at(0.9), self.sorted[-1])
         return [self.column.name, str(self.cycles), f"{100 * self.share(1):.0f} %",
                 *(f"{number:.3f}" for number in numbers)]
 
@@ -89,11 +87,8 @@ class Curve:
         line = svg.element("polyline", points=" ".join(f"{svg.number(x)},{svg.number(y)}" for x, y in points),
                            fill="none", stroke=ratios.column.colour, stroke_width=2)
         marks = [ratios.column.mark(self.x(ratios.at(share)), self.y(share)) for share in MARKS]
-        return svg.group(": ".join([ratios.column.name, ", ".join(self.told(ratios))]), line, *marks)
-
-    def told(self, ratios):
-        return [f"{value} {head}" if head != "cycles" else f"{value} cycles"
-                for head, value in zip(HEADS[1:], ratios.texts()[1:])]
+        told = ", ".join(f"{value} {head}" for head, value in zip(HEADS[1:], ratios.texts()[1:]))
+        return svg.group(f"{ratios.column.name}: {told}", line, *marks)
 
     def table(self):
         y = TOP + HEIGHT + 72

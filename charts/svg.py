@@ -34,22 +34,21 @@ def number(value):
 
 def element(name, content=None, **attributes):
     """An element; an underscore in an attribute's name stands for a hyphen."""
-    texts = {key: number(value) if isinstance(value, float) else str(value) for key, value in attributes.items()}
+    texts = {key: value if isinstance(value, str) else number(value) for key, value in attributes.items()}
     given = "".join(f' {key.rstrip("_").replace("_", "-")}="{escape(text)}"' for key, text in texts.items())
     return f"<{name}{given}/>" if content is None else f"<{name}{given}>{content}</{name}>"
 
 
 def text(x, y, words, kind="ink", **attributes):
-    return element("text", escape(words), x=float(x), y=float(y), class_=kind, **attributes)
+    return element("text", escape(words), x=x, y=y, class_=kind, **attributes)
 
 
 def rectangle(x, y, width, height, fill, **attributes):
-    return element("rect", x=float(x), y=float(y), width=float(width), height=float(height), rx=2, fill=fill,
-                   **attributes)
+    return element("rect", x=x, y=y, width=width, height=height, rx=2, fill=fill, **attributes)
 
 
 def line(x1, y1, x2, y2, **attributes):
-    return element("line", x1=float(x1), y1=float(y1), x2=float(x2), y2=float(y2), **attributes)
+    return element("line", x1=x1, y1=y1, x2=x2, y2=y2, **attributes)
 
 
 def mark(shape, x, y, colour, size=5):
@@ -60,7 +59,7 @@ def mark(shape, x, y, colour, size=5):
                [(0, -size), (size, half), (-size, half)], [(0, size), (size, -half), (-size, -half)],
                [(-half, -half), (0, -1), (half, -half), (1, 0), (half, half), (0, 1), (-half, half), (-1, 0)])
     if shape == 0:
-        return element("circle", cx=float(x), cy=float(y), r=size, fill=colour)
+        return element("circle", cx=x, cy=y, r=size, fill=colour)
     points = " ".join(f"{number(x + dx)},{number(y + dy)}" for dx, dy in corners[shape - 1])
     return element("polygon", points=points, fill=colour)
 
@@ -92,10 +91,7 @@ def draw(script, drawn):
         made = drawn()
         with open(1, "w", encoding="utf-8", closefd=False) as out:
             out.write(made)
-    except Unread as why:
+    except (Unread, OSError) as why:
         print(f"{script}: {why}", file=sys.stderr)
-        return 1
-    except OSError as why:
-        print(f"{script}: {why}", file=sys.stderr)
-        return 4
+        return 1 if isinstance(why, Unread) else 4
     return 0
