@@ -10,7 +10,7 @@ from cases.test_stored import CASES, read
 from harness.browser import LEAST_CONTRAST, contrast
 from harness.place import Place
 from harness.program import TOP
-from listing import lines_of
+from listing import CHAIN, WRONG, lines_of
 from oracle.drawn import lab_block
 from oracle.operations import text_of
 from svg import Unread
@@ -28,23 +28,33 @@ block 2 dot differs cycles 19 ours 22 least 20 claimed 8
   output 2: 7 for 8
 total 33 ours 36 least 33
 """
-# The grounds of pages.
-GROUNDS = {"light": "#ffffff", "dark": "#0d1117"}
+GROUNDS = "#ffffff", "#0d1117"      # of light pages and dark ones
 INKS = re.compile(r"\.ink \{ fill: (#\w{6}); \}.*@media \(prefers-color-scheme: dark\) \{ \.ink \{ fill: (#\w{6}); \}")
 ON_FILL = re.compile(r"\.on \{ fill: (#\w{6}); \}")
-CHAIN_OUTLINE = "#e5484d"
-WRONG_OUTLINE = "#d6409f"
-
-
 EDGE = re.compile(r'        b(\d+)_(\d+) -> b\1_(\d+) \[label="(\d+)"')
 
 
-def tooltips(root):
-    return [group.find(f"{SVG}title").text for group in root.iter(f"{SVG}g")]
+def picture_of(data):
+    """A picture's elements, all of which are SVG's, by their names alone."""
+    root = ElementTree.fromstring(data)
+    for part in root.iter():
+        part.tag = part.tag.split(SVG)[1]
+    return root
 
 
-def height(part):
-    return float(part.get("height"))
+def groups(root, path="."):
+    """Those with a part of this path."""
+    return [group for group in root.iter("g") if group.find(path) is not None]
+
+
+def tooltips(root, path="."):
+    return [group.findtext("title") for group in groups(root, path)]
+
+
+def bars(root):
+    """By what is written in a box, the cycles of its bar."""
+    drawn = [(group.findtext("text"), group.findall("rect")) for group in groups(root)]
+    return {text: round((float(parts[0].get("height")) + 3) / 18) for text, parts in drawn if len(parts) == 2}
 
 
 def shape(mark):
@@ -60,7 +70,7 @@ def page_of(listing):
 
 class Charts(Place):
     def picture(self, *words, given=b""):
-        return ElementTree.fromstring(self.printed(*words, given=given))
+        return picture_of(self.printed(*words, given=given))
 
     def refuses(self, script, words, given, said):
         """Nothing is drawn, and why is said in a line."""
@@ -74,26 +84,22 @@ class Charts(Place):
     def test_contrast_of_charts(self):
         """Text is read on light and dark pages, and in the boxes."""
         for name in ("book", "compare", "timeline"):
-            root = ElementTree.fromstring(self.read(f"docs/{name}.svg"))
-            style = root.find(f"{SVG}style").text
-            inks = INKS.search(style).groups()
+            root = picture_of(self.read(f"docs/{name}.svg"))
+            style = root.findtext("style")
             self.expect(f"{name}: classes of texts",
-                        {text.get("class").split()[0] for text in root.iter(f"{SVG}text")} <= {"ink", "on"}, True)
-            self.read_well(set(zip(inks, GROUNDS.values())))
-            boxes = {group.findall(f"{SVG}rect")[-1].get("fill") for group in root.iter(f"{SVG}g")
-                     if any(part.get("class") == "on" for part in group)}
-            if boxes:
-                self.read_well({(ON_FILL.search(style)[1], box) for box in boxes})
+                        {text.get("class").split()[0] for text in root.iter("text")} <= {"ink", "on"}, True)
+            pairs = {*zip(INKS.search(style).groups(), GROUNDS)}
+            for group in root.findall(".//g/text[@class='on']/.."):
+                pairs.add((ON_FILL.search(style)[1], group.findall("rect")[-1].get("fill")))
+            self.read_well(pairs)
 
     def test_contrast_of_graphs(self):
         """A graph has its own ground, and each node too."""
-        root = ElementTree.fromstring(self.read("docs/graph.svg"))
-        graph = next(group for group in root.iter(f"{SVG}g") if group.get("class") == "graph")
-        ground = graph.find(f"{SVG}polygon").get("fill")
+        graph = picture_of(self.read("docs/graph.svg")).find(".//g[@class='graph']")
         pairs = set()
-        for group in graph.iter(f"{SVG}g"):
-            on = group.find(f"{SVG}path").get("fill") if group.get("class") == "node" else ground
-            pairs |= {(text.get("fill"), on) for text in group.findall(f"{SVG}text")}
+        for group in graph.iter("g"):
+            on = group.find("path") if group.get("class") == "node" else graph.find("polygon")
+            pairs |= {(text.get("fill"), on.get("fill")) for text in group.findall("text")}
         self.read_well(pairs)
 
     def test_timeline(self):
@@ -101,23 +107,19 @@ class Charts(Place):
         listing = self.call("ilocfarm", "schedule", given=BLOCK)[1]
         root = self.picture("charts/timeline", given=listing)
         self.expect("tooltips", [tooltip.replace("\n", ": ") for tooltip in tooltips(root)], ISSUED)
-        groups = {group.find(f"{SVG}text").text: group.findall(f"{SVG}rect") for group in root.iter(f"{SVG}g")}
-        bars = {name: round((height(parts[0]) + 3) / 18) for name, parts in groups.items() if len(parts) == 2}
-        self.expect("cycles of the bars", bars, {"load r0 => r3": 5, "mult r0, r1 => r2": 3, "store r4 => r1": 5})
-        tops = {name: (float(parts[-1].get("y")) - 69) / 18 for name, parts in groups.items()}
+        self.expect("bars", bars(root), {"load r0 => r3": 5, "mult r0, r1 => r2": 3, "store r4 => r1": 5})
+        boxes = {group.findtext("text"): group.findall("rect")[-1] for group in groups(root)}
+        tops = {text: (float(box.get("y")) - 69) / 18 for text, box in boxes.items()}
         issued = {line.split(":")[0]: int(re.search("issued at ([0-9]+)", line)[1]) for line in ISSUED}
         self.expect("cycles of the boxes", tops, issued)
 
     def test_timeline_explained(self):
         root = self.picture("charts/timeline", given=EXPLAINED)
         self.expect("tooltip", tooltips(root)[2], "mult r0, r1 => r2\nunit 1, issued at 1, arrives at 4\nnumber 2: "
-                                             "mult r1, r2 => r3\nready at 1, waited last for 0 and 1\npriority 10")
-        marked = [group.find(f"{SVG}text").text[0] for group in root.iter(f"{SVG}g")
-                  if any(part.get("stroke") == CHAIN_OUTLINE for part in group)]
-        self.expect("the chain", marked, list("03456"))
-        dotted = [group.find(f"{SVG}text").text[0] for group in root.iter(f"{SVG}g") if group.findall(f"{SVG}circle")]
-        self.expect("the path", dotted, list("03456"))
-        self.expect("title", root.find(f"{SVG}title").text, "block 1: 13 cycles, at least 13")
+                    "mult r1, r2 => r3\nready at 1, waited last for 0 and 1\npriority 10")
+        for what, mark in ("the chain", f"*[@stroke='{CHAIN}']"), ("the path", "circle"):
+            self.expect(what, [group.findtext("text")[0] for group in groups(root, mark)], [*"03456"])
+        self.expect("title", root.findtext("title"), "block 1: 13 cycles, at least 13")
 
     def test_timeline_draws_the_latencies_of_an_explanation(self):
         """Whatever the options say of kinds that it shows: no operation waits last for the product. Of a path that
@@ -125,22 +127,12 @@ class Charts(Place):
         words = ("--load", "9", "--store", "2", "--mult", "4")
         listing = self.call("ilocfarm", "explain", *words, given=BLOCK)[1]
         for options, product in (((), 3), (("--load", "3", "--mult", "4"), 4), (words, 4)):
-            root = self.picture("charts/timeline", *options, given=listing)
-            bars = {group.find(f"{SVG}text").text[:1]: (height(group.find(f"{SVG}rect")) + 3) / 18
-                    for group in root.iter(f"{SVG}g") if len(group.findall(f"{SVG}rect")) == 2}
-            self.expect(f"bars with {options}", bars, {"2": product, "3": 9, "5": 2})
+            drawn = bars(self.picture("charts/timeline", *options, given=listing))
+            self.expect(f"bars with {options}", {text[0]: cycles for text, cycles in drawn.items()},
+                        {"2": product, "3": 9, "5": 2})
         listing = self.call("ilocfarm", "explain", given=self.read("examples/class/dan.iloc"))[1]
         self.expect("path", b"path 0 +1 1 +5 2 +5 3 =1 4 +5 5 +1 6 +5 7 +1\n" in listing, True)
-        root = self.picture("charts/timeline", given=listing)
-        self.expect("dots", len([group for group in root.iter(f"{SVG}g") if group.findall(f"{SVG}circle")]), 8)
-
-    def test_timeline_marks_no_right_rows(self):
-        """Dan's are `same`, and `check` says below that why they aren't by the book: nothing in them is wrong."""
-        rows = self.read("examples/class/submissions/dan/both.rows")
-        said = self.call("ilocfarm", "check", "--task", "examples/class/tasks/both.iloc", "3", "4", given=rows)[1]
-        root = self.picture("charts/timeline", given=rows + said)
-        self.expect("title", root.find(f"{SVG}title").text, "block 1 both: 15 cycles, at least 16, same")
-        self.expect("marks", [part for part in root.iter() if part.get("stroke") == WRONG_OUTLINE], [])
+        self.expect("dots", len(groups(self.picture("charts/timeline", given=listing), "circle")), 8)
 
     def test_timeline_of_rows_explained(self):
         """Each operation as it is issued; a register that is used again blames no latency."""
@@ -149,7 +141,7 @@ class Charts(Place):
         rows = self.call("ilocfarm", "explain", "--task", task, given=given)[1]
         root = self.picture("charts/timeline", given=rows)
         self.expect("tooltip", tooltips(root)[3].splitlines()[0], "add r1, r2 => r1")
-        self.expect("title", root.find(f"{SVG}title").text, "block 1: 14 cycles, at least 13")
+        self.expect("title", root.findtext("title"), "block 1: 14 cycles, at least 13")
         early = self.call("ilocfarm", "explain", "--task", task, given=given.replace(b"[ ]\n", b""))
         self.refuses("timeline", (), early[1], "the rows of block 1 are not lawful: row 3: add r1, r2 => r1 reads r1, "
                      "which row 1: load r9 => r1 brings in row 6; row 3: add r1, r2 => r1 reads r2, "
@@ -169,47 +161,49 @@ class Charts(Place):
                              (self.read("examples/class/submissions/fay/both.rows"), 21),
                              (b"[ loadI 1 => r1;nop ]  // one\r\n\n[ nop ; add r1, r1 => r1 ]\n", 2)):
             root = self.picture("charts/timeline", given=rows)
-            self.expect("title", root.find(f"{SVG}title").text, f"block 1: {cycles} cycles")
-        self.expect("tooltips", tooltips(root), ["loadI 1 => r1\nunit 0, issued at 0, arrives at 1",
-                                            "add r1, r1 => r1\nunit 1, issued at 1, arrives at 2"])
+            self.expect("title", root.findtext("title"), f"block 1: {cycles} cycles")
+        self.expect("tooltips", tooltips(root), [
+            "loadI 1 => r1\nunit 0, issued at 0, arrives at 1", "add r1, r1 => r1\nunit 1, issued at 1, arrives at 2"])
 
     def test_timeline_of_rows_judged(self):
-        """What `check` says is wrong is marked at its row, also where latencies aren't those of the rows."""
-        rows = self.read("examples/class/submissions/ben/both.rows")
-        said = self.call("ilocfarm", "check", "--task", "examples/class/tasks/both.iloc", "3", "4", given=rows)[1]
-        for given in (rows + said, b"block 1 both\n" + rows + said):
-            root = self.picture("charts/timeline", given=given)
-            self.expect("title", root.find(f"{SVG}title").text, "block 1 both: 15 cycles, wrong")
-            marked = [group.find(f"{SVG}title").text for group in root.iter(f"{SVG}g")
-                      if any(part.get("stroke") == WRONG_OUTLINE for part in group)]
-            self.expect("wrong", marked, ["add r1, r2 => r3\nunit 0, issued at 6, arrives at 7\nrow 6: add r1, r2 "
-                                          "=> r3 reads r2, which row 2: loadAI r0, 4 => r2 brings in row 7"])
+        """What `check` says is wrong is marked at its row, also where latencies aren't those of the rows. Nothing is in
+        Dan's, which are `same`, though it says why they aren't by the book."""
+        wrong = ("add r1, r2 => r3\nunit 0, issued at 6, arrives at 7\nrow 6: add r1, r2 => r3 reads r2, "
+                 "which row 2: loadAI r0, 4 => r2 brings in row 7")
+        mark = f"rect[@stroke='{WRONG}']"
+        for name, title, marked in ("ben", "15 cycles, wrong", [wrong]), ("dan", "15 cycles, at least 16, same", []):
+            rows = self.read(f"examples/class/submissions/{name}/both.rows")
+            said = self.call("ilocfarm", "check", "--task", "examples/class/tasks/both.iloc", "3", "4", given=rows)[1]
+            for given in (rows + said, b"block 1 both\n" + rows + said):
+                root = self.picture("charts/timeline", given=given)
+                self.expect("title", root.findtext("title"), f"block 1 both: {title}")
+                self.expect("wrong", tooltips(root, mark), marked)
+                self.expect("in the legend", root.find(mark) is not None, bool(marked))
         rows = b"[ ]\n[ multI r1, 2 => r2 ]\n[ ; output 4 ]\n"
         said = b"block 1 - units cycles 4 ours 4 least 4\n  row 2: [ nop ; output 4 ]\ntotal 4 ours 4 least 4\n"
         root = self.picture("charts/timeline", given=rows + said)
-        self.expect("rows of one operation", tooltips(root), ["multI r1, 2 => r2\nunit 1, issued at 1, arrives at 4",
-                    "output 4\nunit 1, issued at 2, arrives at 3\nrow 2: [ nop ; output 4 ]"])
+        self.expect("rows of one operation", tooltips(root), [
+            "multI r1, 2 => r2\nunit 1, issued at 1, arrives at 4",
+            "output 4\nunit 1, issued at 2, arrives at 3\nrow 2: [ nop ; output 4 ]"])
 
     def test_timeline_refuses(self):
         listing = self.call("ilocfarm", "schedule", "--load", "2", given=BLOCK)[1]
+        late = EXPLAINED.replace(b"6 cycle 12", b"6 cycle 200000").replace(b"cycles 13", b"cycles 200001")
         for words, given, said in (
                 ([], listing, "these are not the latencies of the listing: give them by --load, --store and --mult"),
                 (["--block", "2", "--load", "2"], listing, "the listing has no block 2"),
                 ([], b"", "the listing has no block 1"),
-                ([], b"block 1 a\n7\n", "line 2 is none of a listing of schedule or explain: 7")):
+                ([], b"block 1 a\n7\n", "line 2 is none of a listing of schedule or explain: 7"),
+                ([], b"[ ]\ncycles " + b"9" * 5000, "a number of 5000 digits: 9999999999.."),
+                ([], EXPLAINED.replace(b"after 5", b"after 8"), "operation 6 waited for 8, which the listing hasn't"),
+                ([], EXPLAINED.replace(b"cycle 1 unit 1", b"cycle 1 unit 0"),
+                 "block 1 has two operations on one unit in one cycle"),
+                ([], late, "block 1 takes 200001 cycles: at most 160000 are drawn")):
             self.refuses("timeline", words, given, said)
         self.expect("status", self.call("charts/timeline", "--load", "17", given=listing)[0], 2)
 
     def test_timeline_of_hostile_texts(self):
-        """What can't be drawn is said in a line; what is drawn is XML, whatever the bytes, and soon there."""
-        late = EXPLAINED.replace(b"6 cycle 12", b"6 cycle 200000").replace(b"cycles 13", b"cycles 200001")
-        for given, said in (
-                (b"[ ]\ncycles " + b"9" * 5000, "a number of 5000 digits: 9999999999.."),
-                (EXPLAINED.replace(b"after 5", b"after 8"), "operation 6 waited for 8, which the listing hasn't"),
-                (EXPLAINED.replace(b"cycle 1 unit 1", b"cycle 1 unit 0"),
-                 "block 1 has two operations on one unit in one cycle"),
-                (late, "block 1 takes 200001 cycles: at most 160000 are drawn")):
-            self.refuses("timeline", (), given, said)
+        """What is drawn is XML, whatever the bytes, and soon there."""
         begun = time.monotonic()
         self.picture("charts/timeline", given=b"[ " + b";" * 1_000_000 + b" ]")
         self.picture("charts/timeline", given=b"[ load r1 => r2 ]\n" * 10_000)
@@ -229,7 +223,7 @@ class Charts(Place):
                 text[at:at + chance.randrange(2)] = chance.choice(bytes_of)
             status, out, err = self.call("charts/timeline", given=bytes(text))
             if status == 0:
-                ElementTree.fromstring(out)
+                picture_of(out)
             self.expect(f"{bytes(text)}",
                         (status in (0, 1), err.count(b"\n"), err.startswith(b"charts/timeline: ") or not err),
                         (True, status, True))
@@ -248,9 +242,8 @@ class Charts(Place):
         """The picture of the book's example has the nodes and edges that are listed today; dot laid it out once."""
         words = ("--load", "3", "--store", "3", "--mult", "2")
         dot = self.call("ilocfarm", "graph", *words, given=self.read("examples/book.iloc"))[1].decode()
-        root = ElementTree.fromstring(self.read("docs/graph.svg"))
-        titles = [part.find(f"{SVG}title").text
-                  for part in root.iter(f"{SVG}g") if part.get("class") in ("node", "edge")]
+        root = picture_of(self.read("docs/graph.svg"))
+        titles = [part.findtext("title") for part in groups(root) if part.get("class") in ("node", "edge")]
         self.expect("edges", sorted(title for title in titles if ">" in title),
                     sorted(f"b{k}_{i}->b{k}_{j}" for k, i, j, _ in EDGE.findall(dot)))
         self.expect("nodes", sorted(title for title in titles if ">" not in title),
@@ -261,11 +254,11 @@ class Charts(Place):
         self.write("two", b"block 1 x cycles 6\nblock 2 y cycles 0\ntotal 6\n")
         root = self.picture("charts/compare", "one", "last=two")
         self.expect("tooltips", tooltips(root), ["1 -\none: 4\nlast: 6", "2 b\none: 20\nlast: 0"])
-        texts = [text.text for text in root.iter(f"{SVG}text")]
+        texts = [text.text for text in root.iter("text")]
         self.expect("totals", texts[-3:], ["total", "24", "6"])
-        first, second = [group.findall(f"{SVG}circle")[0] for group in root.iter(f"{SVG}g")]
+        first, second = [group.find("circle") for group in groups(root)]
         scale = {text.text: float(text.get("x"))
-                 for text in root.iter(f"{SVG}text") if text.get("text-anchor") == "middle"}
+                 for text in root.iter("text") if text.get("text-anchor") == "middle"}
         self.expect("a mark is at its cycles", float(second.get("cx")), scale["20"])
         self.expect("and between", float(first.get("cx")), (4 * scale["0"] + scale["20"]) / 5)
 
@@ -273,8 +266,9 @@ class Charts(Place):
         self.write("ada", CHECKED)
         self.write("dan", CHECKED.replace(b"differs", b"same").replace(b"cycles 14", b"cycles 24"))
         root = self.picture("charts/compare", "ada", "dan")
-        self.expect("tooltips", tooltips(root), ["1 sum\nada: 14\ndan: 24\nours: 14\nleast: 13",
-                                            "2 dot\nada: 19\ndan: 19\nours: 22\nleast: 20\nada: differs"])
+        self.expect("tooltips", tooltips(root), [
+            "1 sum\nada: 14\ndan: 24\nours: 14\nleast: 13",
+            "2 dot\nada: 19\ndan: 19\nours: 22\nleast: 20\nada: differs"])
 
     def test_compare_priorities(self):
         """The listing and the table of `compare` have a mark for each priority, and the least."""
@@ -284,7 +278,7 @@ class Charts(Place):
         drawn = self.call("charts/compare", "listing")
         self.expect("the table's picture", self.call("charts/compare", "table"), drawn)
         marks = {"least": 21, "chain": 22, "slack": 23, "descendants": 22, "successors": 21, "latency": 21, "order": 21}
-        told = tooltips(ElementTree.fromstring(drawn[1]))[0].splitlines()
+        told = tooltips(picture_of(drawn[1]))[0].splitlines()
         self.expect("tooltip", (told[0], sorted(told[1:])),
                     ("1 dot", sorted(f"{name}: {cycles}" for name, cycles in marks.items())))
         self.write("counts", self.call("ilocfarm", "counts", given=given)[1])
@@ -296,7 +290,7 @@ class Charts(Place):
         self.write("ada", CHECKED)
         self.write("dan", b"block 1 x cycles 15\nblock 2 y cycles 20\ntotal 35\n")
         root = self.picture("charts/compare", "ada", "dan")
-        texts = [text.text for text in root.iter(f"{SVG}text")]
+        texts = [text.text for text in root.iter("text")]
         self.expect("totals", texts[-6:], ["total", "14", "15", "14", "13", "without those that don't pass"])
 
     def test_compare_tells_columns_apart(self):
@@ -304,7 +298,7 @@ class Charts(Place):
         for k in range(37):
             self.write(f"l{k}", b"block 1 - cycles %d\n" % k)
         root = self.picture("charts/compare", *(f"l{k}" for k in range(36)))
-        row = next(root.iter(f"{SVG}g"))
+        row = root.find("g")
         marks = {(mark.tag, mark.get("fill"), shape(mark)) for mark in row if mark.get("fill")}
         self.expect("marks", len(marks), 36)
         self.refuses("compare", [f"l{k}" for k in range(37)], b"", "more than 36 listings can't be told apart")
@@ -332,12 +326,12 @@ class Charts(Place):
         self.write("ada", b"".join(checked) + b"total 1\n")
         self.write("dan", b"".join(b"block %d - cycles 20\n" % k for k in range(1, 101)))
         root = self.picture("charts/compare", "ada", "dan")
-        texts = [text.text for text in root.iter(f"{SVG}text")]
+        texts = [text.text for text in root.iter("text")]
         self.expect("blocks", "99 blocks, 1 left out that don't pass" in texts, True)
-        told = tooltips(root)
-        self.expect("curves", told, ["ada: 2130 cycles, 24 % as few, 1.074 mean, 1.150 9 in 10, 1.150 worst",
-                                *(f"{name}: 1980 cycles, 100 % as few, 1.000 mean, 1.000 9 in 10, 1.000 worst"
-                                  for name in ("dan", "ours"))])
+        as_few = "1980 cycles, 100 % as few, 1.000 mean, 1.000 9 in 10, 1.000 worst"
+        self.expect("curves", tooltips(root), [
+            "ada: 2130 cycles, 24 % as few, 1.074 mean, 1.150 9 in 10, 1.150 worst",
+            f"dan: {as_few}", f"ours: {as_few}"])
         self.expect("height", float(root.get("height")) < 600, True)
 
     def test_devices_fail(self):
