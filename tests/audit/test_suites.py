@@ -90,6 +90,14 @@ class Suites(InFolder):
             self.expect(f"{words}", (status, last), (int("1 passed, 0 failed, 0" not in counts), counts))
         self.expect("what hasn't a case isn't shown", out, f"{counts}\n")
 
+    def test_mistakes(self):
+        for words, said in (["--program", "nosuch"], "nosuch is no program"), (["nosuch"], "there is no suite nosuch"):
+            started = self.started(*words)
+            said_and_status = *started.communicate(timeout=SECONDS), started.returncode
+            self.expect(f"{words}", said_and_status, ("", f"tests/run: {said}\n", 1))
+        status, out, _ = self.ended("--help")
+        self.expect("usage", (status, "--program" in out), (0, True))
+
     def test_signals(self):
         """What it began ends with it."""
         for number in signal.SIGINT, signal.SIGTERM, signal.SIGKILL:

@@ -11,32 +11,29 @@ from oracle.scheduler import ORDERS
 
 PAGE = f"{TOP}/man/ilocfarm.1"
 LITERAL = re.compile(r"^\.Bd -literal.*\n((?:(?!\.Ed).*\n)*)\.Ed\n", re.MULTILINE)
-# The words of a line, the last of which is to be completed, and what is offered.
-COMPLETIONS = (
-    (["s"], "simulate schedule"),
-    (["--v"], "--version"),
-    (["counts", "--load", ""], ""),
-    (["counts", "--load", "1", "--m"], "--mult"),
-    (["help", "c"], "counts compare check"),
-    (["counts", "--priority", ""], " ".join(ORDERS)),
-    (["schedule", "--load", "1", "--priority", "s"], "slack successors"),
-    (["run", "--at", "4", "1"], ""),
-    (["run", "<", ""], ""),
-    (["<", "first.iloc"], ""),
-)
-# Those of commands whose words are files.
-COMPLETIONS_BESIDE = (
-    ("ilocview", ["t"], "timeline"),
-    ("ilocview", ["page", "--l"], "--load"),
-    ("ilocview", ["timeline", "blocks", "--priority", ""], " ".join(ORDERS)),
-    ("ilocview", ["page", ""], ""),
-    ("ilocgrade", ["tasks", "--le"], "--lenient"),
-    ("ilocgrade", ["--policy", "b"], "best"),
-    ("ilocgrade", ["tasks", ""], ""),
-)
+# By line what is offered for its last word.
+COMPLETIONS = {
+    "ilocfarm s": "simulate schedule",
+    "ilocfarm --v": "--version",
+    "ilocfarm counts --load ": "",
+    "ilocfarm counts --load 1 --m": "--mult",
+    "ilocfarm help c": "counts compare check",
+    "ilocfarm counts --priority ": " ".join(ORDERS),
+    "ilocfarm schedule --load 1 --priority s": "slack successors",
+    "ilocfarm run --at 4 1": "",
+    "ilocfarm run < ": "",
+    "ilocfarm < first.iloc": "",
+    "ilocview t": "timeline",
+    "ilocview page --l": "--load",
+    "ilocview timeline blocks --priority ": " ".join(ORDERS),
+    "ilocview page ": "",
+    "ilocgrade tasks --le": "--lenient",
+    "ilocgrade --policy b": "best",
+    "ilocgrade tasks ": "",
+}
 # How a shell is started, and what it reads the completions by; then what is typed, and what the line shows.
 SHELLS = {
-    "bash": (["bash", "--norc", "-i"], "for it in made/*.bash; do source $it; done"),
+    "bash": (["bash", "--norc", "-i"], "for each in made/*.bash; do source $each; done"),
     "zsh": (["zsh", "-f", "-i"], "unset zle_bracketed_paste; fpath=($PWD $fpath); autoload compinit; compinit -u -D"),
 }
 TYPED = (
@@ -152,11 +149,11 @@ class Manual(Place):
         """Of each command all options that its help lists, and what some lines offer."""
         self.make()
         helps = {name: self.call("ilocfarm", name, "--help")[1].decode() for name in self.commands()}
-        options = [([name, "--"], " ".join(re.findall(r"^ +(?:-\w, )?(--[\w-]+)", text, re.MULTILINE)))
-                   for name, text in helps.items()]
-        for name, words, offered in (*(("ilocfarm", *row) for row in (*options, *COMPLETIONS)), *COMPLETIONS_BESIDE):
-            done = self.call("bash", "-c", COMPLETE, name, *words)
-            self.expect(f"completions of {name} {words}", done, (0, f"{offered}\n".encode(), b""))
+        options = {f"ilocfarm {name} --": " ".join(re.findall(r"^ +(?:-\w, )?(--[\w-]+)", text, re.MULTILINE))
+                   for name, text in helps.items()}
+        for line, offered in {**options, **COMPLETIONS}.items():
+            done = self.call("bash", "-c", COMPLETE, *line.split(" "))
+            self.expect(f"completions of {line}", done, (0, f"{offered}\n".encode(), b""))
 
     def test_completes_on_a_terminal(self):
         self.make()
@@ -182,7 +179,7 @@ class Manual(Place):
         self.needs("fish")
         self.make()
         for typed, offered in IN_FISH:
-            line = f"for it in made/*.fish; source $it; end; complete -C '{typed}'"
+            line = f"for each in made/*.fish; source $each; end; complete -C '{typed}'"
             told = self.call("fish", "--no-config", "-c", line, HOME=self.folder)
             self.expect(f"fish completes {typed}", told, (0, offered.encode(), b""))
 
@@ -226,11 +223,3 @@ class Manual(Place):
         """The first heading in CHANGELOG.md is the version that the program names."""
         first = re.search(r"^## (.+)", self.text("CHANGELOG.md"), re.MULTILINE)[1]
         self.expect("--version", self.call("ilocfarm", "--version"), (0, f"ilocfarm {first}\n".encode(), b""))
-
-    def test_tests_want_a_program(self):
-        """tests/run ends with a message where it is given no program, or no suite."""
-        for words, said in ((["--program", "nosuch"], "tests/run: nosuch is no program\n"),
-                            (["nosuch"], "tests/run: there is no suite nosuch\n")):
-            self.expect(f"tests/run {words}", self.call(f"{TOP}/tests/run", *words), (1, b"", said.encode()))
-        status, out, err = self.call(f"{TOP}/tests/run", "--help")
-        self.expect("usage", (status, b"--program" in out, err), (0, True, b""))
