@@ -19,18 +19,9 @@ class Guide(Place):
         self.shell("cp -r examples/class/tasks examples/class/submissions .")
         self.follows([shown for shown in shown_on("docs/GRADING.md") if "programs" in shown[0]])
 
-    def test_comparing(self):
+    def test_other_guides(self):
         self.follows(shown_on("docs/COMPARING.md"))
-
-    def test_students(self):
         self.follows(shown_on("docs/STUDENTS.md"))
-
-    def test_book(self):
-        """README's picture of the book's example, which takes the book's 13 cycles."""
-        words = ("--load", "3", "--store", "3", "--mult", "2")
-        explained = self.call("ilocfarm", "explain", *words, given=self.read("examples/book.iloc"))[1]
-        self.expect("docs/book.svg", self.call("charts/timeline", *words, given=explained)[1],
-                    self.read("docs/book.svg"))
 
     def test_library(self):
         """docs/LIBRARY.md shows the program of crates/iloc_least, and the lines of crates.txt that it needs."""

@@ -48,25 +48,11 @@ def free_ports(count):
 
 
 class Engines(Place):
-    def setUp(self):
-        super().setUp()
-        self.started = []
-        self.addCleanup(self.close)
-
     def start(self, *words):
-        """Starts a daemon, which is ended by its id."""
-        with open(self.path("daemons.log"), "ab") as log:
-            self.started.append(subprocess.Popen(words, cwd=self.folder, env=self.environment, stdin=subprocess.DEVNULL,
-                                                 stdout=log, stderr=log))
-
-    def close(self):
-        for process in reversed(self.started):
-            process.terminate()
-            try:
-                process.wait(20)
-            except subprocess.TimeoutExpired:
-                process.kill()
-                process.wait()
+        """Starts a daemon, which ends with the case."""
+        with open(self.path("daemons.log"), "a") as log:
+            how = {"cwd": self.folder, "env": self.environment, "stdin": subprocess.DEVNULL}
+            self.started.append(self.process(*words, stdout=log, stderr=log, **how))
 
     def until(self, what, holds):
         """Waits until this holds, while the daemons run."""
@@ -78,6 +64,7 @@ class Engines(Place):
 
     def start_slurm(self):
         """Munge, the controller and one node, which is this machine."""
+        self.started = []
         folder, host = self.path("slurm"), socket.gethostname().split(".")[0]
         os.chmod(self.folder, 0o711)       # munged needs its socket within reach of all
         for name in ("", "/state", "/spool"):
@@ -125,14 +112,6 @@ class Engines(Place):
                     (1, b""))
         status, out, err = self.call("cluster/join", "pieces")
         self.expect("joined", (status, out, err.splitlines(True)[0]), self.one_run("run"))
-
-    def test_slurm_array(self):
-        self.needs(*SLURM)
-        self.start_slurm()
-        count = self.write_blocks()
-        asked = ["sbatch", "--quiet", "--wait", f"--array=1-{count}", "cluster/job", "pieces", "ilocfarm", "schedule"]
-        self.expect("sbatch", self.call(*asked), (0, b"", b""))
-        self.expect("joined", self.call("cluster/join", "pieces"), self.one_run("schedule"))
 
     def test_slurm_killed_task(self):
         """A task that hangs with half of its listing written is killed. Nothing is joined, and the array run again
