@@ -118,30 +118,23 @@ class Install(Place):
         self.expect("what can be run", {name for name in files if os.access(self.path(f"made/{name}"), os.X_OK)}, begun)
 
     def test_upgrades(self):
-        """What an older version had, and this hasn't, goes; what is somebody's own stays."""
+        """What an older version had, and this hasn't, goes, also where its folder is a file now; what is somebody's own
+        stays."""
         self.installs("made")
-        for name in ("share/ilocfarm/older/file", "share/ilocfarm/mine/file", "bin/mine"):
+        older = "share/ilocfarm/older", "share/ilocfarm/charts/curve.py"
+        os.remove(self.path(f"made/{older[1]}"))
+        for name in ("bin/mine", "share/ilocfarm/mine/file", *(f"{folder}/file" for folder in older)):
             self.write(f"made/{name}", "")
         listed = self.text("made/share/ilocfarm/installed")
-        self.write("made/share/ilocfarm/installed", f"{listed}share/ilocfarm/older/\nshare/ilocfarm/older/file\n")
+        self.write("made/share/ilocfarm/installed", listed + "".join(f"{folder}/\n{folder}/file\n" for folder in older))
         os.unlink(self.path("made/bin/ilocfarm"))
         os.symlink("mine", self.path("made/bin/ilocfarm"))      # is replaced, and not followed
         self.installs("made")
         self.expect("own file", self.read("made/bin/mine"), b"")
-        self.expect("older", os.path.exists(self.path("made/share/ilocfarm/older")), False)
+        self.expect("older", os.path.exists(self.path(f"made/{older[0]}")), False)
+        self.expect("a file now", self.read(f"made/{older[1]}"), self.read("charts/curve.py"))
         self.expect("listed", self.text("made/share/ilocfarm/installed"), listed)
         self.removes("made", ["bin/mine", "share/ilocfarm/mine/file"])
-
-    def test_folder_becomes_file(self):
-        """What was a folder of an older version, and is a file of this one."""
-        self.installs("made")
-        os.remove(self.path("made/share/ilocfarm/charts/curve.py"))
-        self.write("made/share/ilocfarm/charts/curve.py/older", "")
-        older = "share/ilocfarm/charts/curve.py/\nshare/ilocfarm/charts/curve.py/older\n"
-        self.write("made/share/ilocfarm/installed", self.text("made/share/ilocfarm/installed") + older)
-        self.installs("made")
-        self.expect("file", self.read("made/share/ilocfarm/charts/curve.py"), self.read("charts/curve.py"))
-        self.removes("made")
 
     def test_what_was_there(self):
         """Folders that were there stay, empty ones too; one in the way of a file is named, and nothing is written."""

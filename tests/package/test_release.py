@@ -99,8 +99,10 @@ class Clones(InFolder):
 
 class Release(Clones):
     def test_same_bytes(self):
-        """Two runs, in another folder, in a shallow clone, whoever makes them and whatever the environment."""
+        """Two runs, in another folder, in a shallow clone, whoever makes them, whatever git ignores there and whatever
+        the environment."""
         made = self.packages("one")
+        self.write("one/docs/notes.swp", "")
         self.expect("again", digests(self.packages("one")), digests(made))
         self.git(".", "clone", "--quiet", "one", "a clone/of two")
         self.git(".", "clone", "--quiet", "--depth=1", f"file://{self.path('one')}", "shallow")
@@ -210,13 +212,6 @@ class Refusals(Clones):
         self.git(".", "init", "--quiet")
         self.commits(".")
         self.refuses("one", f"{self.path('one')} is a folder of another repository: package a clone")
-
-    def test_what_is_ignored(self):
-        """A file that git ignores isn't packaged."""
-        self.write("one/docs/notes.swp", "")
-        made = self.packages("one")
-        os.remove(self.path("one/docs/notes.swp"))
-        self.expect("without it", digests(self.packages("one")), digests(made))
 
     def test_somebody_elses_clone(self):
         """git reads no clone of another user; what to do is git's own word."""
