@@ -1,6 +1,5 @@
 """Cases of ./install: what it installs, that it removes just that, and that it does nothing by halves."""
 import os
-import re
 import shlex
 import stat
 import subprocess
@@ -9,6 +8,7 @@ from pathlib import Path
 
 from harness.place import Place
 from harness.program import TESTED, TOP
+from pages.test_links import dead_links
 
 COMMANDS = ("ilocfarm", "ilocgrade", "ilocview")
 # Of each command.
@@ -31,14 +31,6 @@ SOURCES = "charts cluster docs examples grading install man CHANGELOG.md README.
 
 def files_below(folder):
     return {os.path.relpath(f"{at}/{name}", folder) for at, _, names in os.walk(folder) for name in names}
-
-
-def dead_links(folder):
-    """The links of pages to what isn't there."""
-    for page in sorted(name for name in files_below(folder) if name.endswith(".md")):
-        links = re.findall(r"\]\(([^)#:]+)[^):]*\)", Path(f"{folder}/{page}").read_text("utf-8"))
-        at = os.path.join(folder, os.path.dirname(page))
-        yield from (f"{page}: {link}" for link in links if not os.path.exists(os.path.join(at, link)))
 
 
 def mounted(case, folder, size):
@@ -73,7 +65,7 @@ class Install(Place):
         self.expect("files", sorted(files_below(self.path("a prefix"))), sorted(wanted))
         wanted |= {f"{at}/" for name in wanted for at in Path(name).parents if at.name}
         self.expect("the list", self.text("a prefix/share/ilocfarm/installed").splitlines(), sorted(wanted))
-        self.expect("dead links", list(dead_links(self.path("a prefix/share/doc/ilocfarm"))), [])
+        self.expect("dead links", list(dead_links(self.path("a prefix/share/doc/ilocfarm/**/*.md"))), [])
         for made, source in (("bin/ilocfarm", TESTED.program), ("share/man/man1/ilocfarm.1", "man/ilocfarm.1"),
                              ("share/ilocfarm/cluster/join", "cluster/join")):
             self.expect(f"{made} as it is", self.read(f"a prefix/{made}") == self.read(source), True)

@@ -12,7 +12,8 @@ import unittest
 
 from harness.place import InFolder
 from harness.program import TESTED, TOP, needs
-from package.test_install import COMMANDS, GRADED, LAB, dead_links, files_below, mounted
+from package.test_install import COMMANDS, GRADED, LAB, files_below, mounted
+from pages.test_links import dead_links
 
 CLONED = ("build", "install", "launcher.sh", "package", "packaging", "charts", "cluster", "docs", "examples", "grading",
           "man", "CHANGELOG.md", "README.md", ".gitignore", "HANDLES", "crates.txt")
@@ -165,7 +166,7 @@ class Release(Clones):
         wanted |= {"share/lintian/overrides/ilocfarm"}
         self.expect("files", files_below(self.path("deb/usr")), wanted)
         self.expect("sums", self.call("md5sum", "--check", "--quiet", "DEBIAN/md5sums", at="deb"), (0, b"", b""))
-        self.expect("dead links", list(dead_links(self.path("deb/usr/share/doc/ilocfarm"))), [])
+        self.expect("dead links", list(dead_links(self.path("deb/usr/share/doc/ilocfarm/**/*.md"))), [])
         texts = {name: self.text(f"deb/usr/{name}") for name in wanted if name != "bin/ilocfarm"}
         firsts = {text.split("\n")[0] for text in texts.values() if text.startswith("#!")}
         self.expect("interpreters", firsts, {"#!/usr/bin/python3", "#!/bin/sh"})

@@ -7,15 +7,17 @@ import unittest
 
 from pages.promises import CRATES, TOP, read
 
-PAGES = [f"{TOP}/README.md", f"{TOP}/CHANGELOG.md", *sorted(glob.glob(f"{TOP}/docs/*.md"))]
+
+def dead_links(*patterns):
+    """The links of these pages to what isn't there."""
+    for page in (page for pattern in patterns for page in sorted(glob.glob(pattern, recursive=True))):
+        links = re.findall(r"\]\(([^)#:]+)[^):]*\)", read(page))
+        yield from (f"{page}: {link}" for link in links if not os.path.exists(f"{os.path.dirname(page)}/{link}"))
 
 
 class Links(unittest.TestCase):
     def test_links(self):
-        for page in PAGES:
-            with self.subTest(os.path.basename(page)):
-                for link in re.findall(r"\]\(([^)#:]+)\)", read(page)):
-                    self.assertTrue(os.path.exists(f"{os.path.dirname(page)}/{link}"), link)
+        self.assertEqual([*dead_links(f"{TOP}/*.md", f"{TOP}/docs/*.md", f"{TOP}/tests/*.md")], [])
 
     def test_map(self):
         """Where to find it: each definition, each file of code with what is named there, and each test."""
