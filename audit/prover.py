@@ -3,6 +3,7 @@
 docs/DECISIONS.md says why not by `rt must-fail`.
 """
 import os
+import re
 import shutil
 import subprocess
 import tempfile
@@ -16,13 +17,8 @@ QUIET = {"stdin": subprocess.DEVNULL, "stdout": subprocess.PIPE, "stderr": subpr
 
 def uses_of(top):
     """By the name of each crate in crates.txt what it uses."""
-    uses = {}
-    with open(f"{top}/crates.txt", encoding="utf-8") as file:
-        for line in file:
-            name, _, used = line.partition("#")[0].partition(":")
-            if name.strip():
-                uses[name.split()[0]] = used.replace(",", " ").split()
-    return uses
+    lines = re.findall(r"^(\w+)[^:#\n]*:([^#\n]*)", Path(f"{top}/crates.txt").read_text("utf-8"), re.MULTILINE)
+    return {name: used.replace(",", " ").split() for name, used in lines}
 
 
 def linked(one, other):
