@@ -33,8 +33,6 @@ EDGES = {
                         + "loadI 400 => r90\nstore r90 => r90\nstore r90 => r40\nstore r90 => r1\n", 67, 66),
 }
 SEVEN = "loadI 7 => r5\nload r0 => r1\n"
-PASSING = (f"{SEVEN}storeAI r1 => r0, 4\nstoreAI r5 => r0, 8\noutput 8\n[ load r0 => r1 ; loadI 7 => r5 ]\n"
-           "[ storeAI r5 => r0, 8 ]\n[ ]\n[ ]\n[ ]\n[ storeAI r1 => r0, 4 ]\n[ output 8 ]\n").encode()
 SHOWN = "storeAI r3 => r0, 64\noutput 64\n"
 # Blocks, words from address 0 on, and two operations that meet there: a rule by which the second doesn't wait is wrong.
 WEAKER = {
@@ -86,13 +84,6 @@ def not_judged_the_same(files):
         yield from (f"seed {seed}: {wrong}" for wrong in wrongs)
 
 
-def shorter_than_the_bound():
-    """Rows in which stores that are apart pass one another may be right, and shorter than all that keep their order."""
-    out = ending(["check", OPTION], PASSING)[1]
-    if not out.startswith(b"block 1 - same cycles 10 ours 12 least 12\n"):
-        yield f"{out}"
-
-
 def without(pair):
     """By addresses, but that these two don't count."""
     def rule(ops):
@@ -115,7 +106,6 @@ def allows_less(text, words, pair):
 def disambiguate_cases():
     yield Check("disambiguate/simulated", unlike_a_plain_run, RUNS if TESTED.is_short else ALL_RUNS)
     yield Check("disambiguate/judged", not_judged_the_same, FILES if TESTED.is_short else ALL_FILES)
-    yield Check("disambiguate/shorter_than_the_bound", shorter_than_the_bound)
     for name, (text, book, apart) in EDGES.items():
         for words, cycles in ((["counts"], book), (["counts", OPTION], apart)):
             yield listed(f"disambiguate/{name}/{'_'.join(words)}", text.encode(),
