@@ -195,10 +195,6 @@ def add_latencies(made):
                           help=f"cycles that a {option} takes, 1 to {LONGEST_LATENCY} [{usual}]")
 
 
-def latencies_of(asked):
-    return {option: getattr(asked, option) for option in USUAL}
-
-
 def lines_of(data):
     """Only a newline ends a line, as it does for the program."""
     return data.decode("utf-8", "replace").removesuffix("\n").split("\n")

@@ -85,14 +85,13 @@ def picture(width, height, title, parts):
     return "\n".join([head, element("title", escape(title)), element("style", STYLE), *parts, "</svg>"]) + "\n"
 
 
-def draw(parser, drawn):
-    """Writes the picture that `drawn` makes of what is asked for, and gives the status of the script."""
-    asked = parser.parse_args()
+def draw(script, drawn):
+    """Writes the picture that `drawn` makes, and gives the status of the script."""
     try:
-        made = drawn(asked)
+        made = drawn()
         with open(1, "w", encoding="utf-8", closefd=False) as out:
             out.write(made)
     except (Unread, OSError) as why:
-        print(f"{parser.prog}: {why}", file=sys.stderr)
+        print(f"{script}: {why}", file=sys.stderr)
         return 1 if isinstance(why, Unread) else 4
     return 0
