@@ -36,6 +36,7 @@ fn proves_what_is_best(rt: HostRuntime) -> Result<(), Fail> {
     for (text, nodes, wanted) in OPTIMA {
         let block = block_of(rt.alloc(), text)?;
         graph.refill(MemoryRule::Book, &block, &times)?;
+        let least = least_of(rt.alloc(), &graph)?;
         let optimum = optimizer.optimize(&block, &graph, *nodes)?;
         assert!(rt; optimum.bound == u64::from(wanted.bound), "{nodes}");
         assert!(rt;
@@ -43,7 +44,6 @@ fn proves_what_is_best(rt: HostRuntime) -> Result<(), Fail> {
             "{nodes}"
         );
         optimizer.take_back(optimum.schedule);
-        let least = least_of(rt.alloc(), &graph)?;
         assert!(rt;
             optimizer.seek_if(&block, &graph, least, Some(*nodes))? == Some(*wanted),
             "{nodes}"
