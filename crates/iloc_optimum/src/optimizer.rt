@@ -44,25 +44,29 @@ fn count_of(schedule: &Schedule, latencies: &Latencies) -> u64
     cycles(schedule, latencies)
 }
 
-/// Puts the other schedule in the place of the best one if it takes fewer cycles, and answers how many it takes. The scheduler
-/// takes back the buffers of the one that is left over.
+/// Puts the other schedule in the place of the best one, whose cycles are handed in too, if it takes fewer, and answers how many
+/// it takes. The scheduler takes back the buffers of the one that is left over.
 fn keep_shorter(
     scheduler: &mut Scheduler,
     latencies: &Latencies,
     best: &mut Schedule,
+    fewest: &mut u32,
     mut other: Schedule,
 ) -> u32
+    requires { fewest.old ≡ cycles_of latencies.now best.old }
+    ensures fewest { fewest.new ≡ cycles_of latencies.now best.new }
     ensures counted { result ≡ cycles_of latencies.now other }
     ensures one { (best.new ≡ best.old) ⊎ (best.new ≡ other) }
     ensures fewer { cycles_of latencies.now best.new ≤ cycles_of latencies.now best.old }
     ensures few { cycles_of latencies.now best.new ≤ cycles_of latencies.now other }
 {
-    let cycles = count_of(&other, latencies);
-    if cycles < count_of(best, latencies) {
+    let cycles = count_of(&other, latencies) as u32;
+    if cycles < *fewest {
         mem::swap(best, &mut other);
+        *fewest = cycles;
     }
     scheduler.take_back(other);
-    cycles as u32
+    cycles
 }
 
 /// Puts the schedule that is greedy by a heuristic in the place of the best one if it takes fewer cycles, and answers how many
@@ -72,14 +76,17 @@ fn try_order(
     block: &Block,
     graph: &Graph,
     best: &mut Schedule,
+    fewest: &mut u32,
     heuristic: Heuristic,
 ) -> Result<u32, NoMemory>
-    requires { graph.now.ops ≡ renamed block.now.ops }
+    requires graph { graph.now.ops ≡ renamed block.now.ops }
+    requires fewest { fewest.old ≡ cycles_of graph.now.latencies best.old }
+    ensures fewest { OnOk result (fewest.new ≡ cycles_of graph.now.latencies best.new) }
     ensures counted { IfOk result (IsCountOf graph.now.rule heuristic graph.now.latencies block.now.ops) }
     ensures shorter { OnOk result (IsShortened graph.now.rule graph.now.latencies block.now.ops heuristic best.old best.new) }
 {
     let other = scheduler.lend_as(graph, heuristic)?;
-    Ok(keep_shorter(scheduler, graph.latencies(), best, other))
+    Ok(keep_shorter(scheduler, graph.latencies(), best, fewest, other))
 }
 
 /// What each number leaves of the limit.
@@ -133,10 +140,12 @@ fn try_limit(
         Found::Cycles(cycles) => {
             let ranks = rests_of(alloc, &cycles, limit)?;
             let schedule = scheduler.lend(graph, &ranks)?;
+            let mut fewest = count_of(&optimum.schedule, graph.latencies()) as u32;
             keep_shorter(
                 scheduler,
                 graph.latencies(),
                 &mut optimum.schedule,
+                &mut fewest,
                 schedule,
             );
             Ok(true)
@@ -197,13 +206,15 @@ impl Optimizer {
         ensures { IfOk result (AreOrders graph.now.rule graph.now.latencies block.now.ops) }
     {
         let mut best = self.scheduler.lend_as(graph, Heuristic::Chain)?;
-        let mut cycles = [count_of(&best, graph.latencies()) as u32; HEURISTIC_COUNT];
+        let mut fewest = count_of(&best, graph.latencies()) as u32;
+        let mut cycles = [fewest; HEURISTIC_COUNT];
         for place in 1..HEURISTIC_COUNT {
             cycles[place] = try_order(
                 &mut self.scheduler,
                 block,
                 graph,
                 &mut best,
+                &mut fewest,
                 HEURISTICS[place],
             )?;
         }

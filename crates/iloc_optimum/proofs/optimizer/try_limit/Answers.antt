@@ -33,4 +33,4 @@ returns-in_ok-schedule-in-Cycles-clause-known c =
     with_schedule g.rule g.latencies block c.args.optimum.now new c.requires.known
     (one_lawful g.rule g.latencies block old new c.in_ok-schedule-in-Cycles.schedule the.greedy.lawful c.keep_shorter.ensures.one
     c.requires.known.lawful)
-    (subst (λ lat. cycles_of lat new ≤ cycles_of lat old) c.latencies.ensures c.keep_shorter.ensures.fewer)
+    (subst (λ lat. cycles_of lat new ≤ cycles_of lat old) c.latencies-in-Cycles.ensures c.keep_shorter.ensures.fewer)

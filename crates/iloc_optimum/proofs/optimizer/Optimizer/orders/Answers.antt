@@ -15,6 +15,7 @@ loop-place-init c =
           (slice_index (replicate (length heuristics) c.count_of.result) k)) first
           (count_of_the g.rule g.latencies c.args.block.now.ops Chain c.in_ok-best.best the c.count_of.result
           (c.count_of.ensures.value ∙ ap (λ lat. cycles_of lat c.in_ok-best.best) c.latencies.ensures));
+      fewest = c.count_of.ensures.value ∙ ap (λ lat. cycles_of lat c.in_ok-best.best) c.latencies.ensures;
       best = best_of_one g.rule g.latencies c.args.block.now.ops _ _ c.in_ok-best.best the;
     }
 
@@ -27,6 +28,7 @@ loop-place-preserved c =
       size = length-set c.loop-place.cycles c.loop-place.place _ ∙ old.size;
       counts = counts_more g.rule g.latencies block c.loop-place.cycles c.loop-place.place _ _ old.size c.loop-place-test.true old.counts
           c.in_ok-cycles.ensures.counted;
+      fewest = c.in_ok-cycles.ensures.fewest;
       best = best_of_more g.rule g.latencies block _ c.loop-place.place _ _ _ c.loop-place-test.true old.best
           c.in_ok-cycles.ensures.shorter;
     }
