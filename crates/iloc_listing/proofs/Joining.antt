@@ -1,10 +1,6 @@
 -- Texts that are joined before they are written, part after part.
-use Rattle.std.proofs.Common.{◌≡◌, ◌∙◌, ℕ, List, [], ◌++◌, Option, ap, append-nil, append_assoc, subst, sym}
-use Rattle.std.proofs.KnownBytes.{Appends-nil, Appends-trans}
-use Rattle.std.specs.Io.KnownBytes.{Appends}
+use Rattle.iloc_listing.proofs.Common.{◌≡◌, ℕ, List, [], ◌++◌, Option, sym, ap, ◌∙◌, subst, append_assoc, append-nil, Appends-nil, Appends-trans, Appends, WritesFront, Joins, JoinsTo}
 use Rattle.iloc_listing.proofs.Written.{front_behind}
-use Rattle.iloc_listing.specs.Device.{WritesFront}
-use Rattle.iloc_listing.specs.Steps.Joined.{Joins, JoinsTo}
 
 -- the buffer and the text were written
 pub goes : (old mid new : Option (List ℕ)) (before after text : List ℕ) → Appends old mid before → after ≡ []

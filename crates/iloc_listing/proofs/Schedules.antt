@@ -1,17 +1,12 @@
 -- The greedy schedules of a file's blocks: there is one list of them, they keep the outcomes, and their cycles are few.
-use Rattle.std.proofs.Common.{◌≡◌, ℕ, suc, ◌+◌, ◌*◌, ◌^◌, ◌<◌, ◌≤◌, List, [], ◌∷◌, length, sum_by, Some, refl, sym, subst, ◌∙◌, arith}
-use Rattle.std.specs.Prelude.{slice_get}
-use Rattle.std.specs.List.{AllByRecursion}
-use Rattle.std.proofs.lemmas.List.Sums.{sum_by-cons, length-filter, count_by-le-length}
+use Rattle.iloc_listing.proofs.Common.{◌≡◌, ℕ, suc, ◌+◌, ◌*◌, ◌^◌, ◌<◌, ◌≤◌, List, [], ◌∷◌, length, slice_get, Some, sum_by, sym, refl, ◌∙◌, subst, arith, count_by-le-length, length-filter, sum_by-cons, AllByRecursion, cycles, Row, cycles_of, total_cycles}
 use Rattle.iloc_ops.specs.Limits.{MAX_OPS}
 use Rattle.iloc_ops.specs.declared.op.Op.{Op}
 use Rattle.iloc_ops.specs.declared.file.Block.{Block}
 use Rattle.iloc_text.specs.Files.{AreWithinLimits}
 use Rattle.iloc_timed.specs.declared.latencies.Latencies.{Latencies}
-use Rattle.iloc_timed.specs.declared.row.Row.{Row}
 use Rattle.iloc_timed.specs.Kinds.{kind}
 use Rattle.iloc_timed.specs.Latency.{latency}
-use Rattle.iloc_timed.specs.Cycles.{cycles}
 use Rattle.iloc_timed.specs.Schedule.{Table}
 use Rattle.iloc_timed.proofs.WholeRuns.{short_latency}
 use Rattle.iloc_rules.specs.declared.delay_pairs.TheConstants.{LONGEST_DELAY}
@@ -30,7 +25,6 @@ use Rattle.iloc_rules.proofs.Basics.Members.{from_map}
 use Rattle.iloc_rules.proofs.Bounds.BusyCycles.{busy_bound_where}
 use Rattle.iloc_rules.proofs.Choice.OneGreedy.{greedy_same_as, greedy_same_where}
 use Rattle.iloc_rules.proofs.Outcome.LawfulOutcomes.{lawful_same_outcome}
-use Rattle.iloc_listing.specs.Listing.{cycles_of, total_cycles}
 use Rattle.iloc_listing.specs.Schedules.{AreGreedyAs, IsGreedyAs, IsScheduleOf, IsTheGreedy, IsTheGreedyBy, IsTheGreedyUnder, KeepOutcomes}
 use Rattle.iloc_listing.specs.Limits.{most_cycles}
 

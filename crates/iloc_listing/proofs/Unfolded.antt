@@ -1,10 +1,5 @@
 -- What a folded text says as it grows, and as it is written.
-use Rattle.std.proofs.Common.{◌≡◌, ◌∙◌, ℕ, zero, suc, ◌+◌, ◌-◌, ◌≤◌, ◌<◌, get_or, List, [], ◌∷◌, ◌++◌, length, take, drop, refl, sym, ap, arith, append_assoc, append-nil, length-drop}
-use Rattle.std.specs.Prelude.{codes}
-use Rattle.std.proofs.lemmas.List.{take-append-le, drop-append-le, drop_all, drop_more, take_all}
-use Rattle.std.proofs.lemmas.List.Sums.{sum_by-append, sum_by-cons}
-use Rattle.iloc_listing.specs.declared.text.EmptyRows.{EmptyRows}
-use Rattle.iloc_listing.specs.Steps.Text.{bytes_before, empty_rows, unfolded}
+use Rattle.iloc_listing.proofs.Common.{◌≡◌, ℕ, zero, suc, ◌+◌, ◌-◌, ◌<◌, ◌≤◌, List, [], ◌∷◌, ◌++◌, length, get_or, take, drop, codes, sym, refl, ap, ◌∙◌, append_assoc, append-nil, arith, length-drop, take_all, drop-append-le, drop_all, drop_more, take-append-le, sum_by-append, sum_by-cons, bytes_before, empty_rows, unfolded, EmptyRows}
 
 -- one more row at the start is one more at the end
 pub empty_rows_more : (n : ℕ) → empty_rows n ++ codes "[ nop ; nop ]\n" ≡ empty_rows (suc n)

@@ -1,9 +1,5 @@
 -- What is left of a text after a write.
-use Rattle.std.proofs.Common.{◌≡◌, ℕ, ◌+◌, ◌-◌, ◌<◌, List, ◌++◌, Err, Ok, OnErr, Option, Result, get_or, length, take, drop, arith, append_assoc, take-append-drop, length-drop}
-use Rattle.std.specs.List.{flat_map}
-use Rattle.std.specs.Io.KnownBytes.{Appends}
-use Rattle.iloc_listing.specs.Device.{WritesFront}
-use Rattle.std.proofs.lemmas.List.{drop_more, take_all}
+use Rattle.iloc_listing.proofs.Common.{◌≡◌, ℕ, ◌+◌, ◌-◌, ◌<◌, List, ◌++◌, length, get_or, take, drop, OnErr, Ok, Err, Option, Result, append_assoc, arith, length-drop, take-append-drop, take_all, drop_more, Appends, flat_map, WritesFront}
 use Rattle.std.proofs.lemmas.List.Concat.{flat_map-cons}
 
 -- the bytes taken join the front, and the others are left

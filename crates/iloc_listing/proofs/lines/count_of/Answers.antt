@@ -1,5 +1,4 @@
-use Rattle.std.proofs.Common.{◌≤◌, ◌+◌, length, arith}
-use Rattle.iloc_timed.specs.Cycles.{cycles}
+use Rattle.iloc_listing.proofs.Common.{◌+◌, ◌≤◌, length, arith, cycles}
 use Rattle.iloc_listing.proofs.Schedules.{cycles_within}
 use Rattle.iloc_listing.proofs.lines.count_of.Goals as goal
 

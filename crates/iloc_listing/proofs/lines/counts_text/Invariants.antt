@@ -1,5 +1,4 @@
-use Rattle.std.proofs.Common.{◌≡◌, ◌+◌, ◌++◌, drop}
-use Rattle.iloc_listing.specs.Listing.{count_entry, entries, total_cycles}
+use Rattle.iloc_listing.proofs.Common.{◌≡◌, ◌+◌, ◌++◌, drop, count_entry, entries, total_cycles}
 use Rattle.iloc_listing.proofs.lines.counts_text.Given as goal
 
 abbrev pub invariant-loop-index : goal.invariant-loop-index

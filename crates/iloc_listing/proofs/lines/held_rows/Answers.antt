@@ -1,10 +1,5 @@
-use Rattle.std.proofs.Common.{◌≡◌, ◌∙◌, None, take, sym, subst, arith, refl, ℕ, ◌+◌, ◌-◌, ◌<◌, ◌≤◌, get_or, length, Bool, true, false, ◌&&◌, List, [], ◌∷◌, ◌++◌, ap, ap₂}
-use Rattle.iloc_timed.specs.declared.row.Row.{Row}
-use Rattle.iloc_listing.specs.Listing.{held_rows, is_empty}
-use Rattle.std.specs.Prelude.{if◌then◌else◌}
-use Rattle.std.specs.List.{list_all}
+use Rattle.iloc_listing.proofs.Common.{◌≡◌, ℕ, ◌+◌, ◌-◌, ◌<◌, ◌≤◌, Bool, true, false, ◌&&◌, List, [], ◌∷◌, ◌++◌, length, get_or, take, if◌then◌else◌, None, sym, refl, ap, ◌∙◌, subst, ap₂, arith, take_more, list_all, Row, held_rows, is_empty}
 use Rattle.std.proofs.Math.Bool.{and-true}
-use Rattle.std.proofs.lemmas.List.{take_more}
 use Rattle.std.proofs.lemmas.List.Folds.{list_all-append}
 use Rattle.std.proofs.lemmas.Bool.{and_right}
 use Rattle.iloc_listing.proofs.lines.held_rows.Goals as goal

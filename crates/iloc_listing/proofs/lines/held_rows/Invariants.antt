@@ -1,5 +1,4 @@
-use Rattle.std.proofs.Common.{◌≡◌, ◌≤◌, length, take}
-use Rattle.iloc_listing.specs.Listing.{held_rows}
+use Rattle.iloc_listing.proofs.Common.{◌≡◌, ◌≤◌, length, take, held_rows}
 use Rattle.iloc_listing.proofs.lines.held_rows.Given as goal
 
 -- behind so many rows all are empty

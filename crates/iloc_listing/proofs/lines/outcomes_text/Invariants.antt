@@ -1,5 +1,4 @@
-use Rattle.std.proofs.Common.{◌≡◌, ◌+◌, ◌++◌, drop}
-use Rattle.iloc_listing.specs.Listing.{entries, outcome_entry}
+use Rattle.iloc_listing.proofs.Common.{◌≡◌, ◌+◌, ◌++◌, drop, entries, outcome_entry}
 use Rattle.iloc_listing.proofs.lines.outcomes_text.Given as goal
 
 abbrev pub invariant-loop-index : goal.invariant-loop-index

@@ -1,6 +1,4 @@
-use Rattle.std.proofs.Common.{◌≡◌, ◌++◌, take}
-use Rattle.std.specs.List.{flat_map}
-use Rattle.iloc_listing.specs.Listing.{word_line}
+use Rattle.iloc_listing.proofs.Common.{◌≡◌, ◌++◌, take, flat_map, word_line}
 use Rattle.iloc_listing.proofs.lines.push_words.Given as goal
 
 abbrev pub invariant-loop-word : goal.invariant-loop-word

@@ -1,5 +1,4 @@
-use Rattle.std.proofs.Common.{◌≡◌, ◌+◌, ◌++◌, drop}
-use Rattle.iloc_listing.specs.Listing.{entries, schedule_entry, total_cycles}
+use Rattle.iloc_listing.proofs.Common.{◌≡◌, ◌+◌, ◌++◌, drop, entries, schedule_entry, total_cycles}
 use Rattle.iloc_listing.proofs.lines.schedules_text.Given as goal
 
 abbrev pub invariant-loop-index : goal.invariant-loop-index

@@ -1,8 +1,4 @@
-use Rattle.std.proofs.Common.{◌∙◌, ◌++◌, ap, sum_by, sym}
-use Rattle.std.proofs.lemmas.List.Sums.{sum-map}
-use Rattle.std.proofs.lemmas.Result.{IfOk-weaker}
-use Rattle.std.specs.List.{flat_map}
-use Rattle.iloc_listing.specs.Listing.{total_of}
+use Rattle.iloc_listing.proofs.Common.{◌++◌, sum_by, sym, ap, ◌∙◌, sum-map, IfOk-weaker, flat_map, total_of}
 use Rattle.iloc_listing.proofs.scheduled.with_total.Goals as goal
 
 pub returns : goal.returns

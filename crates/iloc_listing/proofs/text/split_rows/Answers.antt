@@ -1,9 +1,6 @@
-use Rattle.std.proofs.Common.{◌≡◌, ◌+◌, ◌≤◌, ◌++◌, length, drop, take, ◌-◌, sym, ap, ◌∙◌, arith, append_assoc, length-drop, add-one}
-use Rattle.std.specs.Prelude.{codes}
+use Rattle.iloc_listing.proofs.Common.{◌≡◌, ◌+◌, ◌-◌, ◌≤◌, ◌++◌, length, take, drop, codes, sym, ap, ◌∙◌, append_assoc, add-one, arith, length-drop, take_all, empty_rows}
 use Rattle.std.proofs.lemmas.Bool.Decides.{Decides-eqb}
-use Rattle.std.proofs.lemmas.List.{take_all}
 use Rattle.std.proofs.lemmas.Slice.Eq.{starts_is}
-use Rattle.iloc_listing.specs.Steps.Text.{empty_rows}
 use Rattle.iloc_listing.proofs.Unfolded.{empty_rows_more}
 use Rattle.iloc_listing.proofs.text.split_rows.Goals as goal
 

@@ -1,5 +1,4 @@
-use Rattle.std.proofs.Common.{◌≡◌, ◌≤◌, ◌+◌, ◌++◌, length}
-use Rattle.iloc_listing.specs.Steps.Text.{empty_rows}
+use Rattle.iloc_listing.proofs.Common.{◌≡◌, ◌+◌, ◌≤◌, ◌++◌, length, empty_rows}
 use Rattle.iloc_listing.proofs.text.split_rows.Given as goal
 
 abbrev pub invariant-loop-rows : goal.invariant-loop-rows

@@ -1,6 +1,4 @@
-use Rattle.std.proofs.Common.{◌≡◌, ◌+◌, ◌-◌, ap, arith, refl}
-use Rattle.std.specs.Prelude.{codes}
-use Rattle.iloc_listing.specs.Steps.Text.{empty_rows}
+use Rattle.iloc_listing.proofs.Common.{◌≡◌, ◌+◌, ◌-◌, codes, refl, ap, arith, empty_rows}
 use Rattle.iloc_listing.proofs.Joining.{all_joined, none_joined, part_failed, part_joined}
 use Rattle.iloc_listing.proofs.Written.{on_err}
 use Rattle.iloc_listing.proofs.Unfolded.{one_row_less}

@@ -1,6 +1,4 @@
-use Rattle.std.proofs.Common.{◌-◌}
-use Rattle.iloc_listing.specs.Steps.Joined.{JoinsTo}
-use Rattle.iloc_listing.specs.Steps.Text.{empty_rows}
+use Rattle.iloc_listing.proofs.Common.{◌-◌, JoinsTo, empty_rows}
 use Rattle.iloc_listing.proofs.text.write_empty_rows.Given as goal
 
 abbrev pub invariant-loop-row : goal.invariant-loop-row

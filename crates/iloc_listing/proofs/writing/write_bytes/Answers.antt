@@ -1,5 +1,4 @@
-use Rattle.std.proofs.Common.{◌++◌, take, refl}
-use Rattle.std.proofs.KnownBytes.{Appends-trans}
+use Rattle.iloc_listing.proofs.Common.{◌++◌, take, refl, Appends-trans}
 use Rattle.iloc_listing.proofs.Written.{moves_on}
 use Rattle.iloc_listing.proofs.writing.write_bytes.Goals as goal
 

@@ -1,5 +1,4 @@
-use Rattle.std.proofs.Common.{[], ◌++◌, ap, append-nil, refl}
-use Rattle.std.proofs.lemmas.Result.{on_err_weaker, on_ok_weaker}
+use Rattle.iloc_listing.proofs.Common.{[], ◌++◌, refl, ap, append-nil, on_err_weaker, on_ok_weaker}
 use Rattle.iloc_listing.proofs.Joining.{goes}
 use Rattle.iloc_listing.proofs.Written.{front_behind, front_before, on_err}
 use Rattle.iloc_listing.proofs.writing.write_joined.Goals as goal

@@ -1,7 +1,4 @@
-use Rattle.std.proofs.Common.{◌≡◌, ◌+◌, ◌-◌, ◌≤◌, [], ◌++◌, length, refl, sym, ap, ◌∙◌, arith, rules, append-nil, length-append}
-use Rattle.std.proofs.lemmas.List.{nil_from_length}
-use Rattle.iloc_listing.specs.declared.text.EmptyRows.{EmptyRows}
-use Rattle.iloc_listing.specs.Steps.Text.{bytes_before, unfolded}
+use Rattle.iloc_listing.proofs.Common.{◌≡◌, ◌+◌, ◌-◌, ◌≤◌, [], ◌++◌, length, sym, refl, ap, ◌∙◌, append-nil, arith, length-append, rules, nil_from_length, bytes_before, unfolded, EmptyRows}
 use Rattle.iloc_listing.proofs.Unfolded.{before_more, grown_line, grown_run}
 use Rattle.iloc_listing.proofs.text.FoldedText.folded.Goals as goal
 use Rattle.iloc_listing.proofs.text.FoldedText.folded.Goals.{then-rows-gt0+in_ok-push, else-rows-gt0}

@@ -1,5 +1,4 @@
-use Rattle.std.proofs.Common.{◌≡◌, ◌≤◌, ◌++◌, length}
-use Rattle.iloc_listing.specs.Steps.Text.{bytes_before, unfolded}
+use Rattle.iloc_listing.proofs.Common.{◌≡◌, ◌≤◌, ◌++◌, length, bytes_before, unfolded}
 use Rattle.iloc_listing.proofs.text.FoldedText.folded.Given as goal
 
 abbrev pub invariant-loop-rest : goal.invariant-loop-rest

@@ -1,9 +1,4 @@
-use Rattle.std.proofs.Common.{◌≡◌, ◌+◌, ◌<◌, ◌++◌, [], ap, ℕ, List, ap₂, ◌∙◌, sym, arith, refl, drop, take, get_or, length, append-nil, length-drop, ◌≤◌}
-use Rattle.std.proofs.lemmas.List.{drop_all, drop_more}
-use Rattle.std.proofs.lemmas.List.Sums.{sum_by-cons}
-use Rattle.std.proofs.lemmas.Result.{on_err_weaker, on_ok_weaker}
-use Rattle.iloc_listing.specs.declared.text.EmptyRows.{EmptyRows}
-use Rattle.iloc_listing.specs.Steps.Text.{bytes_before, empty_rows, unfolded}
+use Rattle.iloc_listing.proofs.Common.{◌≡◌, ℕ, ◌+◌, ◌<◌, ◌≤◌, List, [], ◌++◌, length, get_or, take, drop, sym, refl, ap, ◌∙◌, ap₂, append-nil, arith, length-drop, drop_all, drop_more, sum_by-cons, on_err_weaker, on_ok_weaker, bytes_before, empty_rows, unfolded, EmptyRows}
 use Rattle.iloc_listing.proofs.Joining.{all_joined, none_joined, part_failed, part_joined}
 use Rattle.iloc_listing.proofs.Written.{on_err}
 use Rattle.iloc_listing.proofs.Unfolded.{next_run}

@@ -1,6 +1,4 @@
-use Rattle.std.proofs.Common.{◌≤◌, drop, length}
-use Rattle.iloc_listing.specs.Steps.Joined.{JoinsTo}
-use Rattle.iloc_listing.specs.Steps.Text.{bytes_before, unfolded}
+use Rattle.iloc_listing.proofs.Common.{◌≤◌, length, drop, JoinsTo, bytes_before, unfolded}
 use Rattle.iloc_listing.proofs.text.FoldedText.write_to.Given as goal
 
 abbrev pub invariant-loop-run : goal.invariant-loop-run

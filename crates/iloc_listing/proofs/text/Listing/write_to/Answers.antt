@@ -1,9 +1,4 @@
-use Rattle.std.proofs.Common.{[], ◌++◌, ap, ◌∙◌, append-nil, arith, refl, subst, sym}
-use Rattle.std.proofs.lemmas.List.{drop_all}
-use Rattle.std.proofs.lemmas.Result.{on_err_weaker, on_ok_weaker}
-use Rattle.std.specs.Io.KnownBytes.{Appends}
-use Rattle.std.specs.List.{flat_map}
-use Rattle.iloc_listing.specs.Device.{WritesFront}
+use Rattle.iloc_listing.proofs.Common.{[], ◌++◌, sym, refl, ap, ◌∙◌, subst, append-nil, arith, drop_all, on_err_weaker, on_ok_weaker, Appends, flat_map, WritesFront}
 use Rattle.iloc_listing.proofs.Joining.{buffer_failed, buffer_written, none_joined, part_failed, part_joined}
 use Rattle.iloc_listing.proofs.Written.{next_entry, on_err}
 use Rattle.iloc_listing.proofs.text.Listing.write_to.Goals as goal

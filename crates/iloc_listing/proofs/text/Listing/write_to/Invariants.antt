@@ -1,6 +1,4 @@
-use Rattle.std.proofs.Common.{[], ◌++◌, drop}
-use Rattle.std.specs.List.{flat_map}
-use Rattle.iloc_listing.specs.Steps.Joined.{JoinsTo}
+use Rattle.iloc_listing.proofs.Common.{[], ◌++◌, drop, flat_map, JoinsTo}
 use Rattle.iloc_listing.proofs.text.Listing.write_to.Given as goal
 
 abbrev pub invariant-loop-entry : goal.invariant-loop-entry
