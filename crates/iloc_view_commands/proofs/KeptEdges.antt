@@ -1,15 +1,9 @@
 -- The delay pairs that a graph keeps as edges imply all.
-use Rattle.std.proofs.Common.{ℕ, ◌+◌, ◌≤◌, List, get_or, map, subst}
-use Rattle.std.specs.Prelude.{All}
-use Rattle.iloc_ops.specs.declared.op.Op.{Op}
-use Rattle.iloc_timed.specs.declared.latencies.Latencies.{Latencies}
+use Rattle.iloc_view_commands.proofs.Common.{ℕ, ◌+◌, ◌≤◌, List, map, get_or, All, subst, Op, Latencies, counts_by, MemoryRule, ImplyAll}
 use Rattle.iloc_rules.specs.declared.delay_pairs.Pair.{Pair}
-use Rattle.iloc_rules.specs.declared.memory_rule.MemoryRule.{MemoryRule}
 use Rattle.iloc_rules.specs.Delays.{IsDelayPairWhere}
-use Rattle.iloc_rules.specs.Rule.{counts_by}
 use Rattle.iloc_rules.proofs.Basics.Members.{contains_from, from_map, in_at, in_from, in_map}
 use Rattle.iloc_sched.specs.declared.edges.Edge.{Edge}
-use Rattle.iloc_explain.specs.Measures.{ImplyAll}
 
 abbrev pub pair_of : Edge → Pair
 pair_of e = record { first = e.from; second = e.to; delay = e.delay }

@@ -1,2 +1,3 @@
+pub mod Common
 pub mod Listers
 pub mod KeptEdges

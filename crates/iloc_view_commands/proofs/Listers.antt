@@ -1,38 +1,24 @@
 -- What the commands list of a block.
-use Rattle.std.proofs.Common.{◌≡◌, ℕ, ℤ, List, [], ◌++◌, Option, Some, None, length, refl, sym, subst, ap, ap₂, ◌∙◌, append_assoc, arith}
+use Rattle.iloc_view_commands.proofs.Common.{◌≡◌, ℕ, List, [], ◌++◌, length, ℤ, IfSome, Some, None, codes, Option, sym, refl, ap, ◌∙◌, subst, ap₂, append_assoc, arith, Op, Latencies, length-priorities_by_where, ruled_priorities, counts_by, priorities_under, MemoryRule, GraphOf, of_block, least_of_under, least_under, AreMeasures, IsCluster, memory_rule, block_head, cycles_of, parts_joined, IsExplainEntry, IsSaid}
 use Rattle.std.proofs.Math.Path.{transport}
-use Rattle.std.specs.Prelude.{codes, IfSome}
 use Rattle.iloc_ops.specs.declared.file.Block.{Block}
-use Rattle.iloc_ops.specs.declared.op.Op.{Op}
 use Rattle.iloc_timed.specs.Schedule.{Table}
-use Rattle.iloc_timed.specs.declared.latencies.Latencies.{Latencies}
 use Rattle.iloc_rules.specs.declared.heuristic.Heuristic.{Heuristic}
-use Rattle.iloc_rules.specs.declared.memory_rule.MemoryRule.{MemoryRule}
 use Rattle.iloc_rules.specs.Greedy.{IsGreedyWhere}
 use Rattle.iloc_rules.specs.Renaming.{numbering, renamed, without_nops}
-use Rattle.iloc_rules.specs.Rule.{counts_by, priorities_under}
-use Rattle.iloc_rules.proofs.PriorityValues.Named.{length-priorities_by_where, ruled_priorities}
 use Rattle.iloc_rules.proofs.Renamed.MentionedSources.{length-renamed_by}
-use Rattle.iloc_sched.specs.Graph.GraphOf.{GraphOf, of_block}
-use Rattle.iloc_bound.specs.Bound.{least_of_under, least_under}
-use Rattle.iloc_explain.specs.Measures.{AreMeasures}
 use Rattle.iloc_explain.specs.declared.measures.Measures.{Measures}
-use Rattle.iloc_graph.specs.Listing.{IsCluster}
 use Rattle.iloc_trace.specs.Events.{events}
 use Rattle.iloc_trace.specs.Listing.{trace_lines}
 use Rattle.iloc_args.specs.Flags.{has}
 use Rattle.iloc_args.specs.declared.flag.Flag.TheVariants.{Cycles}
 use Rattle.iloc_args.specs.declared.request.Request.{Request}
-use Rattle.iloc_args.specs.Rule.{memory_rule}
-use Rattle.iloc_view_commands.specs.Explain.{IsExplainEntry, IsSaid}
 use Rattle.iloc_view_commands.specs.Graph.{IsGraphEntry, opening_at}
 use Rattle.iloc_driver.specs.Command.{initial_memory}
 use Rattle.iloc_view_commands.specs.Trace.{IsTraceEntry}
-use Rattle.iloc_listing.specs.Listing.{block_head, cycles_of}
 use Rattle.iloc_listing.specs.Schedules.{IsGreedyAs, ranks_under}
 use Rattle.iloc_driver.specs.Entries.{Adds}
 use Rattle.iloc_listing.proofs.Schedules.{the_greedy, the_greedy_under}
-use Rattle.iloc_driver.proofs.Entries.{parts_joined}
 
 -- what a call has appended is the entry, by the name and the words or cycles that it was handed
 

@@ -1,7 +1,4 @@
-use Rattle.std.proofs.Common.{ap, length, subst, sym, ◌∙◌}
-use Rattle.std.proofs.lemmas.Result.{on_ok_weaker}
-use Rattle.iloc_bound.specs.Bound.{least_of_under}
-use Rattle.iloc_explain.specs.Measures.{AreMeasures}
+use Rattle.iloc_view_commands.proofs.Common.{length, sym, ap, ◌∙◌, subst, on_ok_weaker, least_of_under, AreMeasures}
 use Rattle.iloc_view_commands.proofs.Listers.{length_ruled}
 use Rattle.iloc_view_commands.proofs.explain.explain_by_graph.Goals as goal
 

@@ -1,6 +1,4 @@
-use Rattle.std.proofs.Common.{map, ap, subst, sym, ◌∙◌}
-use Rattle.std.proofs.lemmas.List.{take_all}
-use Rattle.iloc_explain.specs.Measures.{ImplyAll}
+use Rattle.iloc_view_commands.proofs.Common.{map, sym, ap, ◌∙◌, subst, take_all, ImplyAll}
 use Rattle.iloc_view_commands.proofs.KeptEdges.{edges_imply, pair_of}
 use Rattle.iloc_view_commands.proofs.explain.kept_pairs.Goals as goal
 

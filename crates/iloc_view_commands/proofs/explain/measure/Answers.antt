@@ -1,6 +1,5 @@
-use Rattle.std.proofs.Common.{◌∙◌}
+use Rattle.iloc_view_commands.proofs.Common.{◌∙◌, ruled_priorities}
 use Rattle.iloc_rules.specs.declared.heuristic.Heuristic.TheVariants.{Chain}
-use Rattle.iloc_rules.proofs.PriorityValues.Named.{ruled_priorities}
 use Rattle.iloc_view_commands.proofs.explain.measure.Goals as goal
 
 pub returns-clause-rule : goal.returns-clause-rule

@@ -1,6 +1,5 @@
+use Rattle.iloc_view_commands.proofs.Common.{arith, ruled_priorities}
 use Rattle.std.proofs.lemmas.Grind.{common_steps}
-use Rattle.std.proofs.Common.{arith}
-use Rattle.iloc_rules.proofs.PriorityValues.Named.{ruled_priorities}
 use Rattle.iloc_view_commands.proofs.explain.ranks_of.Goals as goal
 
 pub returns : goal.returns

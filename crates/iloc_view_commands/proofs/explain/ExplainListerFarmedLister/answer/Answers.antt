@@ -1,7 +1,4 @@
-use Rattle.std.proofs.Common.{ap, length, ◌∙◌}
-use Rattle.std.specs.Prelude.{option_copied}
-use Rattle.iloc_sched.specs.Graph.GraphOf.{GraphOf, of_block}
-use Rattle.iloc_args.specs.Rule.{memory_rule}
+use Rattle.iloc_view_commands.proofs.Common.{length, option_copied, ap, ◌∙◌, GraphOf, of_block, memory_rule}
 use Rattle.iloc_view_commands.proofs.Listers.{each_ranked, entry_grown, explain_is, measured_too}
 use Rattle.iloc_view_commands.proofs.explain.ExplainListerFarmedLister.answer.Goals as goal
 

@@ -1,8 +1,5 @@
-use Rattle.std.proofs.lemmas.Result.{IfOk-weaker}
-use Rattle.iloc_view_commands.specs.Explain.{IsExplainEntry}
-use Rattle.iloc_listing.specs.Listing.{total_of_all}
+use Rattle.iloc_view_commands.proofs.Common.{IfOk-weaker, total_of_all, made_listing, IsExplainEntry}
 use Rattle.iloc_driver.specs.Priorities.{own_of}
-use Rattle.iloc_driver.proofs.Entries.{made_listing}
 use Rattle.iloc_view_commands.proofs.explain.ExplainListerFarmedLister.listing.Goals as goal
 
 pub with_total-requires : goal.with_total-requires

@@ -1,8 +1,5 @@
-use Rattle.std.proofs.Common.{◌++◌, ◌∙◌, ap, refl, subst}
-use Rattle.iloc_sched.specs.Graph.GraphOf.{GraphOf, of_block}
-use Rattle.iloc_graph.specs.Listing.{IsCluster}
+use Rattle.iloc_view_commands.proofs.Common.{◌++◌, refl, ap, ◌∙◌, subst, GraphOf, of_block, IsCluster, if_ok}
 use Rattle.iloc_view_commands.proofs.Listers.{graph_listed}
-use Rattle.iloc_driver.proofs.Entries.{if_ok}
 use Rattle.iloc_view_commands.proofs.graph.GraphListerLister.list.Goals as goal
 
 pub push_cluster-requires : goal.push_cluster-requires
