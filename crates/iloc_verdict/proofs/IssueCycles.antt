@@ -1,7 +1,6 @@
 -- The first of some rows that holds an operation.
-use Rattle.std.proofs.Common.{◌≡◌, ◌<◌, ℕ, zero, suc, true, false, List, [], ◌∷◌, length, take, arith}
+use Rattle.iloc_verdict.proofs.Common.{◌≡◌, ℕ, zero, suc, ◌<◌, true, false, List, [], ◌∷◌, length, take, arith, holds, issue_cycle, row_at}
 use Rattle.iloc_timed.specs.declared.row.Row.{Row}
-use Rattle.iloc_timed.specs.Rows.{holds, issue_cycle, row_at}
 
 -- where none of the first n does, the next may
 pub issued_next : (rows : List Row) (n i : ℕ) → n < length rows → issue_cycle (take n rows) i ≡ n → holds (row_at rows n) i ≡ true

@@ -1,9 +1,7 @@
-use Rattle.std.proofs.Common.{◌≡◌, ◌&&◌, refl, Option, Some, None}
-use Rattle.std.specs.Prelude.{find, not}
+use Rattle.iloc_verdict.proofs.Common.{◌≡◌, not, ◌&&◌, Some, None, Option, find, refl, is_some_kind, kind_in}
 use Rattle.std.specs.Option.{is_some}
 use Rattle.iloc_timed.specs.declared.kind.Kind.{Kind}
 use Rattle.iloc_timed.specs.declared.kind.Kind.TheVariants as K
-use Rattle.iloc_timed.specs.Rows.{kind_in, is_some_kind}
 use Rattle.iloc_timed.specs.Units.{needs_zero, needs_one, stands_alone}
 use Rattle.iloc_verdict.specs.UnitRule.{breaks, unit_rules}
 use Rattle.iloc_verdict.proofs.laws.bad_rows_break_a_rule.Goals as goal

@@ -1,5 +1,4 @@
-use Rattle.std.proofs.Common.{◌≡◌, ◌++◌, take}
-use Rattle.iloc_verdict.specs.Unread.{in_one_line}
+use Rattle.iloc_verdict.proofs.Common.{◌≡◌, ◌++◌, take, in_one_line}
 use Rattle.iloc_verdict.proofs.unread.push_in_one_line.Given as goal
 
 abbrev pub invariant-loop-byte : goal.invariant-loop-byte

@@ -1,5 +1,4 @@
-use Rattle.std.proofs.Common.{refl, length}
-use Rattle.iloc_verdict.specs.Unread.{unread_as}
+use Rattle.iloc_verdict.proofs.Common.{length, refl, unread_as}
 use Rattle.iloc_verdict.proofs.unread.push_unread.Goals as goal
 
 pub returns-clause-entry : goal.returns-clause-entry

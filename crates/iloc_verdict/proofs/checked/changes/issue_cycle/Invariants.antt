@@ -1,5 +1,4 @@
-use Rattle.std.proofs.Common.{◌≡◌, take}
-use Rattle.iloc_timed.specs.Rows.{issue_cycle}
+use Rattle.iloc_verdict.proofs.Common.{◌≡◌, take, issue_cycle}
 use Rattle.iloc_verdict.proofs.checked.changes.issue_cycle.Given as goal
 
 abbrev pub invariant-loop-cycle : goal.invariant-loop-cycle

@@ -1,7 +1,4 @@
-use Rattle.std.proofs.Common.{◌≡◌, ◌++◌, take}
-use Rattle.std.specs.Prelude.{codes}
-use Rattle.std.specs.List.{flat_map}
-use Rattle.std.specs.Fmt.{decimal}
+use Rattle.iloc_verdict.proofs.Common.{◌≡◌, ◌++◌, take, codes, decimal, flat_map}
 use Rattle.iloc_verdict.proofs.checked.detail.push_words.Given as goal
 
 abbrev pub invariant-loop-word : goal.invariant-loop-word

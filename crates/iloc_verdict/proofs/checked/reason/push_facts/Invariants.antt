@@ -1,6 +1,4 @@
-use Rattle.std.proofs.Common.{◌≡◌, ◌++◌, take}
-use Rattle.std.specs.List.{flat_map}
-use Rattle.iloc_verdict.specs.Entry.Reasons.{fact_told}
+use Rattle.iloc_verdict.proofs.Common.{◌≡◌, ◌++◌, take, flat_map, fact_told}
 use Rattle.iloc_verdict.proofs.checked.reason.push_facts.Given as goal
 
 abbrev pub invariant-loop-fact : goal.invariant-loop-fact

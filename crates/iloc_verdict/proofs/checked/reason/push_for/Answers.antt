@@ -1,7 +1,6 @@
-use Rattle.std.proofs.Common.{◌∙◌, ◌++◌, ap, append_assoc, codes}
+use Rattle.iloc_verdict.proofs.Common.{◌++◌, codes, ap, ◌∙◌, append_assoc, issue_told, numbered}
 use Rattle.std.proofs.lemmas.Result.{on_ok_weaker}
 use Rattle.iloc_ops.specs.Spelling.{spelling}
-use Rattle.iloc_verdict.specs.Entry.Reasons.{issue_told, numbered}
 use Rattle.iloc_verdict.proofs.checked.reason.push_for.Goals as goal
 
 pub returns : goal.returns

@@ -1,7 +1,4 @@
-use Rattle.std.proofs.Common.{◌≡◌, ◌++◌, take}
-use Rattle.std.specs.Prelude.{codes}
-use Rattle.std.specs.List.{flat_map}
-use Rattle.std.specs.Fmt.{decimal}
+use Rattle.iloc_verdict.proofs.Common.{◌≡◌, ◌++◌, take, codes, decimal, flat_map}
 use Rattle.iloc_verdict.proofs.json.comparison.push_rest.Given as goal
 
 abbrev pub invariant-loop-number : goal.invariant-loop-number

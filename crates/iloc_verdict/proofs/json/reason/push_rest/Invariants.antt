@@ -1,7 +1,4 @@
-use Rattle.std.proofs.Common.{◌≡◌, ◌++◌, take}
-use Rattle.std.specs.Prelude.{codes}
-use Rattle.std.specs.List.{flat_map}
-use Rattle.iloc_verdict.specs.Entry.Json.{fact_value}
+use Rattle.iloc_verdict.proofs.Common.{◌≡◌, ◌++◌, take, codes, flat_map, fact_value}
 use Rattle.iloc_verdict.proofs.json.reason.push_rest.Given as goal
 
 abbrev pub invariant-loop-fact : goal.invariant-loop-fact

@@ -1,6 +1,4 @@
-use Rattle.std.proofs.Common.{◌≡◌, ◌++◌, take}
-use Rattle.std.specs.List.{flat_map}
-use Rattle.iloc_verdict.specs.Entry.Json.{escaped}
+use Rattle.iloc_verdict.proofs.Common.{◌≡◌, ◌++◌, take, flat_map, escaped}
 use Rattle.iloc_verdict.proofs.json.value.push_all_escaped.Given as goal
 
 abbrev pub invariant-loop-byte : goal.invariant-loop-byte
