@@ -93,7 +93,7 @@ keep_outcomes heuristic lat (b ∷ blocks) (s ∷ schedules) greedy memory =
 pub cycles_within : (lat : Latencies) (ops : List Op) (rows : List Row) → cycles lat ops rows ≤ length rows + LONGEST_DELAY
 cycles_within lat ops rows = grind (arith, fold_max_reached, from_map, issue_cycle_within, short_latency)
 
-pub latencies_at_most : (lat : Latencies) (ops : List Op) → sum_by (latency lat) ops ≤ LONGEST_DELAY * length ops
+latencies_at_most : (lat : Latencies) (ops : List Op) → sum_by (latency lat) ops ≤ LONGEST_DELAY * length ops
 latencies_at_most lat [] = omega arith
 latencies_at_most lat (op ∷ ops) =
     let head : latency lat op ≤ LONGEST_DELAY = short_latency lat (kind op) in
