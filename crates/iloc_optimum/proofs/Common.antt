@@ -22,6 +22,7 @@ pub use Rattle.iloc_rules.specs.declared.memory_rule.MemoryRule.{MemoryRule}
 pub use Rattle.iloc_sched.specs.declared.edges.Edge.{Edge}
 pub use Rattle.iloc_bound.proofs.Counting.{at_least, count-mono, is_at_least}
 pub use Rattle.iloc_bound.proofs.LeastBound.{ruled_least_bound, tail_within_under}
+pub use Rattle.iloc_bound.proofs.TailBound.{crowd_of, in_between}
 pub use Rattle.iloc_bound.proofs.TailParts.{length-tails_under}
 pub use Rattle.iloc_bound.specs.Bound.{least_of_under, least_under, tails_under}
 pub use Rattle.iloc_bound.specs.Shares.{shares, width}

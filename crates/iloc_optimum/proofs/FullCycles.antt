@@ -1,12 +1,9 @@
 -- Windows that fill their cycles keep the other operations of the share out.
-use Rattle.iloc_optimum.proofs.Common.{◌≡◌, ℕ, zero, suc, ◌+◌, ◌-◌, ◌*◌, ◌<◌, ◌≤◌, Bool, true, false, cond, ◌&&◌, ◌⊎◌, List, length, get_or, nat_lt, count_by, inl, inr, arith, and_from, and_parts, cases_lt, range_with_len, Kind, count_range, from_range, count_by-cons, at_least, count-mono, width, Share, count_inside, is_inside, Crowd, Within, belongs, between}
+use Rattle.iloc_optimum.proofs.Common.{◌≡◌, ℕ, zero, suc, ◌+◌, ◌-◌, ◌*◌, ◌<◌, ◌≤◌, Bool, true, false, cond, ◌&&◌, ◌⊎◌, List, length, get_or, nat_lt, count_by, inl, inr, arith, and_from, and_parts, cases_lt, range_with_len, Kind, count_range, from_range, count_by-cons, at_least, count-mono, in_between, width, Share, count_inside, is_inside, Crowd, Within, belongs, between}
 use Rattle.std.proofs.lemmas.Bool.Decides.{nat_tests}
 
 pub is_less : (q p : ℕ) → nat_lt q p ≡ true → q < p
 is_less q p h = grind (arith, nat_tests)
-
-pub in_between : (a c x : ℕ) → a ≤ x → x < c → between a c x ≡ true
-in_between a c x low high = grind (arith, nat_tests, and_from)
 
 -- one more operation is counted where it passes
 pub count_next : (p : ℕ → Bool) (n : ℕ) (b : Bool) → p n ≡ b

@@ -1,6 +1,6 @@
 -- The cycles of issue in a lawful schedule are a timing within the first windows: `laws::lawful_schedules_are_timings`,
 -- `laws::nothing_left_raises_the_bound`.
-use Rattle.iloc_optimum.proofs.Common.{◌≡◌, ℕ, zero, suc, ◌+◌, ◌-◌, ◌*◌, ◌<◌, ◌≤◌, ◌&&◌, List, map, length, get_or, replicate, count_by, sym, ap, ◌∙◌, subst, inl, inr, arith, and_from, and_parts, cases_lt, get_or-map, length-map, All-weaker, range_with_len, Op, cycles, kind, Latencies, Row, renamed, counts_by, MemoryRule, Edge, tail_within_under, length-tails_under, tails_under, shares, width, Share, AreDelayPairs, AreLeft, LawfulSchedulesAreTimings, NothingLeftRaisesTheBound, ReachedBoundsAreOptimal, Crowd, IsTiming, Within, belongs, between, Windows}
+use Rattle.iloc_optimum.proofs.Common.{◌≡◌, ℕ, zero, suc, ◌+◌, ◌-◌, ◌*◌, ◌<◌, ◌≤◌, ◌&&◌, List, map, length, get_or, replicate, count_by, sym, ap, ◌∙◌, subst, inl, inr, arith, and_from, and_parts, cases_lt, get_or-map, length-map, All-weaker, range_with_len, Op, cycles, kind, Latencies, Row, renamed, counts_by, MemoryRule, Edge, tail_within_under, crowd_of, length-tails_under, tails_under, shares, width, Share, AreDelayPairs, AreLeft, LawfulSchedulesAreTimings, NothingLeftRaisesTheBound, ReachedBoundsAreOptimal, Crowd, IsTiming, Within, belongs, between, Windows}
 use Rattle.std.proofs.Math.ListN as lists
 use Rattle.iloc_ops.specs.declared.op.Op.TheVariants.{Nop}
 use Rattle.iloc_meaning.specs.Trace.{op_at}
@@ -8,7 +8,6 @@ use Rattle.iloc_timed.specs.Rows.{issue_cycle}
 use Rattle.iloc_rules.specs.Delays.{IsDelayPairWhere}
 use Rattle.iloc_rules.specs.Lawful.{IsLawfulWhere}
 use Rattle.iloc_bound.proofs.RowsHold.{Holds, holds_memory, holds_products, holds_outputs, holds_all}
-use Rattle.iloc_bound.proofs.TailBound.{crowd_of}
 use Rattle.iloc_optimum.proofs.FullCycles.{count_grows}
 
 holds_of : (s : Share) (ops : List Op) → Holds (shares s) (width s) ops

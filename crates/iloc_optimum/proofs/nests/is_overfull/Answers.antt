@@ -1,6 +1,6 @@
-use Rattle.iloc_optimum.proofs.Common.{◌≡◌, ℕ, zero, suc, ◌+◌, ◌-◌, ◌*◌, ◌<◌, ◌≤◌, Bool, true, cond, ◌&&◌, ◌⊎◌, List, length, count_by, refl, ap, ◌∙◌, arith, and_from, cases_lt, range_with_len, Kind, count_by-cons, width, Share, count_inside, is_inside, FitsShares, Within, belongs, between}
+use Rattle.iloc_optimum.proofs.Common.{◌≡◌, ℕ, zero, suc, ◌+◌, ◌-◌, ◌*◌, ◌<◌, ◌≤◌, Bool, true, cond, ◌&&◌, ◌⊎◌, List, length, count_by, refl, ap, ◌∙◌, arith, and_from, cases_lt, range_with_len, Kind, count_by-cons, in_between, width, Share, count_inside, is_inside, FitsShares, Within, belongs, between}
 use Rattle.iloc_bound.specs.declared.share.Share.TheVariants.{All}
-use Rattle.iloc_optimum.proofs.FullCycles.{is_less, in_between, issued_inside}
+use Rattle.iloc_optimum.proofs.FullCycles.{is_less, issued_inside}
 use Rattle.iloc_optimum.proofs.nests.is_overfull.Goals as goal
 
 -- Nests that more windows are in than they hold.
