@@ -37,8 +37,6 @@ TESTS = {
     ],
     "iloc_board_tests": [
         "machine::answers_step_by_step",
-        "refusals::gives_the_answer_back",
-        "refusals::gives_the_pass_back",
         "refusals::works_on_after_an_answer_was_lost",
     ],
     "iloc_farm_tests": [

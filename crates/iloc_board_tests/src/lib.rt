@@ -18,5 +18,3 @@ mod refusals;
 mod steps;
 #[cfg(test)]
 mod tens;
-#[cfg(test)]
-mod threads;
