@@ -26,7 +26,6 @@ TESTS = {
         "text::text_parts::takes_parts_in_order",
         "meaning::effect::reads_registers_and_memory",
         "meaning::interpreter::a_refused_run_can_be_repeated",
-        "meaning::interpreter::the_outcome_is_that_of_the_last_block",
         "meaning::run::keeps_a_copy_apart",
         "meaning::run::takes_constants_for_their_patterns",
         "timed::schedule::takes_what_keeps_the_rules",

@@ -10,14 +10,10 @@ mod meaning;
 #[cfg(test)]
 mod optimum;
 #[cfg(test)]
-mod reasons;
-#[cfg(test)]
 mod sched;
 #[cfg(test)]
 mod text;
 #[cfg(test)]
 mod timed;
-#[cfg(test)]
-mod trace;
 #[cfg(test)]
 mod written;

@@ -1,10 +1,10 @@
 //! The best schedule of a block, and the bound that a search proves.
-use crate::written::{USUAL, block_of, latencies};
+use crate::written::block_of;
 use iloc_bound::least_of;
 use iloc_optimum::Optimizer;
 use iloc_rules::{MemoryRule, Sought};
 use iloc_sched::Graph;
-use iloc_timed::cycles;
+use iloc_timed::{Latencies, cycles};
 use std::test::Fail;
 
 /// Their `least` is 7, and no schedule takes 7 cycles: two products would want one row.
@@ -27,7 +27,7 @@ const OPTIMA: &[(&[u8], u32, Sought)] = &[
 /// To be run with each growth refused in turn: after a refusal the next block has its optimum as after any other.
 #[test]
 fn proves_what_is_best(rt: HostRuntime) -> Result<(), Fail> {
-    let times = latencies(USUAL)?;
+    let times = Latencies::usual();
     let block = block_of(rt.alloc(), FOUND)?;
     let mut graph = Graph::new(rt.alloc());
     graph.refill(MemoryRule::Book, &block, &times)?;

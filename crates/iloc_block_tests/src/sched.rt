@@ -1,5 +1,3 @@
-mod addresses;
 mod by_address;
-mod delay_pairs;
 mod heuristics;
 mod refusals;

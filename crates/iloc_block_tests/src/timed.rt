@@ -1,4 +1,3 @@
-mod latencies;
 mod run;
 mod schedule;
 mod simulator;

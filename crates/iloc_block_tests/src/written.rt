@@ -4,13 +4,9 @@ ghost use Rattle.std.specs.Prelude.{◌≤◌, length, IfOk};
 
 use iloc_ops::{Block, MAX_OPS, Op};
 use iloc_text::read_file;
-use iloc_timed::{BuildFault, Latencies, MAX_ROWS, Row, Schedule};
+use iloc_timed::{BuildFault, MAX_ROWS, Row, Schedule};
 use std::alloc::{AllocError, Global};
 use std::test::Fail;
-
-/// Seven operations, of which all but the first two wait for others.
-pub(crate) const SEVEN_OPERATIONS: &[u8] =
-    b"loadI 4 => r1\nloadI 8 => r2\nmult r1, r2 => r3\nload r1 => r4\nadd r3, r4 => r5\nstore r5 => r2\noutput 8\n";
 
 /// The one block of a text, where it isn't too long to be scheduled.
 pub(crate) fn block_of(alloc: Global, text: &[u8]) -> Result<Block, Fail>
@@ -29,14 +25,6 @@ const EMPTY: Row = Row {
     zero: None,
     one: None,
 };
-
-/// One operation, on unit 0.
-pub(crate) fn alone(zero: usize) -> Row {
-    Row {
-        zero: Some(zero),
-        one: None,
-    }
-}
 
 /// What is issued in a cycle: the cycle, and the operations on unit 0 and on unit 1.
 pub(crate) type Issue = (usize, Option<usize>, Option<usize>);
@@ -57,13 +45,4 @@ pub(crate) fn build(alloc: Global, ops: &[Op], issues: &[Issue]) -> Result<Sched
     let mut rows = rows_of(alloc, issues)?;
     rows.truncate(MAX_ROWS);
     Schedule::new(alloc, Vec::from_slice(alloc, ops)?, rows)
-}
-
-/// The latencies of loads, stores and products.
-pub(crate) type Times = (u32, u32, u32);
-
-pub(crate) const USUAL: Times = (5, 5, 3);
-
-pub(crate) fn latencies((load, store, mult): Times) -> Result<Latencies, Fail> {
-    Ok(Latencies::new(load, store, mult).ok_or("no latencies")?)
 }

@@ -1,15 +1,14 @@
-use crate::asserted::assert_emitted;
 use crate::written::block_of;
-use iloc_meaning::{Interpreter, Memory, Outcome, Words};
+use iloc_meaning::{Interpreter, Memory};
 use iloc_ops::{Block, NoMemory};
 use std::alloc::Global;
 use std::process::Abort;
 use std::test::Fail;
 
-/// A text, and what it emits, or nothing where it faults.
-type Run<'a> = (&'a [u8], Option<&'a [i32]>);
+/// A text, and what it emits.
+type Run<'a> = (&'a [u8], &'a [i32]);
 
-/// Runs each text as one block after another, and asserts what it emits, or that it faults.
+/// Runs each text as one block after another, and asserts what it emits.
 fn assert_runs(
     rt: &impl Abort,
     alloc: Global,
@@ -18,7 +17,7 @@ fn assert_runs(
 ) -> Result<(), Fail> {
     for (text, outputs) in runs {
         interpreter.run(&block_of(alloc, text)?)?;
-        assert_emitted(rt, text, interpreter.outputs(), *outputs);
+        assert!(rt; interpreter.outputs() == Some(*outputs), "{text:?}");
     }
     Ok(())
 }
@@ -37,43 +36,10 @@ fn interpreter(alloc: Global) -> Result<Interpreter, NoMemory> {
 
 const READ: &[u8] = b"output 8\noutput 12\n";
 
-const WRITE: &[u8] = b"loadI 12 => r1\nstore r1 => r1\noutput 12\n";
-
-const FAULT: &[u8] = b"loadI 8 => r1\nstore r1 => r1\noutput 8\noutput 3\n";
-
 const FAR_REGISTER: &[u8] =
     b"output 8\nloadI 8 => r1\nloadI 9 => r5000\nstore r5000 => r1\noutput 8\n";
 
-const WRITES_LAST: &[Run] = &[(READ, Some(&[7, 0])), (FAULT, None), (WRITE, Some(&[12]))];
-
-const FAULTS_LAST: &[Run] = &[(WRITE, Some(&[12])), (FAULT, None)];
-
-/// What `WRITE` leaves.
-fn written(alloc: Global) -> Result<Outcome, NoMemory> {
-    let mut memory = memory(alloc)?;
-    memory.set(12, 12);
-    Ok(Outcome::Finished {
-        outputs: Words::new(vec![in alloc; 12]?),
-        memory,
-    })
-}
-
-/// What is left of these runs.
-fn outcome_of(rt: &impl Abort, alloc: Global, runs: &[Run]) -> Result<Outcome, Fail> {
-    let mut interpreter = interpreter(alloc)?;
-    assert_runs(rt, alloc, &mut interpreter, runs)?;
-    Ok(interpreter.into_outcome())
-}
-
-#[test]
-fn the_outcome_is_that_of_the_last_block(rt: HostRuntime) -> Result<(), Fail> {
-    let alloc = rt.alloc();
-    assert!(rt; outcome_of(&rt, alloc, WRITES_LAST)? == written(alloc)?);
-    assert!(rt; outcome_of(&rt, alloc, FAULTS_LAST)? == Outcome::Fault);
-    Ok(())
-}
-
-const AGAIN: &[Run] = &[(READ, Some(&[7, 0])), (FAR_REGISTER, Some(&[7, 9]))];
+const AGAIN: &[Run] = &[(READ, &[7, 0]), (FAR_REGISTER, &[7, 9])];
 
 /// How the run of a block ended, behind which these were run.
 fn run_before(

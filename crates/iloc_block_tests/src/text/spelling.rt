@@ -1,5 +1,5 @@
 use crate::asserted::assert_list;
-use iloc_ops::{LONGEST_OPERATION, NoMemory, Op, push_number, push_op, write_op};
+use iloc_ops::{NoMemory, Op, push_number, push_op};
 use std::process::Abort;
 use std::test::Fail;
 
@@ -39,11 +39,4 @@ fn leaves_the_text_as_it_was_where_it_is_refused(rt: HostRuntime) -> Result<(), 
     let second = append_number(&rt, &mut text)?;
     assert_list(&rt, &text, WITH_NUMBER);
     Ok(first.and(second)?)
-}
-
-#[test]
-fn writes_an_operation_before_a_place(rt: HostRuntime) {
-    let mut line = [b'.'; LONGEST_OPERATION + 2];
-    let start = write_op(&mut line, LONGEST_OPERATION, &OUTPUT);
-    assert_list(&rt, &line[start..], b"output 1024..");
 }

@@ -1,6 +1,6 @@
 use crate::asserted::assert_list;
 use crate::text::diary::Diary;
-use iloc_text::{read_blocks_from, read_file_from, read_text_from};
+use iloc_text::{read_file_from, read_text_from};
 use std::io::{Read, Result as IoResult};
 use std::test::Fail;
 
@@ -28,18 +28,6 @@ pub(super) fn giving(bytes: &[u8], at_once: usize) -> Source<'_> {
 }
 
 const TEXT: &[u8] = b"output 0\noutput 4\n\nlonger: nop\nb:\nc: output 8 // last";
-
-const LINES: &[u8] = b"1 -; output 0; output 4\n2 longer; nop\n3 b\n4 c; output 8\n";
-
-#[test]
-fn reads_a_text_in_pieces_of_any_length(rt: HostRuntime) -> Result<(), Fail> {
-    for length in 1..=TEXT.len() {
-        let diary = Diary::new(rt.alloc(), 4);
-        let diary = read_blocks_from(rt.alloc(), &mut giving(TEXT, length), diary)?;
-        assert_list(&rt, &diary.lines, LINES);
-    }
-    Ok(())
-}
 
 #[test]
 fn reads_a_stream_into_a_file(rt: HostRuntime) -> Result<(), Fail> {

@@ -1,6 +1,5 @@
-use crate::asserted::assert_emitted;
-use crate::written::{Issue, Times, USUAL, block_of, build, latencies};
-use iloc_meaning::{Memory, Outcome, Words};
+use crate::written::{Issue, block_of, build};
+use iloc_meaning::Memory;
 use iloc_ops::NoMemory;
 use iloc_timed::{Latencies, Schedule, Simulator};
 use std::alloc::{AllocError, Global};
@@ -26,19 +25,19 @@ fn spaced(alloc: Global, text: &[u8]) -> Result<Schedule, Fail> {
     )?)
 }
 
-/// A text, the latencies with which its schedule is run, and what it emits, or nothing where it faults.
-type Run<'a> = (&'a [u8], Times, Option<&'a [i32]>);
+/// A text, and what it emits.
+type Run<'a> = (&'a [u8], &'a [i32]);
 
-/// Runs each text as one schedule after another, and asserts what it emits, or that it faults.
+/// Runs each text as one schedule after another, and asserts what it emits.
 fn assert_runs(
     rt: &impl Abort,
     alloc: Global,
     simulator: &mut Simulator,
     runs: &[Run],
 ) -> Result<(), Fail> {
-    for (text, times, outputs) in runs {
-        simulator.run(&spaced(alloc, text)?, &latencies(*times)?)?;
-        assert_emitted(rt, text, simulator.outputs(), *outputs);
+    for (text, outputs) in runs {
+        simulator.run(&spaced(alloc, text)?, &Latencies::usual())?;
+        assert!(rt; simulator.outputs() == Some(*outputs), "{text:?}");
     }
     Ok(())
 }
@@ -55,64 +54,12 @@ fn simulator(alloc: Global) -> Result<Simulator, NoMemory> {
     Simulator::new(alloc, memory(alloc)?)
 }
 
-/// What is left of these runs.
-fn outcome_of(rt: &impl Abort, alloc: Global, runs: &[Run]) -> Result<Outcome, Fail> {
-    let mut simulator = simulator(alloc)?;
-    assert_runs(rt, alloc, &mut simulator, runs)?;
-    Ok(simulator.into_outcome())
-}
-
-const LONG: Times = (16, 16, 3);
-
 const READ: &[u8] = b"store r2 => r0\noutput 0\noutput 8\n";
-
-const WRITE: &[u8] = b"output 8\nloadI 4 => r1\nloadI 8 => r2\nstore r2 => r1\n";
-
-/// With long latencies the word and the register are still under way at the fault.
-const FAULT: &[u8] = b"loadI 8 => r1\nstore r1 => r1\nloadAI r1, 0 => r2\noutput 3\n";
 
 const FAR_REGISTER: &[u8] =
     b"output 8\nloadI 8 => r1\nloadI 9 => r5000\nstore r5000 => r1\noutput 8\n";
 
-const FAULTS: &[Run] = &[
-    (FAULT, LONG, None),
-    (READ, USUAL, Some(&[0, 7])),
-    (FAULT, LONG, None),
-    (READ, USUAL, Some(&[0, 7])),
-    (FAULT, LONG, None),
-];
-
-#[test]
-fn what_is_under_way_at_a_fault_never_arrives(rt: HostRuntime) -> Result<(), Fail> {
-    assert!(rt; outcome_of(&rt, rt.alloc(), FAULTS)? == Outcome::Fault);
-    Ok(())
-}
-
-const WRITES: &[Run] = &[
-    (FAR_REGISTER, USUAL, Some(&[7, 9])),
-    (WRITE, USUAL, Some(&[7])),
-];
-
-#[test]
-fn the_outcome_is_that_of_the_last_schedule(rt: HostRuntime) -> Result<(), Fail> {
-    assert!(rt; outcome_of(&rt, rt.alloc(), WRITES)? == written(rt.alloc())?);
-    Ok(())
-}
-
-/// What `WRITE` leaves.
-fn written(alloc: Global) -> Result<Outcome, NoMemory> {
-    let mut memory = memory(alloc)?;
-    memory.set(4, 8);
-    Ok(Outcome::Finished {
-        outputs: Words::new(vec![in alloc; 7]?),
-        memory,
-    })
-}
-
-const AGAIN: &[Run] = &[
-    (READ, USUAL, Some(&[0, 7])),
-    (FAR_REGISTER, USUAL, Some(&[7, 9])),
-];
+const AGAIN: &[Run] = &[(READ, &[0, 7]), (FAR_REGISTER, &[7, 9])];
 
 /// How the run of a schedule ended, behind which these were run.
 fn run_before(
