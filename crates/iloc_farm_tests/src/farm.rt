@@ -3,5 +3,4 @@ mod end_to_end;
 mod fakes;
 mod listings;
 mod refusals;
-mod sample;
 mod threads;

@@ -37,11 +37,10 @@ pub(crate) fn giving(bytes: &[u8]) -> Source<'_> {
     }
 }
 
-/// Holds one text, or none. Whoever asks for any is given it.
+/// Holds one text. Whoever asks for any is given it.
 #[derive(Drop)]
 pub(crate) struct Shelf<'a> {
-    /// The text, or why it can't be opened.
-    pub text: Result<&'a [u8], ErrorKind>,
+    pub text: &'a [u8],
     /// How it ends.
     pub end: Option<ErrorKind>,
 }
@@ -54,28 +53,24 @@ impl<'a> Texts for Shelf<'a> {
     ghost held = { λ _ _. None };
 
     fn open_text(&self, _name: &str) -> IoResult<Source<'a>> {
-        match self.text {
-            Ok(bytes) => Ok(Source {
-                end: self.end,
-                ..giving(bytes)
-            }),
-            Err(kind) => Err(Error::from(kind)),
-        }
+        Ok(Source {
+            end: self.end,
+            ..giving(self.text)
+        })
     }
 }
 
-/// Holds nothing.
+/// Holds an empty text.
 pub(crate) const EMPTY_SHELF: Shelf = Shelf {
-    text: Err(ErrorKind::NotFound),
+    text: b"",
     end: None,
 };
 
-/// Takes `room` bytes, at most `at_once` a turn, and then fails.
+/// Takes all that comes, at most `at_once` bytes a turn.
 #[derive(Drop)]
 pub(crate) struct Sink {
     pub taken: Vec<u8>,
     pub at_once: usize,
-    pub room: usize,
     /// Whether a flush works.
     pub flushes: bool,
     /// How many bytes were taken when it was flushed last.
@@ -84,12 +79,8 @@ pub(crate) struct Sink {
 
 impl Write for Sink {
     fn write(&mut self, buf: &[u8]) -> IoResult<usize> {
-        if self.room == 0 {
-            return Err(Error::from(ErrorKind::BrokenPipe));
-        }
-        let count = self.at_once.min(buf.len()).min(self.room);
+        let count = self.at_once.min(buf.len());
         self.taken.extend_from_slice(&buf[..count])?;
-        self.room -= count;
         Ok(count)
     }
 
@@ -107,7 +98,6 @@ pub(crate) fn taking_all(alloc: Global) -> Sink {
     Sink {
         taken: Vec::new(alloc),
         at_once: usize::MAX,
-        room: usize::MAX,
         flushes: true,
         flushed: None,
     }

@@ -1,5 +1,4 @@
 //! Listings of what is there already: to be run with each growth refused in turn.
-use super::sample::TWO_OUTPUTS;
 use crate::asserted::assert_list;
 use iloc_listing::{counts_text, outcomes_text, schedules_text};
 use iloc_meaning::{Memory, run_block};
@@ -61,7 +60,7 @@ const CYCLES: &[u8] = b"block 1 - cycles 3\ntotal 3\n";
 #[test]
 fn lists_schedules_up_to_their_last_operation(rt: HostRuntime) -> Result<(), Fail> {
     let alloc = rt.alloc();
-    let file = read_file(alloc, TWO_OUTPUTS)?;
+    let file = read_file(alloc, b"output 0\noutput 4\n")?;
     let (rows, counts) = listed(alloc, &file, &apart(alloc, &file)?)?;
     assert_list(&rt, &rows, ROWS);
     assert_list(&rt, &counts, CYCLES);

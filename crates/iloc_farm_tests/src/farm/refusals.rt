@@ -1,9 +1,8 @@
 //! The run of each command, where a growth is refused: it answers want of memory or of a thread, nothing is written, and a
 //! second try ends well. To be run with each growth refused in turn: each test ends with the refusal.
-use super::fakes::{Shelf, Sink, giving, taking_all};
-use crate::asked::asked;
+use super::fakes::{EMPTY_SHELF, Sink, giving, taking_all};
 use crate::asserted::assert_list;
-use iloc_args::Request;
+use iloc_args::{Request, parse_line};
 use iloc_driver::{FarmFault, Finding, RunFault};
 use iloc_farm::run;
 use iloc_ops::push_number;
@@ -29,16 +28,18 @@ fn roomy(alloc: Global) -> Result<Sink, AllocError> {
 fn listed<H: Abort + AllocGlobal + Threads + Wait + Sync>(
     rt: &H,
     request: &Request,
-    task: &[u8],
     input: &[u8],
 ) -> Result<(Vec<u8>, Result<Finding, RunFault>), Fail> {
-    let texts = Shelf {
-        text: Ok(task),
-        end: None,
-    };
     let alloc = rt.alloc();
     let mut writer = roomy(alloc)?;
-    let first = run(rt, alloc, &texts, &mut giving(input), &mut writer, request);
+    let first = run(
+        rt,
+        alloc,
+        &EMPTY_SHELF,
+        &mut giving(input),
+        &mut writer,
+        request,
+    );
     if let Err(fault) = first {
         assert!(rt;
             matches!(
@@ -47,7 +48,14 @@ fn listed<H: Abort + AllocGlobal + Threads + Wait + Sync>(
             )
         );
         assert!(rt; writer.taken.is_empty());
-        run(rt, alloc, &texts, &mut giving(input), &mut writer, request)?;
+        run(
+            rt,
+            alloc,
+            &EMPTY_SHELF,
+            &mut giving(input),
+            &mut writer,
+            request,
+        )?;
     }
     Ok((writer.taken, first))
 }
@@ -61,19 +69,9 @@ fn assert_listed<H: Abort + AllocGlobal + Threads + Wait + Sync>(
     cases: &[Case],
     input: &[u8],
 ) -> Result<(), Fail> {
-    assert_listed_of(rt, cases, b"", input)
-}
-
-/// The same where this text is held.
-fn assert_listed_of<H: Abort + AllocGlobal + Threads + Wait + Sync>(
-    rt: &H,
-    cases: &[Case],
-    task: &[u8],
-    input: &[u8],
-) -> Result<(), Fail> {
     for (words, listing) in cases {
-        let request = asked(rt.alloc(), words)?;
-        let (found, first) = listed(rt, &request, task, input)?;
+        let request = parse_line(rt.alloc(), words)?;
+        let (found, first) = listed(rt, &request, input)?;
         assert_list(rt, &found, listing);
         first?;
     }
@@ -192,27 +190,6 @@ total 23 ours 38 least 38
 #[test]
 fn judges_small_rows(rt: HostRuntime) -> Result<(), Fail> {
     assert_listed(&rt, &[(&["check", "--at", "1028", "9"], CHECKED)], PROPOSED)
-}
-
-const TASK: &[u8] = b"A: output 4\nB:\nloadI 4 => r1\nload r1 => r2\noutput 4\n";
-
-const HANDED_IN: &[u8] = b"block 1 A
-[ output 4 ; output 4 ]
-block 2 B
-[ nop ; load r1 => r2 ]
-";
-
-const CHECKED_APART: &[u8] = b"block 1 A units cycles 1 ours 1 least 1
-  row 0: [ output 4 ; output 4 ]: two outputs
-block 2 B units cycles 5 ours 6 least 6
-  row 0: [ nop ; load r1 => r2 ]: a load or store on unit 1
-total 6 ours 7 least 7
-";
-
-#[test]
-fn judges_small_rows_apart_from_their_task(rt: HostRuntime) -> Result<(), Fail> {
-    let words: &[&str] = &["check", "--task", "any"];
-    assert_listed_of(&rt, &[(words, CHECKED_APART)], TASK, HANDED_IN)
 }
 
 /// The cycles of 40 such blocks, and their sum.

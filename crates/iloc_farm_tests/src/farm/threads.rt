@@ -1,15 +1,13 @@
 //! The farm's threads: that all of them work, and that what they find does not depend on them.
 ghost use Rattle.std.specs.Prelude.{◌<◌, ◌≤◌};
 
-use crate::asserted::assert_list;
 use iloc_board::{FreeGate, Gate, NoDesk};
 use iloc_driver::farm_out;
 use iloc_farm::{BlockJobs, schedule_all, schedules_of};
-use iloc_ops::{Op, Reg};
 use iloc_rules::Heuristic;
 use iloc_text::laws::files_are_within_limits;
 use iloc_text::read_file;
-use iloc_timed::{Latencies, Row, Schedule};
+use iloc_timed::{Latencies, Schedule};
 use std::alloc::Global;
 use std::process::Abort;
 use std::sync::Wait;
@@ -177,35 +175,6 @@ fn blocks_are_jobs_to_be_farmed_out(rt: HostRuntime) -> Result<(), Fail> {
     let desks = vec![in rt.alloc(); NoDesk; 3]?;
     let done = farm_out(&rt, rt.alloc(), &jobs, desks, &FreeGate)?;
     assert_stairs(&rt, &schedules_of(done), 5);
-    Ok(())
-}
-
-#[test]
-fn no_block_is_no_work(rt: HostRuntime) -> Result<(), Fail> {
-    let gate = Meetings::new(8);
-    assert!(rt; schedules(&rt, rt.alloc(), b"", 8, &gate)?.is_empty());
-    assert!(rt; gate.taken.load(Ordering::SeqCst) == 0);
-    assert!(rt; gate.looks.marks.load(Ordering::SeqCst) == 0);
-    Ok(())
-}
-
-/// A row with the first operation alone, on unit 0.
-const ON_UNIT_0: Row = Row {
-    zero: Some(0),
-    one: None,
-};
-
-#[test]
-fn more_workers_than_blocks(rt: HostRuntime) -> Result<(), Fail> {
-    let text = b"A: loadI 4 => r1\nB:\noutput 0\n";
-    let found = schedules(&rt, rt.alloc(), text, 8, &FreeGate)?;
-    let dest = Reg(0);
-    let first = Op::LoadI { value: 4, dest };
-    assert!(rt; found.len() == 2);
-    for (schedule, op) in found.iter().zip([first, Op::Output { addr: 0 }]) {
-        assert_list(&rt, schedule.ops(), &[op]);
-        assert_list(&rt, schedule.rows(), &[ON_UNIT_0]);
-    }
     Ok(())
 }
 
