@@ -1,3 +1,4 @@
 mod by_address;
+mod delay_pairs;
 mod heuristics;
 mod refusals;
