@@ -7,12 +7,14 @@ mod fact;
 mod label;
 mod lawfulness;
 mod reading;
+mod sides;
 
 pub use by_label::ByLabel;
 pub use counterparts::lacking::{Lacking, without_counterpart};
 pub use fact::{Fact, MOST_FACTS, Reasons};
 pub use label::{have_one_label, opcode_and_constant};
 pub use lawfulness::{Added, Issue, LeftOut};
-pub use reading::given::{givens, without_nops};
+pub use reading::Reading;
+pub use reading::given::without_nops;
 pub use reading::sources::Sources;
-pub use reading::{Reading, readings};
+pub use sides::Sides;

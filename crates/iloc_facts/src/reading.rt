@@ -45,8 +45,8 @@ fn note(readings: &mut Vec<Reading>, run: &Run, ops: &[Op], slot: Option<usize>,
     }
 }
 
-/// Promise: by operation of a schedule when it is issued, and what it reads then.
-pub fn readings(
+/// By operation of a schedule when it is issued, and what it reads then.
+pub(crate) fn readings(
     alloc: Global,
     schedule: &Schedule,
     latencies: &Latencies,

@@ -23,7 +23,7 @@ use self::side::{Side, effects, paired};
 use self::strays::Strays;
 use self::walk::{Found, Said, Walk};
 use crate::claim::Claim;
-use crate::sides::Sides;
+use iloc_facts::Sides;
 use iloc_ops::NoMemory;
 use std::alloc::Global;
 use std::collections::BTreeMap;

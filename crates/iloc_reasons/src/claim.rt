@@ -5,12 +5,11 @@ ghost use Rattle.iloc_timed.specs.declared.kind.Kind.TheVariants as kinds;
 ghost use Rattle.iloc_rules.specs.Delays.{keeps_order};
 ghost use Rattle.iloc_facts.specs.Facts.{AreAgainst, HasBeenThere, HasLabel, IsFact};
 ghost use Rattle.iloc_reasons.specs.Steps.Likeness.{TellApart};
-ghost use Rattle.iloc_reasons.specs.Steps.Sides.{AreNoted, AreRead, source_at};
+ghost use Rattle.iloc_reasons.specs.Steps.Sides.{AreNoted, source_at};
 
 use crate::likeness::Terms;
-use crate::sides::Sides;
 use crate::terms::at;
-use iloc_facts::{Fact, Issue, Sources, have_one_label};
+use iloc_facts::{Fact, Issue, Sides, Sources, have_one_label};
 use iloc_ops::{Op, Reg, defines, uses};
 use iloc_timed::Kind;
 use std::collections::BTreeMap;
@@ -80,8 +79,7 @@ pub(crate) fn source_at(sources: Sources, place: usize) -> Option<usize>
 
 /// Load or output k is issued while a store is under way.
 fn under_way(sides: &Sides, k: usize, store: usize) -> Option<Fact>
-    requires { AreRead sides.now.latencies.now sides.now.schedule.now.ops sides.now.schedule.now.rows sides.now.readings.now }
-    ensures { IfSome result (IsFact sides.now.latencies.now sides.now.block.now sides.now.schedule.now.ops
+    ensures { IfSome result (IsFact sides.now.latencies.now sides.now.block.items sides.now.schedule.now.ops
         sides.now.schedule.now.rows) }
 {
     let issue = sides.issue(k)?;
@@ -103,8 +101,7 @@ fn under_way(sides: &Sides, k: usize, store: usize) -> Option<Fact>
 
 /// Operation k reads at a place a register for which the result of another is under way.
 fn brings(sides: &Sides, k: usize, place: usize, late: usize) -> Option<Fact>
-    requires { AreRead sides.now.latencies.now sides.now.schedule.now.ops sides.now.schedule.now.rows sides.now.readings.now }
-    ensures { IfSome result (IsFact sides.now.latencies.now sides.now.block.now sides.now.schedule.now.ops
+    ensures { IfSome result (IsFact sides.now.latencies.now sides.now.block.items sides.now.schedule.now.ops
         sides.now.schedule.now.rows) }
 {
     let issue = sides.issue(k)?;
@@ -134,7 +131,6 @@ fn been_there(
     j: usize,
     lost: Option<usize>,
 ) -> Option<Option<Issue>>
-    requires { AreRead sides.now.latencies.now sides.now.schedule.now.ops sides.now.schedule.now.rows sides.now.readings.now }
     ensures { IfSome result (HasBeenThere sides.now.latencies.now sides.now.schedule.now.ops sides.now.schedule.now.rows
         cycle register j) }
 {
@@ -151,8 +147,7 @@ fn been_there(
 
 /// Operation k reads at a place a result that came over what was there.
 fn replaced(sides: &Sides, k: usize, place: usize, lost: Option<usize>) -> Option<Fact>
-    requires { AreRead sides.now.latencies.now sides.now.schedule.now.ops sides.now.schedule.now.rows sides.now.readings.now }
-    ensures { IfSome result (IsFact sides.now.latencies.now sides.now.block.now sides.now.schedule.now.ops
+    ensures { IfSome result (IsFact sides.now.latencies.now sides.now.block.items sides.now.schedule.now.ops
         sides.now.schedule.now.rows) }
 {
     let issue = sides.issue(k)?;
@@ -171,9 +166,8 @@ fn replaced(sides: &Sides, k: usize, place: usize, lost: Option<usize>) -> Optio
 
 /// No operation reads the result of operation j.
 fn never_read(sides: &Sides, read: &BTreeMap<usize, usize>, j: usize) -> Option<Fact>
-    requires readings { AreRead sides.now.latencies.now sides.now.schedule.now.ops sides.now.schedule.now.rows sides.now.readings.now }
-    requires noted { AreNoted sides.now.readings.now read.now }
-    ensures { IfSome result (IsFact sides.now.latencies.now sides.now.block.now sides.now.schedule.now.ops
+    requires noted { AreNoted sides.now.readings.items read.now }
+    ensures { IfSome result (IsFact sides.now.latencies.now sides.now.block.items sides.now.schedule.now.ops
         sides.now.schedule.now.rows) }
 {
     let issue = sides.issue(j)?;
@@ -207,8 +201,7 @@ fn are_against(i: usize, o: usize, cycle: usize, other: usize) -> bool
 /// Memory or outputs fix in which order operation k and another one come, and the block has operations that differ from them
 /// in registers alone, by these numbers, in the other order.
 fn ordered(sides: &Sides, k: usize, other: usize, i: usize, o: usize) -> Option<Fact>
-    requires { AreRead sides.now.latencies.now sides.now.schedule.now.ops sides.now.schedule.now.rows sides.now.readings.now }
-    ensures { IfSome result (IsFact sides.now.latencies.now sides.now.block.now sides.now.schedule.now.ops
+    ensures { IfSome result (IsFact sides.now.latencies.now sides.now.block.items sides.now.schedule.now.ops
         sides.now.schedule.now.rows) }
 {
     let issue = sides.issue(k)?;
@@ -216,8 +209,8 @@ fn ordered(sides: &Sides, k: usize, other: usize, i: usize, o: usize) -> Option<
     let one = Kind::of(&issue.op);
     let two = Kind::of(&it.op);
     if (keep_order(one, two) || keep_order(two, one))
-        && has_label(sides.block, i, &issue.op)
-        && has_label(sides.block, o, &it.op)
+        && has_label(&sides.block, i, &issue.op)
+        && has_label(&sides.block, o, &it.op)
         && are_against(i, o, issue.cycle, it.cycle)
     {
         return Some(Fact::Order { issue, other: it });
@@ -227,10 +220,9 @@ fn ordered(sides: &Sides, k: usize, other: usize, i: usize, o: usize) -> Option<
 
 /// Operation k has the label of operation i of the block, and isn't alike to it.
 fn stands_for(sides: &Sides, terms: &Terms, k: usize, i: usize) -> Option<Fact>
-    requires read { AreRead sides.now.latencies.now sides.now.schedule.now.ops sides.now.schedule.now.rows sides.now.readings.now }
-    requires terms { TellApart sides.now.latencies.now sides.now.block.now sides.now.schedule.now.ops
+    requires terms { TellApart sides.now.latencies.now sides.now.block.items sides.now.schedule.now.ops
         sides.now.schedule.now.rows terms.now }
-    ensures { IfSome result (IsFact sides.now.latencies.now sides.now.block.now sides.now.schedule.now.ops
+    ensures { IfSome result (IsFact sides.now.latencies.now sides.now.block.items sides.now.schedule.now.ops
         sides.now.schedule.now.rows) }
 {
     let issue = sides.issue(k)?;
@@ -247,10 +239,9 @@ fn stands_for(sides: &Sides, terms: &Terms, k: usize, i: usize) -> Option<Fact>
 
 /// No operation of the block is like operation k.
 fn like_none(sides: &Sides, terms: &Terms, k: usize) -> Option<Fact>
-    requires read { AreRead sides.now.latencies.now sides.now.schedule.now.ops sides.now.schedule.now.rows sides.now.readings.now }
-    requires terms { TellApart sides.now.latencies.now sides.now.block.now sides.now.schedule.now.ops
+    requires terms { TellApart sides.now.latencies.now sides.now.block.items sides.now.schedule.now.ops
         sides.now.schedule.now.rows terms.now }
-    ensures { IfSome result (IsFact sides.now.latencies.now sides.now.block.now sides.now.schedule.now.ops
+    ensures { IfSome result (IsFact sides.now.latencies.now sides.now.block.items sides.now.schedule.now.ops
         sides.now.schedule.now.rows) }
 {
     let issue = sides.issue(k)?;
@@ -268,11 +259,10 @@ impl Claim {
         terms: &Terms,
         read: &BTreeMap<usize, usize>,
     ) -> Option<Fact>
-        requires terms { TellApart sides.now.latencies.now sides.now.block.now sides.now.schedule.now.ops
+        requires terms { TellApart sides.now.latencies.now sides.now.block.items sides.now.schedule.now.ops
             sides.now.schedule.now.rows terms.now }
-        requires readings { AreRead sides.now.latencies.now sides.now.schedule.now.ops sides.now.schedule.now.rows sides.now.readings.now }
-        requires noted { AreNoted sides.now.readings.now read.now }
-        ensures { IfSome result (IsFact sides.now.latencies.now sides.now.block.now sides.now.schedule.now.ops
+        requires noted { AreNoted sides.now.readings.items read.now }
+        ensures { IfSome result (IsFact sides.now.latencies.now sides.now.block.items sides.now.schedule.now.ops
             sides.now.schedule.now.rows) }
     {
         let k = self.k;

@@ -4,13 +4,12 @@ ghost use Rattle.std.specs.Prelude.{◌≡◌, ◌<◌, ◌↔◌, length, take,
 ghost use Rattle.iloc_meaning.specs.Trace.{op_at};
 ghost use Rattle.iloc_facts.specs.Counts.{count_like};
 ghost use Rattle.iloc_facts.specs.Facts.{AreSources, IsCounterpart, IsFact};
-ghost use Rattle.iloc_reasons.specs.Steps.Sides.{AreAllRead, AreSides};
+ghost use Rattle.iloc_reasons.specs.Steps.Sides.{AreAllRead};
 
 use crate::choice::data_flow::DataFlow;
 use crate::choice::side::paired;
 use crate::claim::source_at;
-use crate::sides::Sides;
-use iloc_facts::{Fact, Sources, have_one_label};
+use iloc_facts::{Fact, Sides, Sources, have_one_label};
 use iloc_ops::{NoMemory, Op};
 use std::alloc::Global;
 
@@ -29,11 +28,10 @@ fn count_before(ops: &[Op], k: usize) -> usize
 }
 
 /// Whether operation i of the block is the counterpart of operation k of the rows.
-fn is_counterpart(sides: &Sides, i: usize, k: usize) -> bool
-    requires within { k < length sides.now.schedule.now.ops }
-    ensures { IsTrue result ↔ IsCounterpart sides.now.block.now sides.now.schedule.now.ops i k }
+fn is_counterpart(block: &[Op], ops: &[Op], i: usize, k: usize) -> bool
+    requires { k < length ops.now }
+    ensures { IsTrue result ↔ IsCounterpart block.now ops.now i k }
 {
-    let (block, ops) = (sides.block, sides.schedule.ops());
     i < block.len()
         && have_one_label(&block[i], &ops[k])
         && count_before(block, i) == count_before(ops, k)
@@ -41,10 +39,11 @@ fn is_counterpart(sides: &Sides, i: usize, k: usize) -> bool
 
 /// Whether what is read is the start of a register on both sides, or results of counterparts.
 fn is_same(sides: &Sides, given: Option<usize>, read: Option<usize>) -> bool
-    ensures { result ≡ false → AreSources (IsCounterpart sides.now.block.now sides.now.schedule.now.ops) given read → ⊥ }
+    ensures { result ≡ false → AreSources (IsCounterpart sides.now.block.items sides.now.schedule.now.ops) given read → ⊥ }
 {
+    let ops = sides.schedule.ops();
     match (given, read) {
-        (Some(o), Some(j)) => j >= sides.schedule.ops().len() || is_counterpart(sides, o, j),
+        (Some(o), Some(j)) => j >= ops.len() || is_counterpart(&sides.block, ops, o, j),
         (None, None) => true,
         _ => false,
     }
@@ -52,7 +51,7 @@ fn is_same(sides: &Sides, given: Option<usize>, read: Option<usize>) -> bool
 
 /// The same of all that is read.
 fn are_same(sides: &Sides, given: Sources, read: Sources) -> bool
-    ensures { result ≡ false → AreAllRead (IsCounterpart sides.now.block.now sides.now.schedule.now.ops) given read → ⊥ }
+    ensures { result ≡ false → AreAllRead (IsCounterpart sides.now.block.items sides.now.schedule.now.ops) given read → ⊥ }
 {
     match (given, read) {
         (Sources::One(only), Sources::One(other)) => is_same(sides, only, other),
@@ -65,15 +64,14 @@ fn are_same(sides: &Sides, given: Sources, read: Sources) -> bool
 
 /// Operation k of the rows doesn't read what its counterpart reads, if that is operation i of the block.
 fn seen(sides: &Sides, k: usize, i: usize) -> Option<Fact>
-    requires { AreSides sides.now.latencies.now sides.now.block.now sides.now.givens.now sides.now.schedule.now
-        sides.now.readings.now }
-    ensures { IfSome result (IsFact sides.now.latencies.now sides.now.block.now sides.now.schedule.now.ops
+    ensures { IfSome result (IsFact sides.now.latencies.now sides.now.block.items sides.now.schedule.now.ops
         sides.now.schedule.now.rows) }
 {
     let issue = sides.issue(k)?;
     let given = sides.given(i)?;
     let reading = sides.reading(k)?;
-    if is_counterpart(sides, i, k) && !are_same(sides, given, reading.sources) {
+    let ops = sides.schedule.ops();
+    if is_counterpart(&sides.block, ops, i, k) && !are_same(sides, given, reading.sources) {
         return Some(Fact::See { issue });
     }
     None
@@ -104,9 +102,7 @@ pub(crate) fn first_seen(
     block: &DataFlow,
     rows: &DataFlow,
 ) -> Result<Option<Fact>, NoMemory>
-    requires { AreSides sides.now.latencies.now sides.now.block.now sides.now.givens.now sides.now.schedule.now
-        sides.now.readings.now }
-    ensures { IfOk result (λ found. IfSome found (IsFact sides.now.latencies.now sides.now.block.now
+    ensures { IfOk result (λ found. IfSome found (IsFact sides.now.latencies.now sides.now.block.items
         sides.now.schedule.now.ops sides.now.schedule.now.rows)) }
 {
     let partners = paired(alloc, &rows.labels, &block.labels)?;

@@ -7,7 +7,6 @@ mod counterpart;
 mod likeness;
 mod read;
 mod reasons;
-mod sides;
 mod terms;
 
 pub use reasons::reasons_of;

@@ -4,13 +4,11 @@ ghost use Rattle.std.specs.BTreeMap.{get};
 ghost use Rattle.std.specs.Ordering.{nat_cmp};
 ghost use Rattle.iloc_facts.specs.declared.reading.Reading.{Reading as Noted};
 ghost use Rattle.iloc_reasons.specs.Steps.Likeness.{TellApart};
-ghost use Rattle.iloc_reasons.specs.Steps.Sides.{AreSides};
 ghost use Rattle.iloc_reasons.specs.Steps.Terms.{AreTerms};
 
 use crate::choice::data_flow::DataFlow;
-use crate::sides::Sides;
 use crate::terms::{Values, at, label_number};
-use iloc_facts::{Reading, Sources};
+use iloc_facts::{Reading, Sides, Sources};
 use iloc_ops::{NoMemory, Op};
 use std::alloc::Global;
 use std::collections::BTreeMap;
@@ -67,16 +65,14 @@ pub(crate) fn terms_of(
     block: &DataFlow,
     rows: &DataFlow,
 ) -> Result<Terms, NoMemory>
-    requires { AreSides sides.now.latencies.now sides.now.block.now sides.now.givens.now sides.now.schedule.now
-        sides.now.readings.now }
-    ensures { IfOk result (TellApart sides.now.latencies.now sides.now.block.now sides.now.schedule.now.ops
+    ensures { IfOk result (TellApart sides.now.latencies.now sides.now.block.items sides.now.schedule.now.ops
         sides.now.schedule.now.rows) }
 {
     let ops = sides.schedule.ops();
-    let sources = sources_of(alloc, sides.readings)?;
+    let sources = sources_of(alloc, &sides.readings)?;
     let here = block.forwards(alloc, &block.labels)?;
     let there = rows.forwards(alloc, &rows.labels)?;
-    if are_terms(sides.block, sides.givens, &here) && are_terms(ops, &sources, &there) {
+    if are_terms(&sides.block, &sides.givens, &here) && are_terms(ops, &sources, &there) {
         let known = looked_up(alloc, &here, sides.block.len())?;
         return Ok(Terms {
             block: here,

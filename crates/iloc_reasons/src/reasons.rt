@@ -5,7 +5,7 @@ ghost use Rattle.iloc_facts.specs.Lawfulness.{AreLeftOut, AreAdded};
 ghost use Rattle.iloc_facts.specs.Facts.{IsFact};
 ghost use Rattle.iloc_facts.specs.Reasons.{AreReasons};
 ghost use Rattle.iloc_reasons.specs.Steps.Likeness.{TellApart};
-ghost use Rattle.iloc_reasons.specs.Steps.Sides.{AreNoted, AreRead, AreSides};
+ghost use Rattle.iloc_reasons.specs.Steps.Sides.{AreNoted};
 
 use crate::choice::chosen;
 use crate::choice::data_flow::DataFlow;
@@ -13,10 +13,7 @@ use crate::claim::Claim;
 use crate::counterpart::first_seen;
 use crate::likeness::{Terms, sources_of, terms_of};
 use crate::read::read_by_some;
-use crate::sides::Sides;
-use iloc_facts::{
-    Added, Fact, LeftOut, MOST_FACTS, Reasons, givens, readings, without_counterpart, without_nops,
-};
+use iloc_facts::{Added, Fact, LeftOut, MOST_FACTS, Reasons, Sides, without_counterpart};
 use iloc_ops::{Block, NoMemory};
 use iloc_timed::{Latencies, Schedule};
 use std::alloc::Global;
@@ -30,11 +27,10 @@ fn first_facts(
     read: &BTreeMap<usize, usize>,
     claims: &[Claim],
 ) -> Result<(Vec<Fact>, usize), NoMemory>
-    requires terms { TellApart sides.now.latencies.now sides.now.block.now sides.now.schedule.now.ops
+    requires terms { TellApart sides.now.latencies.now sides.now.block.items sides.now.schedule.now.ops
         sides.now.schedule.now.rows terms.now }
-    requires readings { AreRead sides.now.latencies.now sides.now.schedule.now.ops sides.now.schedule.now.rows sides.now.readings.now }
-    requires noted { AreNoted sides.now.readings.now read.now }
-    ensures facts { IfOk result (λ listed. All (IsFact sides.now.latencies.now sides.now.block.now sides.now.schedule.now.ops
+    requires noted { AreNoted sides.now.readings.items read.now }
+    ensures facts { IfOk result (λ listed. All (IsFact sides.now.latencies.now sides.now.block.items sides.now.schedule.now.ops
         sides.now.schedule.now.rows) listed.0.items) }
     ensures few { IfOk result (λ listed. length listed.0.items ≤ 8) }
     ensures more { IfOk result (λ listed. length listed.0.items < 8 → listed.1 ≡ 0) }
@@ -61,12 +57,10 @@ fn or_seen(
     rows: &DataFlow,
     facts: Vec<Fact>,
 ) -> Result<Vec<Fact>, NoMemory>
-    requires sides { AreSides sides.now.latencies.now sides.now.block.now sides.now.givens.now sides.now.schedule.now
-        sides.now.readings.now }
-    requires facts { All (IsFact sides.now.latencies.now sides.now.block.now sides.now.schedule.now.ops
+    requires facts { All (IsFact sides.now.latencies.now sides.now.block.items sides.now.schedule.now.ops
         sides.now.schedule.now.rows) facts.items }
     requires few { length facts.items ≤ 8 }
-    ensures facts { IfOk result (λ listed. All (IsFact sides.now.latencies.now sides.now.block.now sides.now.schedule.now.ops
+    ensures facts { IfOk result (λ listed. All (IsFact sides.now.latencies.now sides.now.block.items sides.now.schedule.now.ops
         sides.now.schedule.now.rows) listed.items) }
     ensures few { IfOk result (λ listed. length listed.items ≤ 8) }
     ensures kept { IfOk result (λ listed. length facts.items ≤ length listed.items) }
@@ -82,9 +76,9 @@ fn or_seen(
 
 /// The operations of the block that have no counterpart, named by this one, if it is short.
 fn left_out(alloc: Global, sides: &Sides, named: Option<usize>) -> Result<Option<LeftOut>, NoMemory>
-    ensures { IfOk result (AreLeftOut sides.now.block.now sides.now.schedule.now.ops) }
+    ensures { IfOk result (AreLeftOut sides.now.block.items sides.now.schedule.now.ops) }
 {
-    match without_counterpart(alloc, sides.block, sides.schedule.ops(), named)? {
+    match without_counterpart(alloc, &sides.block, sides.schedule.ops(), named)? {
         Some(it) => Ok(Some(LeftOut {
             count: it.count,
             op: sides.block[it.number],
@@ -95,10 +89,9 @@ fn left_out(alloc: Global, sides: &Sides, named: Option<usize>) -> Result<Option
 
 /// The operations of the rows that have no counterpart, named by this one, if it is short.
 fn added(alloc: Global, sides: &Sides, named: Option<usize>) -> Result<Option<Added>, NoMemory>
-    requires { AreRead sides.now.latencies.now sides.now.schedule.now.ops sides.now.schedule.now.rows sides.now.readings.now }
-    ensures { IfOk result (AreAdded sides.now.block.now sides.now.schedule.now.ops sides.now.schedule.now.rows) }
+    ensures { IfOk result (AreAdded sides.now.block.items sides.now.schedule.now.ops sides.now.schedule.now.rows) }
 {
-    match without_counterpart(alloc, sides.schedule.ops(), sides.block, named)? {
+    match without_counterpart(alloc, sides.schedule.ops(), &sides.block, named)? {
         Some(it) => Ok(Some(Added {
             count: it.count,
             issue: sides.issued(it.number),
@@ -116,10 +109,8 @@ fn found_facts(
     read: &BTreeMap<usize, usize>,
     claims: &[Claim],
 ) -> Result<(Vec<Fact>, usize), NoMemory>
-    requires sides { AreSides sides.now.latencies.now sides.now.block.now sides.now.givens.now sides.now.schedule.now
-        sides.now.readings.now }
-    requires noted { AreNoted sides.now.readings.now read.now }
-    ensures facts { IfOk result (λ listed. All (IsFact sides.now.latencies.now sides.now.block.now sides.now.schedule.now.ops
+    requires noted { AreNoted sides.now.readings.items read.now }
+    ensures facts { IfOk result (λ listed. All (IsFact sides.now.latencies.now sides.now.block.items sides.now.schedule.now.ops
         sides.now.schedule.now.rows) listed.0.items) }
     ensures few { IfOk result (λ listed. length listed.0.items ≤ 8) }
     ensures more { IfOk result (λ listed. length listed.0.items < 8 → listed.1 ≡ 0) }
@@ -135,12 +126,10 @@ fn reasons_among(
     block: &DataFlow,
     rows: &DataFlow,
 ) -> Result<Reasons, NoMemory>
-    requires { AreSides sides.now.latencies.now sides.now.block.now sides.now.givens.now sides.now.schedule.now
-        sides.now.readings.now }
-    ensures { IfOk result (AreReasons sides.now.latencies.now sides.now.block.now sides.now.schedule.now.ops
+    ensures { IfOk result (AreReasons sides.now.latencies.now sides.now.block.items sides.now.schedule.now.ops
         sides.now.schedule.now.rows) }
 {
-    let read = read_by_some(alloc, sides.readings)?;
+    let read = read_by_some(alloc, &sides.readings)?;
     let choice = chosen(alloc, sides, block, rows, &read)?;
     let (facts, more) = found_facts(alloc, sides, block, rows, &read, &choice.claims)?;
     let left_out = left_out(alloc, sides, choice.left_out)?;
@@ -160,13 +149,11 @@ fn reasons_among(
 
 /// The same, of both sides.
 fn reasons_by(alloc: Global, sides: &Sides) -> Result<Reasons, NoMemory>
-    requires { AreSides sides.now.latencies.now sides.now.block.now sides.now.givens.now sides.now.schedule.now
-        sides.now.readings.now }
-    ensures { IfOk result (AreReasons sides.now.latencies.now sides.now.block.now sides.now.schedule.now.ops
+    ensures { IfOk result (AreReasons sides.now.latencies.now sides.now.block.items sides.now.schedule.now.ops
         sides.now.schedule.now.rows) }
 {
-    let block = DataFlow::of_block(alloc, sides.block, sides.givens)?;
-    let sources = sources_of(alloc, sides.readings)?;
+    let block = DataFlow::of_block(alloc, &sides.block, &sides.givens)?;
+    let sources = sources_of(alloc, &sides.readings)?;
     let rows = DataFlow::of(alloc, sides.schedule.ops(), sides.schedule.rows(), &sources)?;
     reasons_among(alloc, sides, &block, &rows)
 }
@@ -184,15 +171,6 @@ pub fn reasons_of(
 ) -> Result<Reasons, NoMemory>
     ensures { IfOk result (AreReasons latencies.now (ops_of block.now.ops) theirs.now.ops theirs.now.rows) }
 {
-    let ops = without_nops(alloc, block)?;
-    let givens = givens(alloc, &ops)?;
-    let readings = readings(alloc, theirs, latencies)?;
-    let sides = Sides {
-        block: &ops,
-        givens: &givens,
-        schedule: theirs,
-        readings: &readings,
-        latencies,
-    };
+    let sides = Sides::of(alloc, block, theirs, latencies)?;
     reasons_by(alloc, &sides)
 }

@@ -48,6 +48,7 @@ pub use Rattle.iloc_facts.specs.UnderWay.{IsUnderWay}
 pub use Rattle.iloc_facts.specs.declared.by_label.ByLabel.{ByLabel}
 pub use Rattle.iloc_facts.specs.declared.reading.Reading.{Reading}
 pub use Rattle.iloc_facts.specs.declared.reading.sources.Sources.{Sources}
+pub use Rattle.iloc_facts.specs.declared.sides.Sides.{Sides}
 pub use Rattle.iloc_validation.specs.ByTheBook.{ArePaired, IsByTheBook, IsScheduleUnder, IssueTheSame, issued_in}
 pub use Rattle.iloc_validation.specs.Decision.{IsScheduleBy}
 pub use Rattle.iloc_validation.specs.OwnRows.{AreOwnRows, renumber}
@@ -55,7 +56,7 @@ pub use Rattle.iloc_validation.specs.Steps.Colours.{AreBackwards, AreColoured, A
 pub use Rattle.iloc_validation.specs.Steps.Decisions.{AreKeptColours, IsDecisionAmong, IsDecisionOf, KeptColours}
 pub use Rattle.iloc_validation.specs.Steps.FirstColours.{ArePlaces, colour_in, count_of, counted, first_colour, first_here, first_there, label_colour, numbers_below, with_op, with_place, with_slot}
 pub use Rattle.iloc_validation.specs.Steps.Numbers.{AreNotedBefore, AreNumbersIn, in_slot, is_in, number_in, with_number}
-pub use Rattle.iloc_validation.specs.Steps.Sides.{AreSides, IsKept}
+pub use Rattle.iloc_validation.specs.Steps.Pairing.{IsKept, IsUnder}
 pub use Rattle.iloc_validation.specs.Steps.Sources.{by_numbers}
 pub use Rattle.iloc_validation.specs.Steps.Stores.{IsStoredUntil}
 pub use Rattle.iloc_validation.specs.Steps.Waits.{earliest, memory_by, noted, wait_of}

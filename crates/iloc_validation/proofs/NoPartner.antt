@@ -1,5 +1,5 @@
 -- Where an operation is no pair with any of the rows, no pairing keeps the colours.
-use Rattle.iloc_validation.proofs.Common.{◌≡◌, ℕ, ◌+◌, ◌<◌, List, length, slice_index, Some, None, Option, sym, ap, ◌∙◌, subst, inl, inr, arith, get_or-set_other, get_or-set_same, cases_eq, cases_lt, Op, Table, Latencies, Reading, Sources, ArePaired, AreColoured, AreKept, AreKeptByNone, HaveColours, IsNoPair, IsPairColoured, marked, IsDecisionAmong, IsDecisionOf, AreSides, Coloured}
+use Rattle.iloc_validation.proofs.Common.{◌≡◌, ℕ, ◌+◌, ◌<◌, List, length, slice_index, Some, None, Option, sym, ap, ◌∙◌, subst, inl, inr, arith, get_or-set_other, get_or-set_same, cases_eq, cases_lt, Op, ArePaired, AreColoured, AreKept, AreKeptByNone, HaveColours, IsNoPair, IsPairColoured, marked, IsDecisionAmong, IsDecisionOf, Coloured, Sides}
 use Rattle.iloc_validation.specs.declared.decision.Decision.{Decision}
 use Rattle.iloc_validation.specs.declared.decision.Decision.TheVariants.{Lawful, Unlawful, Undecided}
 
@@ -24,45 +24,41 @@ module _ (block ops : List Op) (origin partner : ℕ → ℕ) (paired : ArePaire
         (λ is. apart (sym (paired.back k inside) ∙ ap partner is)))
   ]
 
-pub no_partner : (block : List Op) (givens : List Sources) (schedule : Table) (readings : List Reading) (here there : List ℕ)
-    → length here ≡ length block → length there ≡ length schedule.ops → (i : ℕ) → i < length block
-    → ((k : ℕ) → k < length there → IsNoPair block givens schedule readings here there i k)
-    → AreKeptByNone block givens schedule readings here there
-no_partner block givens schedule readings here there size size_too i within each = λ lat sides origin partner under kept.
-    let inside : partner i < length schedule.ops = under.paired.there_too i within in
+pub no_partner : (sides : Sides) (here there : List ℕ) → length here ≡ length sides.block.items
+    → length there ≡ length sides.schedule.now.ops → (i : ℕ) → i < length sides.block.items
+    → ((k : ℕ) → k < length there → IsNoPair sides here there i k) → AreKeptByNone sides here there
+no_partner sides here there size size_too i within each = λ origin partner under kept.
+    let inside : partner i < length sides.schedule.now.ops = under.paired.there_too i within in
     each (partner i) (rw size_too inside)
     (kept (partner i) inside ∙ ap (slice_index here) (under.paired.back_too i within))
-    lat sides origin partner under
-    (marked_kept block schedule.ops origin partner under.paired here there size size_too i within kept)
+    origin partner under
+    (marked_kept sides.block.items sides.schedule.now.ops origin partner under.paired here there size size_too i within
+    kept)
 
-module _ (block : List Op) (givens : List Sources) (schedule : Table) (readings : List Reading) (here there : List ℕ) where
+module _ (sides : Sides) (here there : List ℕ) where
   pub pair_coloured : (i k : ℕ) (found : Option Coloured)
-      → AreColoured block givens schedule readings (marked here i) (marked there k) found
-      → IsPairColoured block givens schedule readings here there i k found
+      → AreColoured sides (marked here i) (marked there k) found → IsPairColoured sides here there i k found
   pair_coloured i k None are = λ same. are
   pair_coloured i k (Some new) are = are
 
-  pub one_more_no_pair : (i k : ℕ) → ((j : ℕ) → j < k → IsNoPair block givens schedule readings here there i j)
-      → IsNoPair block givens schedule readings here there i k
-      → (j : ℕ) → j < k + 1 → IsNoPair block givens schedule readings here there i j
+  pub one_more_no_pair : (i k : ℕ) → ((j : ℕ) → j < k → IsNoPair sides here there i j)
+      → IsNoPair sides here there i k → (j : ℕ) → j < k + 1 → IsNoPair sides here there i j
   one_more_no_pair i k so_far this j within = elim (cases_lt j k) [
     | inl before ↦ so_far j before
     | inr last ↦
         let same : k ≡ j = omega arith in
-        subst (IsNoPair block givens schedule readings here there i) same this
+        subst (IsNoPair sides here there i) same this
   ]
 
   -- where no pairing keeps the new colours, two operations are no pair
-  pub no_pair : (i k : ℕ) (new : Coloured) → IsPairColoured block givens schedule readings here there i k (Some new)
-      → AreKeptByNone block givens schedule readings new.here.items new.there.items
-      → IsNoPair block givens schedule readings here there i k
-  no_pair i k new are none = λ same lat sides origin partner under kept.
-      none lat sides origin partner under (are.kept lat sides origin partner under kept)
+  pub no_pair : (i k : ℕ) (new : Coloured) → IsPairColoured sides here there i k (Some new)
+      → AreKeptByNone sides new.here.items new.there.items → IsNoPair sides here there i k
+  no_pair i k new are none = λ same origin partner under kept.
+      none origin partner under (are.kept origin partner under kept)
 
   -- where all pairings keep the colours, it is one of all
-  pub among_all : (lat : Latencies) → AreSides lat block givens schedule readings → AreKept lat block schedule.ops schedule.rows here there
-      → (decision : Decision) → IsDecisionAmong lat block givens schedule readings here there decision
-      → IsDecisionOf lat block schedule.ops schedule.rows decision
-  among_all lat sides kept (Lawful pairing) is = is
-  among_all lat sides kept Unlawful is = λ origin partner under. is lat sides origin partner under (kept origin partner under)
-  among_all lat sides kept Undecided is = is
+  pub among_all : AreKept sides here there → (decision : Decision) → IsDecisionAmong sides here there decision
+      → IsDecisionOf sides decision
+  among_all kept (Lawful pairing) is = is
+  among_all kept Unlawful is = λ origin partner under. is origin partner under (kept origin partner under)
+  among_all kept Undecided is = is

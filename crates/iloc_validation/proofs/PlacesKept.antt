@@ -1,5 +1,5 @@
 -- Every pairing keeps the places of loads, stores and outputs, and so the first colours.
-use Rattle.iloc_validation.proofs.Common.{◌≡◌, ℕ, suc, ◌+◌, ◌%◌, ◌^◌, ◌<◌, ◌≤◌, Bool, true, ◌⊎◌, List, [], ◌∷◌, ◌++◌, length, slice_index, Some, None, filter, Option, option_to_list, sym, refl, ap, ◌∙◌, subst, ap₂, inl, append_assoc, append-nil, arith, mod-add-mod, cases_lt, length-filter, Op, op_at, is_output, is_store, kind, IsTable, issue_cycle, row_at, Kind, Latencies, Row, output_is, store_is, from_filter, in_filter, Ordered, ordered_filter, ComesLater, early_issued, issued_in_order, numbers_before, In, issued_before, ByLabel, IsScheduleUnder, AreKept, ArePlaces, colour_in, count_of, counted, first_here, first_there, label_colour, numbers_below, with_op, with_place, with_slot, AreNotedBefore, with_number, memory_by}
+use Rattle.iloc_validation.proofs.Common.{◌≡◌, ℕ, suc, ◌+◌, ◌%◌, ◌^◌, ◌<◌, ◌≤◌, Bool, true, ◌⊎◌, List, [], ◌∷◌, ◌++◌, length, slice_index, Some, None, filter, Option, option_to_list, sym, refl, ap, ◌∙◌, subst, ap₂, inl, append_assoc, append-nil, arith, mod-add-mod, cases_lt, length-filter, Op, op_at, is_output, is_store, kind, IsTable, issue_cycle, row_at, Kind, Latencies, Row, output_is, store_is, from_filter, in_filter, Ordered, ordered_filter, ComesLater, early_issued, issued_in_order, numbers_before, In, issued_before, ByLabel, IsScheduleUnder, AreKept, ArePlaces, colour_in, count_of, counted, first_here, first_there, label_colour, numbers_below, with_op, with_place, with_slot, AreNotedBefore, with_number, memory_by, Sides}
 use Rattle.iloc_timed.specs.declared.kind.Kind.TheVariants as K
 use Rattle.iloc_rules.proofs.Basics.Slots.{issued_early}
 use Rattle.iloc_validation.specs.declared.decision.first_colours.Places.{Places}
@@ -187,10 +187,13 @@ module _ (lat : Latencies) (block ops : List Op) (rows : List Row) (origin partn
       (kind_of lat block ops rows origin partner by k inside)
       (same_label_colour labels (op_at ops k) (op_at block (origin k)) (by.paired.labels k inside))
 
-pub first_kept : (labels : ByLabel) (lat : Latencies) (block ops : List Op) (rows : List Row) (here there : List ℕ)
-    → ((i : ℕ) → i < length block → slice_index here i ≡ first_here labels block i)
-    → ((k : ℕ) → k < length ops → slice_index there k ≡ first_there labels ops rows k) → AreKept lat block ops rows here there
-first_kept labels lat block ops rows here there each each_there = λ origin partner under k inside.
+pub first_kept : (labels : ByLabel) (sides : Sides) (here there : List ℕ)
+    → ((i : ℕ) → i < length sides.block.items → slice_index here i ≡ first_here labels sides.block.items i)
+    → ((k : ℕ) → k < length sides.schedule.now.ops
+    → slice_index there k ≡ first_there labels sides.schedule.now.ops sides.schedule.now.rows k)
+    → AreKept sides here there
+first_kept labels sides here there each each_there = λ origin partner under k inside.
     each_there k inside
-    ∙ first_same lat block ops rows origin partner under labels k inside
+    ∙ first_same sides.latencies.now sides.block.items sides.schedule.now.ops sides.schedule.now.rows origin partner
+    under labels k inside
     ∙ sym (each (origin k) (under.paired.there k inside))

@@ -2,7 +2,6 @@
 pub mod Sources
 pub mod Waits
 pub mod Pairing
-pub mod Sides
 pub mod Colours
 pub mod Numbers
 pub mod Stores

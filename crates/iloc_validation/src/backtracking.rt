@@ -18,7 +18,7 @@ use self::readers::Readers;
 use self::run::Search;
 use crate::colours::Coloured;
 use crate::pairing::Pairing;
-use crate::verification::Sides;
+use iloc_facts::Sides;
 use iloc_ops::NoMemory;
 use std::alloc::Global;
 
@@ -39,13 +39,13 @@ pub(crate) fn found_pairing(
     colours: &Coloured,
     steps: usize,
 ) -> Result<Found, NoMemory>
-    ensures { IfOk result (IsFoundFor (length sides.now.block.now) (length sides.now.readings.now)) }
+    ensures { IfOk result (IsFoundFor (length sides.now.block.items) (length sides.now.readings.items)) }
 {
     let mut reads = Vec::with_capacity(alloc, sides.readings.len())?;
-    for reading in sides.readings {
+    for reading in &sides.readings {
         reads.push(reading.sources)?;
     }
-    let block = Readers::of(alloc, sides.givens, &colours.here)?;
+    let block = Readers::of(alloc, &sides.givens, &colours.here)?;
     let rows = Readers::of(alloc, &reads, &colours.there)?;
     let mut search = Search::new(alloc, &block, &rows)?;
     let is_found = search.run(steps.saturating_mul(sides.block.len()))?;

@@ -10,8 +10,7 @@ mod passes;
 use crate::colours::issue_order::IssueOrder;
 use crate::colours::mixing::total;
 use crate::colours::passes::{backwards, forwards};
-use crate::verification::Sides;
-use iloc_facts::Sources;
+use iloc_facts::{Sides, Sources};
 use iloc_ops::NoMemory;
 use std::alloc::Global;
 
@@ -109,21 +108,18 @@ pub(crate) fn kept_colours(
     here: Vec<u64>,
     there: Vec<u64>,
 ) -> Result<Option<Coloured>, NoMemory>
-    requires here { length here.items ≡ length sides.now.block.now }
+    requires here { length here.items ≡ length sides.now.block.items }
     requires there { length there.items ≡ length sides.now.schedule.now.ops }
-    requires givens { length sides.now.givens.now ≡ length sides.now.block.now }
-    requires readings { length sides.now.readings.now ≡ length sides.now.schedule.now.ops }
-    ensures { IfOk result (AreColoured sides.now.block.now sides.now.givens.now sides.now.schedule.now
-        sides.now.readings.now here.items there.items) }
+    ensures { IfOk result (AreColoured sides.now here.items there.items) }
 {
-    let Some(order) = IssueOrder::of(alloc, sides.schedule.rows(), sides.readings)? else {
+    let Some(order) = IssueOrder::of(alloc, sides.schedule.rows(), &sides.readings)? else {
         return Ok(Some(Coloured { here, there }));
     };
     let start = Coloured {
         here,
         there: by_number(alloc, &there, &order.ops)?,
     };
-    match all_passed(alloc, sides.givens, &order.sources, start)? {
+    match all_passed(alloc, &sides.givens, &order.sources, start)? {
         Some(last) => Ok(Some(Coloured {
             there: by_number(alloc, &last.there, &order.places)?,
             here: last.here,

@@ -1,10 +1,10 @@
 //! Whether rows that somebody made are a schedule of a block by the book.
 ghost use Rattle.std.specs.Prelude.{◌≡◌, true, length, IfNone, IfOk, IfSome};
 ghost use Rattle.iloc_rules.specs.Lawful.{IsLawful};
-ghost use Rattle.iloc_validation.specs.ByTheBook.{IsScheduleUnder, IssueTheSame};
-ghost use Rattle.iloc_validation.specs.Decision.{IsDecision, IsFoundLawful, IsScheduleBy};
-ghost use Rattle.iloc_validation.specs.Steps.Decisions.{IsDecisionOf, IsExcluded};
-ghost use Rattle.iloc_validation.specs.Steps.Sides.{AreSides};
+ghost use Rattle.iloc_validation.specs.ByTheBook.{IssueTheSame};
+ghost use Rattle.iloc_validation.specs.Decision.{IsDecision, IsFoundLawful};
+ghost use Rattle.iloc_validation.specs.Steps.Decisions.{IsDecisionOf, IsExcluded, IsPairing};
+ghost use Rattle.iloc_validation.specs.Steps.Pairing.{IsUnder};
 
 pub mod first_colours;
 mod ours;
@@ -16,8 +16,8 @@ use self::ours::{issue_the_same, paired_by_slot};
 use self::partners::{Budget, searched};
 use self::under_way::is_under_way;
 use crate::pairing::Pairing;
-use crate::verification::{Sides, is_schedule_under};
-use iloc_facts::{givens, readings, without_nops};
+use crate::verification::is_schedule_under;
+use iloc_facts::Sides;
 use iloc_ops::{Block, NoMemory};
 use iloc_timed::{Latencies, Schedule};
 use std::alloc::Global;
@@ -34,24 +34,16 @@ pub enum Decision {
 }
 
 /// The pairing of each operation with the one of its number, where rows are a schedule of a block by the book under it.
-pub(crate) fn in_order(
-    alloc: Global,
-    sides: &Sides,
-    latencies: &Latencies,
-) -> Result<Option<Pairing>, NoMemory>
-    requires { AreSides latencies.now sides.now.block.now sides.now.givens.now sides.now.schedule.now
-        sides.now.readings.now }
-    ensures right { IfOk result (λ found. IfSome found (IsScheduleBy latencies.now sides.now.block.now
-        sides.now.schedule.now.ops sides.now.schedule.now.rows)) }
-    ensures own { IfOk result (λ found. IsScheduleUnder latencies.now sides.now.block.now
-        sides.now.schedule.now.ops sides.now.schedule.now.rows (λ k. k) (λ i. i)
-        → length sides.now.schedule.now.ops ≡ length sides.now.block.now → IfNone found ⊥) }
+pub(crate) fn in_order(alloc: Global, sides: &Sides) -> Result<Option<Pairing>, NoMemory>
+    ensures right { IfOk result (λ found. IfSome found (IsPairing sides.now)) }
+    ensures own { IfOk result (λ found. IsUnder sides.now (λ k. k) (λ i. i)
+        → length sides.now.schedule.now.ops ≡ length sides.now.block.items → IfNone found ⊥) }
 {
     if sides.block.len() != sides.readings.len() {
         return Ok(None);
     }
     let pairing = Pairing::in_order(alloc, sides.block.len())?;
-    if is_schedule_under(alloc, sides, &pairing, latencies)? {
+    if is_schedule_under(alloc, sides, &pairing)? {
         Ok(Some(pairing))
     } else {
         Ok(None)
@@ -60,31 +52,20 @@ pub(crate) fn in_order(
 
 /// Whether rows have another number of operations than a block, or issue one while a store is under way for which it has to
 /// wait: then no pairing makes them a schedule of it.
-fn is_excluded(sides: &Sides, latencies: &Latencies) -> bool
-    requires { AreSides latencies.now sides.now.block.now sides.now.givens.now sides.now.schedule.now
-        sides.now.readings.now }
-    ensures { result ≡ true → IsExcluded latencies.now sides.now.block.now sides.now.schedule.now.ops
-        sides.now.schedule.now.rows }
+fn is_excluded(sides: &Sides) -> bool
+    ensures { result ≡ true → IsExcluded sides.now }
 {
     if sides.block.len() != sides.readings.len() {
         return true;
     }
-    is_under_way(sides.schedule, latencies)
+    is_under_way(sides.schedule, sides.latencies)
 }
 
 /// What is decided of rows under other pairings than that by number.
-fn decided(
-    alloc: Global,
-    sides: &Sides,
-    latencies: &Latencies,
-    blocks: usize,
-) -> Result<Decision, NoMemory>
-    requires { AreSides latencies.now sides.now.block.now sides.now.givens.now sides.now.schedule.now
-        sides.now.readings.now }
-    ensures { IfOk result (IsDecisionOf latencies.now sides.now.block.now sides.now.schedule.now.ops
-        sides.now.schedule.now.rows) }
+fn decided(alloc: Global, sides: &Sides, blocks: usize) -> Result<Decision, NoMemory>
+    ensures { IfOk result (IsDecisionOf sides.now) }
 {
-    if is_excluded(sides, latencies) {
+    if is_excluded(sides) {
         return Ok(Decision::Unlawful);
     }
     let colours = match coloured(alloc, sides)? {
@@ -92,7 +73,7 @@ fn decided(
         None => return Ok(Decision::Unlawful),
     };
     let budget = Budget::on_one_of(blocks, sides.block.len());
-    searched(alloc, sides, &colours, latencies, budget)
+    searched(alloc, sides, &colours, budget)
 }
 
 /// Decides whether rows that somebody made are a schedule of a block by the book: whether their operations can be paired
@@ -124,17 +105,9 @@ pub fn decide(
     if issue_the_same(ours, theirs) {
         return Ok(Decision::Lawful(paired_by_slot(alloc, ours, theirs)?));
     }
-    let ops = without_nops(alloc, block)?;
-    let givens = givens(alloc, &ops)?;
-    let readings = readings(alloc, theirs, latencies)?;
-    let sides = Sides {
-        block: &ops,
-        givens: &givens,
-        schedule: theirs,
-        readings: &readings,
-    };
-    match in_order(alloc, &sides, latencies)? {
+    let sides = Sides::of(alloc, block, theirs, latencies)?;
+    match in_order(alloc, &sides)? {
         Some(pairing) => Ok(Decision::Lawful(pairing)),
-        None => decided(alloc, &sides, latencies, blocks),
+        None => decided(alloc, &sides, blocks),
     }
 }

@@ -1,40 +1,24 @@
 //! Whether rows are a schedule of a block under a pairing of their operations.
 ghost use Rattle.std.specs.Prelude.{◌≡◌, ◌<◌, ◌↔◌, length, slice_index, IsTrue, IfOk};
-ghost use Rattle.iloc_validation.specs.ByTheBook.{IsScheduleUnder};
-ghost use Rattle.iloc_validation.specs.Steps.Sides.{AreSides, IsKept};
+ghost use Rattle.iloc_validation.specs.Steps.Pairing.{IsKept, IsUnder};
 
 mod waits;
 
 use crate::numbers::{are_same, by_numbers};
 use crate::pairing::Pairing;
-use iloc_facts::{Reading, Sources, have_one_label};
-use iloc_ops::{NoMemory, Op};
-use iloc_timed::{Latencies, Schedule};
+use iloc_facts::{Sides, have_one_label};
+use iloc_ops::NoMemory;
 use std::alloc::Global;
 use waits::waits_of;
-
-/// A block without its `nop`s and rows for it, with what their operations read.
-#[derive(Clone, Copy)]
-pub(crate) struct Sides<'a> {
-    pub block: &'a [Op],
-    /// By operation of the block what it reads.
-    pub givens: &'a [Sources],
-    pub schedule: &'a Schedule,
-    /// By operation of the rows when it is issued, and what it reads.
-    pub readings: &'a [Reading],
-}
 
 /// Whether operation k of the rows has the label of the one that it is paired with, reads what that one reads, and waits
 /// for what memory and outputs make it wait for.
 fn is_kept(sides: &Sides, pairing: &Pairing, waits: &[usize], k: usize) -> bool
-    requires there { k < length sides.now.readings.now }
-    requires sized { length sides.now.readings.now ≡ length sides.now.schedule.now.ops }
+    requires there { k < length sides.now.readings.items }
     requires origins { length pairing.now.origin.items ≡ length sides.now.schedule.now.ops }
-    requires known { slice_index pairing.now.origin.items k < length sides.now.block.now }
-    requires givens { length sides.now.givens.now ≡ length sides.now.block.now }
-    requires waits { length waits.now ≡ length sides.now.block.now }
-    ensures { IsTrue result ↔ IsKept sides.now.block.now sides.now.givens.now sides.now.schedule.now.ops
-        sides.now.readings.now waits.now pairing.now.origin.items k }
+    requires known { slice_index pairing.now.origin.items k < length sides.now.block.items }
+    requires waits { length waits.now ≡ length sides.now.block.items }
+    ensures { IsTrue result ↔ IsKept sides.now waits.now pairing.now.origin.items k }
 {
     let i = pairing.origin[k];
     let reading = sides.readings[k];
@@ -51,14 +35,10 @@ pub(crate) fn is_schedule_under(
     alloc: Global,
     sides: &Sides,
     pairing: &Pairing,
-    latencies: &Latencies,
 ) -> Result<bool, NoMemory>
-    requires sides { AreSides latencies.now sides.now.block.now sides.now.givens.now sides.now.schedule.now
-        sides.now.readings.now }
     requires origins { length pairing.now.origin.items ≡ length sides.now.schedule.now.ops }
-    requires partners { length pairing.now.partner.items ≡ length sides.now.block.now }
-    ensures { IfOk result (λ are. IsTrue are ↔ IsScheduleUnder latencies.now sides.now.block.now
-        sides.now.schedule.now.ops sides.now.schedule.now.rows
+    requires partners { length pairing.now.partner.items ≡ length sides.now.block.items }
+    ensures { IfOk result (λ are. IsTrue are ↔ IsUnder sides.now
         (slice_index pairing.now.origin.items) (slice_index pairing.now.partner.items)) }
 {
     if !pairing.is_one_to_one() {
@@ -66,10 +46,10 @@ pub(crate) fn is_schedule_under(
     }
     let waits = waits_of(
         alloc,
-        sides.block,
+        &sides.block,
         &pairing.partner,
-        sides.readings,
-        latencies,
+        &sides.readings,
+        sides.latencies,
     )?;
     for k in 0..sides.readings.len() {
         if !is_kept(sides, pairing, &waits, k) {

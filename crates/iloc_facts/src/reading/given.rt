@@ -23,8 +23,8 @@ pub fn without_nops(alloc: Global, block: &Block) -> Result<Vec<Op>, NoMemory>
     Ok(ops)
 }
 
-/// Promise: by operation what it reads, where all are executed in order.
-pub fn givens(alloc: Global, block: &[Op]) -> Result<Vec<Sources>, NoMemory>
+/// By operation what it reads, where all are executed in order.
+pub(crate) fn givens(alloc: Global, block: &[Op]) -> Result<Vec<Sources>, NoMemory>
     ensures size { IfOk result (λ givens. length givens.items ≡ length block.now) }
     ensures each { IfOk result (λ givens. (i : ℕ) → i < length block.now
         → sources_at givens.items i ≡ sources_of (given block.now i) (used (op_at block.now i))) }

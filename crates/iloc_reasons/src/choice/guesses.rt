@@ -3,9 +3,8 @@
 use super::data_flow::DataFlow;
 use super::lines::Lines;
 use crate::claim::{What, source_at};
-use crate::sides::Sides;
 use crate::terms::{Values, at, value};
-use iloc_facts::Sources;
+use iloc_facts::{Sides, Sources};
 use iloc_ops::{NoMemory, Op, Reg, uses};
 use std::alloc::Global;
 

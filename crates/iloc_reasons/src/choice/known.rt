@@ -2,8 +2,8 @@
 
 use super::side::Side;
 use crate::claim::{Claim, What, source_at};
-use crate::sides::Sides;
 use crate::terms::value;
+use iloc_facts::Sides;
 
 /// What is known of operations once all of them were gone through.
 #[derive(Clone, Copy)]

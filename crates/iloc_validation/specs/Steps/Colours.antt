@@ -1,25 +1,20 @@
 -- Colours of the operations of a block and of rows, by which a pairing is looked for.
 use Rattle.std.specs.Prelude.{ℕ, ◌+◌, ◌*◌, ◌-◌, ◌/◌, ◌%◌, ◌^◌, ◌≡◌, ◌<◌, ◌==◌, if◌then◌else◌, List, length, slice_index, slice_set, sum_by, Option, Some, None, IfSome, ⊤}
 use Rattle.std.specs.List.{range_with_len}
-use Rattle.iloc_ops.specs.declared.op.Op.{Op}
-use Rattle.iloc_timed.specs.declared.latencies.Latencies.{Latencies}
-use Rattle.iloc_timed.specs.declared.row.Row.{Row}
-use Rattle.iloc_timed.specs.Schedule.{Table}
 use Rattle.iloc_validation.specs.declared.colours.Coloured.{Coloured}
 use Rattle.iloc_validation.specs.declared.colours.issue_order.IssueOrder.{IssueOrder}
 use Rattle.iloc_facts.specs.declared.reading.Reading.{Reading}
 use Rattle.iloc_facts.specs.declared.reading.sources.Sources.{Sources}
 use Rattle.iloc_facts.specs.declared.reading.sources.Sources.TheVariants.{Nothing, One, Two}
-use Rattle.iloc_validation.specs.ByTheBook.{IsScheduleUnder}
-use Rattle.iloc_validation.specs.Steps.Pairing.{LeadsBack}
+use Rattle.iloc_facts.specs.declared.sides.Sides.{Sides}
+use Rattle.iloc_validation.specs.Steps.Pairing.{IsUnder, LeadsBack}
 use Rattle.iloc_facts.specs.Readings.{reading_at, sources_at}
-use Rattle.iloc_validation.specs.Steps.Sides.{AreSides}
 use Rattle.iloc_validation.specs.Steps.Sources.{by_numbers}
 
 -- under whatever pairing the rows are a schedule of the block, each operation has the colour of the one that it is
-abbrev pub AreKept : Latencies → List Op → List Op → List Row → List ℕ → List ℕ → Type 0
-AreKept lat block ops rows here there = (origin partner : ℕ → ℕ) → IsScheduleUnder lat block ops rows origin partner
-    → (k : ℕ) → k < length ops → slice_index there k ≡ slice_index here (origin k)
+abbrev pub AreKept : Sides → List ℕ → List ℕ → Type 0
+AreKept sides here there = (origin partner : ℕ → ℕ) → IsUnder sides origin partner
+    → (k : ℕ) → k < length sides.schedule.now.ops → slice_index there k ≡ slice_index here (origin k)
 
 -- New colours
 
@@ -126,38 +121,33 @@ pub record IsOrderOf (readings : List Reading) (order : IssueOrder) : Type 0 whe
 -- All of it
 
 -- a pairing that keeps the old colours keeps the new ones
-pub record AreColouredAs (block : List Op) (givens : List Sources) (schedule : Table) (readings : List Reading)
-    (here there : List ℕ) (new : Coloured) : Type 0 where
-  pub here_size : length new.here.items ≡ length block
-  pub there_size : length new.there.items ≡ length schedule.ops
-  pub kept : (lat : Latencies) → AreSides lat block givens schedule readings → (origin partner : ℕ → ℕ)
-      → IsScheduleUnder lat block schedule.ops schedule.rows origin partner
-      → HaveColours (length schedule.ops) origin here there
-      → HaveColours (length schedule.ops) origin new.here.items new.there.items
+pub record AreColouredAs (sides : Sides) (here there : List ℕ) (new : Coloured) : Type 0 where
+  pub here_size : length new.here.items ≡ length sides.block.items
+  pub there_size : length new.there.items ≡ length sides.schedule.now.ops
+  pub kept : (origin partner : ℕ → ℕ) → IsUnder sides origin partner
+      → HaveColours (length sides.schedule.now.ops) origin here there
+      → HaveColours (length sides.schedule.now.ops) origin new.here.items new.there.items
 
 -- no pairing keeps these colours
-abbrev pub AreKeptByNone : List Op → List Sources → Table → List Reading → List ℕ → List ℕ → Type 0
-AreKeptByNone block givens schedule readings here there = (lat : Latencies) → AreSides lat block givens schedule readings
-    → (origin partner : ℕ → ℕ) → IsScheduleUnder lat block schedule.ops schedule.rows origin partner
-    → HaveColours (length schedule.ops) origin here there → ⊥
+abbrev pub AreKeptByNone : Sides → List ℕ → List ℕ → Type 0
+AreKeptByNone sides here there = (origin partner : ℕ → ℕ) → IsUnder sides origin partner
+    → HaveColours (length sides.schedule.now.ops) origin here there → ⊥
 
 -- what is made of colours: new ones, or none, and then no pairing keeps the old ones
-abbrev pub AreColoured : List Op → List Sources → Table → List Reading → List ℕ → List ℕ → Option Coloured → Type 0
-AreColoured block givens schedule readings here there None = AreKeptByNone block givens schedule readings here there
-AreColoured block givens schedule readings here there (Some new) =
-    AreColouredAs block givens schedule readings here there new
+abbrev pub AreColoured : Sides → List ℕ → List ℕ → Option Coloured → Type 0
+AreColoured sides here there None = AreKeptByNone sides here there
+AreColoured sides here there (Some new) = AreColouredAs sides here there new
 
 -- colours in which one operation has the colour of none but by chance
 abbrev pub marked : List ℕ → ℕ → List ℕ
 marked colours k = slice_set colours k 9223372036854775808
 
 -- where operations i and k have one colour, no pairing keeps those in which they have another of their own
-abbrev pub IsNoPair : List Op → List Sources → Table → List Reading → List ℕ → List ℕ → ℕ → ℕ → Type 0
-IsNoPair block givens schedule readings here there i k = slice_index there k ≡ slice_index here i
-    → AreKeptByNone block givens schedule readings (marked here i) (marked there k)
+abbrev pub IsNoPair : Sides → List ℕ → List ℕ → ℕ → ℕ → Type 0
+IsNoPair sides here there i k = slice_index there k ≡ slice_index here i
+    → AreKeptByNone sides (marked here i) (marked there k)
 
 -- what is made of that: colours that a pairing of i with k keeps, or none, and then they are no pair
-abbrev pub IsPairColoured : List Op → List Sources → Table → List Reading → List ℕ → List ℕ → ℕ → ℕ → Option Coloured → Type 0
-IsPairColoured block givens schedule readings here there i k None = IsNoPair block givens schedule readings here there i k
-IsPairColoured block givens schedule readings here there i k (Some new) =
-    AreColouredAs block givens schedule readings (marked here i) (marked there k) new
+abbrev pub IsPairColoured : Sides → List ℕ → List ℕ → ℕ → ℕ → Option Coloured → Type 0
+IsPairColoured sides here there i k None = IsNoPair sides here there i k
+IsPairColoured sides here there i k (Some new) = AreColouredAs sides (marked here i) (marked there k) new

@@ -1,15 +1,12 @@
 //! The first colours of operations: label, and place among stores and outputs. Every pairing keeps them.
 ghost use Rattle.std.specs.Prelude.{◌≡◌, ◌<◌, ℕ, length, slice_index, IfOk, IfSome};
-ghost use Rattle.iloc_timed.specs.declared.latencies.Latencies.{Latencies};
 ghost use Rattle.iloc_validation.specs.Steps.Decisions.{AreKeptColours};
 ghost use Rattle.iloc_validation.specs.Steps.FirstColours.{label_colour, first_here, first_there};
-ghost use Rattle.iloc_validation.specs.Steps.Sides.{AreSides};
 
 use crate::colours::mixing::mix;
 use crate::colours::{Coloured, kept_colours};
 use crate::numbers::NONE;
-use crate::verification::Sides;
-use iloc_facts::ByLabel;
+use iloc_facts::{ByLabel, Sides};
 use iloc_ops::{NoMemory, Op};
 use iloc_timed::{Kind, Schedule};
 use std::alloc::Global;
@@ -127,14 +124,10 @@ fn first_there(alloc: Global, labels: &ByLabel, schedule: &Schedule) -> Result<V
 /// Colours of the operations of a block and of rows that every pairing keeps, or none, where they show that there is no
 /// pairing.
 pub(crate) fn coloured(alloc: Global, sides: &Sides) -> Result<Option<Coloured>, NoMemory>
-    requires givens { length sides.now.givens.now ≡ length sides.now.block.now }
-    requires readings { length sides.now.readings.now ≡ length sides.now.schedule.now.ops }
-    ensures { IfOk result (λ found. (lat : Latencies) → AreSides lat sides.now.block.now sides.now.givens.now
-        sides.now.schedule.now sides.now.readings.now → AreKeptColours lat sides.now.block.now
-        sides.now.schedule.now.ops sides.now.schedule.now.rows found) }
+    ensures { IfOk result (AreKeptColours sides.now) }
 {
-    let labels = ByLabel::of(alloc, sides.block)?;
-    let here = first_here(alloc, &labels, sides.block)?;
+    let labels = ByLabel::of(alloc, &sides.block)?;
+    let here = first_here(alloc, &labels, &sides.block)?;
     let there = first_there(alloc, &labels, sides.schedule)?;
     kept_colours(alloc, sides, here, there)
 }

@@ -2,16 +2,15 @@
 ghost use Rattle.std.specs.Prelude.{◌≡◌, ◌<◌, length, IfOk};
 ghost use Rattle.iloc_validation.specs.Steps.Colours.{marked, IsPairColoured};
 ghost use Rattle.iloc_validation.specs.Steps.Decisions.{IsDecisionAmong, IsFoundDecision};
-ghost use Rattle.iloc_validation.specs.Steps.Sides.{AreSides};
 
 use super::Decision;
 use crate::backtracking::{Found, found_pairing};
 use crate::colours::mixing::START;
 use crate::colours::{Coloured, kept_colours};
 use crate::pairing::Pairing;
-use crate::verification::{Sides, is_schedule_under};
+use crate::verification::is_schedule_under;
+use iloc_facts::Sides;
 use iloc_ops::NoMemory;
-use iloc_timed::Latencies;
 use std::alloc::Global;
 
 /// How many steps a search takes for each operation before it gives up. Blocks that aren't made to slow it take about 10.
@@ -51,14 +50,11 @@ fn paired_colours(
     i: usize,
     k: usize,
 ) -> Result<Option<Coloured>, NoMemory>
-    requires here { length colours.now.here.items ≡ length sides.now.block.now }
+    requires here { length colours.now.here.items ≡ length sides.now.block.items }
     requires there { length colours.now.there.items ≡ length sides.now.schedule.now.ops }
-    requires givens { length sides.now.givens.now ≡ length sides.now.block.now }
-    requires readings { length sides.now.readings.now ≡ length sides.now.schedule.now.ops }
     requires within { i < length colours.now.here.items }
     requires within_too { k < length colours.now.there.items }
-    ensures { IfOk result (IsPairColoured sides.now.block.now sides.now.givens.now sides.now.schedule.now
-        sides.now.readings.now colours.now.here.items colours.now.there.items i k) }
+    ensures { IfOk result (IsPairColoured sides.now colours.now.here.items colours.now.there.items i k) }
 {
     if colours.there[k] != colours.here[i] {
         return Ok(None);
@@ -69,20 +65,12 @@ fn paired_colours(
 }
 
 /// What is decided by a pairing that was found: nothing, if the rows are no schedule of the block under it.
-fn verified(
-    alloc: Global,
-    sides: &Sides,
-    found: Pairing,
-    latencies: &Latencies,
-) -> Result<Decision, NoMemory>
-    requires sides { AreSides latencies.now sides.now.block.now sides.now.givens.now sides.now.schedule.now
-        sides.now.readings.now }
+fn verified(alloc: Global, sides: &Sides, found: Pairing) -> Result<Decision, NoMemory>
     requires origins { length found.origin.items ≡ length sides.now.schedule.now.ops }
-    requires partners { length found.partner.items ≡ length sides.now.block.now }
-    ensures { IfOk result (IsFoundDecision latencies.now sides.now.block.now sides.now.schedule.now.ops
-        sides.now.schedule.now.rows) }
+    requires partners { length found.partner.items ≡ length sides.now.block.items }
+    ensures { IfOk result (IsFoundDecision sides.now) }
 {
-    if is_schedule_under(alloc, sides, &found, latencies)? {
+    if is_schedule_under(alloc, sides, &found)? {
         Ok(Decision::Lawful(found))
     } else {
         Ok(Decision::Undecided)
@@ -131,18 +119,14 @@ pub(crate) fn searched(
     alloc: Global,
     sides: &Sides,
     colours: &Coloured,
-    latencies: &Latencies,
     budget: Budget,
 ) -> Result<Decision, NoMemory>
-    requires sides { AreSides latencies.now sides.now.block.now sides.now.givens.now sides.now.schedule.now
-        sides.now.readings.now }
-    requires here { length colours.now.here.items ≡ length sides.now.block.now }
+    requires here { length colours.now.here.items ≡ length sides.now.block.items }
     requires there { length colours.now.there.items ≡ length sides.now.schedule.now.ops }
-    ensures { IfOk result (IsDecisionAmong latencies.now sides.now.block.now sides.now.givens.now sides.now.schedule.now
-        sides.now.readings.now colours.now.here.items colours.now.there.items) }
+    ensures { IfOk result (IsDecisionAmong sides.now colours.now.here.items colours.now.there.items) }
 {
     let i = match found_pairing(alloc, sides, colours, budget.steps)? {
-        Found::Paired(found) => return verified(alloc, sides, found, latencies),
+        Found::Paired(found) => return verified(alloc, sides, found),
         Found::NoPartner(i) => i,
     };
     if budget.depth == 0 || i >= colours.here.len() {
@@ -158,7 +142,7 @@ pub(crate) fn searched(
             Some(new) => new,
             None => continue,
         };
-        match searched(alloc, sides, &new, latencies, rest)? {
+        match searched(alloc, sides, &new, rest)? {
             Decision::Unlawful => {}
             other => return Ok(other),
         }

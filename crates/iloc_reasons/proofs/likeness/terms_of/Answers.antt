@@ -97,17 +97,18 @@ returns-then-are_terms-2 c =
     let reads = c.in_ok-sources.sources.items in
     let each_read : (k : ℕ) → k < length schedule.ops → sources_at reads k
     ≡ sources_of (read lat schedule.ops schedule.rows (issue_cycle schedule.rows k)) (used (op_at schedule.ops k)) =
-    λ k within. ap (λ ss. sources_at ss k) c.in_ok-sources.ensures ∙ reads_at sides.readings.now k
-    ∙ ap (λ (r : Reading). r.sources) (c.requires.each k within) in
-    let terms_here : AreTerms sides.block.now sides.givens.now c.in_ok-here.here.items =
-    rw c.deref-3.ensures.value at (c.are_terms.ensures c.if-are_terms.true) in
+    λ k within. ap (λ ss. sources_at ss k) (rw c.deref.ensures.value at c.in_ok-sources.ensures)
+    ∙ reads_at sides.readings.items k ∙ ap (λ (r : Reading). r.sources) (sides.each_reading k within) in
+    let terms_here : AreTerms sides.block.items sides.givens.items c.in_ok-here.here.items =
+    rw (c.deref-4.ensures.value, c.deref-5.ensures.value, c.deref-6.ensures.value)
+    at (c.are_terms.ensures c.if-are_terms.true) in
     let terms_there : AreTerms schedule.ops reads c.in_ok-there.there.items =
     rw (c.ops-ops.ensures.ops, c.deref-then-are_terms.ensures.value, c.deref-then-are_terms-2.ensures.value)
     at (c.are_terms-then-are_terms.ensures c.if-are_terms-2.true) in
     record {
-      unlike = told_unlike lat sides.block.now schedule.ops schedule.rows c.requires.table sides.givens.now reads c.requires.each_given
-          each_read c.in_ok-here.here.items c.in_ok-there.there.items terms_here terms_there;
-      known = rw c.deref-then-are_terms-2-2.ensures.value at c.in_ok-known.ensures;
+      unlike = told_unlike lat sides.block.items schedule.ops schedule.rows sides.table sides.givens.items reads
+          sides.each_given each_read c.in_ok-here.here.items c.in_ok-there.there.items terms_here terms_there;
+      known = λ i inside. (rw c.deref-then-are_terms-2-2.ensures.value at c.in_ok-known.ensures) i (omega arith);
     }
 
 pub returns : goal.returns

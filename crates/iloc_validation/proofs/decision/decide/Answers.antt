@@ -23,6 +23,7 @@ returns-clause-lawful c = IfOk-weaker c.decided.result _ _ (λ decision is lawfu
     let schedule = c.args.theirs.now in
     let under = lawful_in_order lat block schedule.ops schedule.rows (λ k. k) (λ i. i) (λ k here. refl) (λ i here. refl) lawful in
     let count = lawful_count lat block schedule.ops schedule.rows lawful in
+    let same = c.in_ok-sides.ensures in
     absurd (rw c.in-None.is at (c.in_ok-pairing.ensures.own
-    (rw (c.deref-2.ensures.value, c.in_ok-ops.ensures) under) (rw (c.deref-2.ensures.value, c.in_ok-ops.ensures) count))))
+    (rw (same.block, same.rows, same.latencies) under) (rw (same.block, same.rows) count))))
     c.decided.ensures

@@ -4,17 +4,15 @@ use Rattle.iloc_validation.proofs.verification.is_schedule_under.Goals as goal
 
 pub waits_of-requires-clause-early : goal.waits_of-requires-clause-early
 waits_of-requires-clause-early c =
-    issued_early c.args.latencies.now c.args.sides.now.block.now c.args.sides.now.givens.now c.args.sides.now.schedule.now
-    c.args.sides.now.readings.now c.requires.sides _ _ c.requires.origins c.requires.partners
+    rw c.deref-3.ensures.value (issued_early c.args.sides.now _ _ c.requires.origins c.requires.partners)
 
 pub returns-then-not-is_kept : goal.returns-then-not-is_kept
 returns-then-not-is_kept c = (
   λ no. absurd (false≢true no),
   λ under.
-      let kept = are_kept c.args.latencies.now c.args.sides.now.block.now c.args.sides.now.givens.now
-      c.args.sides.now.schedule.now c.args.sides.now.readings.now c.requires.sides _ _ c.requires.origins c.requires.partners
-      c.in_ok-waits.waits.items (rw c.deref.ensures.value at c.in_ok-waits.ensures.each) under c.loop-k.k
-      (omega (arith, c.requires.sides.reading_count)) in
+      let kept = are_kept c.args.sides.now _ _ c.requires.origins c.requires.partners c.in_ok-waits.waits.items
+      (rw (c.deref.ensures.value, c.deref-2.ensures.value, c.deref-3.ensures.value) at c.in_ok-waits.ensures.each)
+      under c.loop-k.k (omega (arith, c.args.sides.now.reading_count)) in
       let yes : c.is_kept.result ≡ true = c.is_kept.ensures.1 (rw c.deref-in-loop-k.ensures.value kept) in
       absurd (true≢false (sym yes ∙ c.if-not-is_kept.true)),
 )
@@ -27,9 +25,8 @@ pub returns : goal.returns
 returns c = (
   λ _.
       let leads = c.is_one_to_one.ensures.0 c.if-not-is_one_to_one.false in
-      is_under c.args.latencies.now c.args.sides.now.block.now c.args.sides.now.givens.now c.args.sides.now.schedule.now
-      c.args.sides.now.readings.now c.requires.sides _ _ c.requires.origins c.requires.partners c.in_ok-waits.waits.items
-      (rw c.deref.ensures.value at c.in_ok-waits.ensures.each) leads.0 leads.1
-      (λ k here. c.loop-k.invariant k (omega (arith, c.requires.sides.reading_count))),
+      is_under c.args.sides.now _ _ c.requires.origins c.requires.partners c.in_ok-waits.waits.items
+      (rw (c.deref.ensures.value, c.deref-2.ensures.value, c.deref-3.ensures.value) at c.in_ok-waits.ensures.each)
+      leads.0 leads.1 (λ k here. c.loop-k.invariant k (omega (arith, c.args.sides.now.reading_count))),
   λ _. refl,
 )

@@ -2,5 +2,4 @@ use Rattle.iloc_validation.proofs.Common.{ℕ, ◌<◌, IsKept}
 use Rattle.iloc_validation.proofs.verification.is_schedule_under.Given as goal
 
 abbrev pub invariant-loop-k : goal.invariant-loop-k
-invariant-loop-k l = (j : ℕ) → j < l.k → IsKept l.sides.block.now l.sides.givens.now l.sides.schedule.now.ops
-    l.sides.readings.now l.waits.items l.pairing.origin.items j
+invariant-loop-k l = (j : ℕ) → j < l.k → IsKept l.sides l.waits.items l.pairing.origin.items j

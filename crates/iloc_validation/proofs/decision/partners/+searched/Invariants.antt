@@ -5,5 +5,4 @@ abbrev pub decreases-searched : goal.decreases-searched
 decreases-searched l = l.budget.depth
 
 abbrev pub invariant-loop-k : goal.invariant-loop-k
-invariant-loop-k l = (j : ℕ) → j < l.k → IsNoPair l.sides.block.now l.sides.givens.now l.sides.schedule.now
-    l.sides.readings.now l.colours.here.items l.colours.there.items l.i j
+invariant-loop-k l = (j : ℕ) → j < l.k → IsNoPair l.sides l.colours.here.items l.colours.there.items l.i j
