@@ -9,12 +9,13 @@ from judged.students import RIGHT, WRONG
 from judged.test_apart import parts
 from judged.test_explained import in_either_slot
 from judged.test_rows import LISTED
-from judged.test_students import EACH_LATENCIES, LINES, WORDS, given_blocks, ours
+from judged.test_students import EACH_LATENCIES, LINES, WORDS, handed_in
 from language import USUAL
 from oracle.drawn import made_block
 from oracle.judge import AT, proposed
 from oracle.machine import bad_row, bad_row_text, words_from
 from oracle.operations import text_of, words_for
+from oracle.reader import read
 from oracle.scheduler import Schedule
 from oracle.trace import trace
 
@@ -26,23 +27,23 @@ PASSED, FAILED = 0, 5
 UNTRACED = re.compile(rb"^block .* (?:unread|units) cycles .*\n(  (?:line|row) .*)", re.M)
 
 
-def entry(number, rows, latencies):
+def entry(number, block, latencies):
     """The entry of a block, and whether its rows are traced."""
-    bad = bad_row(rows)
+    head, bad = f"block {number} {block.name}", bad_row(block.rows)
     if bad is not None:
-        return [f"block {number} B{number}", f"  row {bad}: {bad_row_text(rows[bad])}"], False
-    return [f"block {number} B{number}", *trace(rows, latencies, words_from(AT, WORDS))], True
+        return [head, f"  row {bad}: {bad_row_text(block.rows[bad])}"], False
+    return [head, *trace(block.rows, latencies, words_from(AT, WORDS))], True
 
 
-def wrongly_traced(blocks, handed_in, latencies):
-    """Where what is listed of rows for blocks isn't what the oracle has."""
-    entries = [entry(k, rows, latencies) for k, rows in enumerate(handed_in, 1)]
+def wrongly_traced(text, latencies):
+    """Where what is listed of a text's rows isn't what the oracle has."""
+    entries = [entry(k, block, latencies) for k, block in enumerate(read(text), 1)]
     due = "".join(f"{line}\n" for lines, _ in entries for line in lines).encode()
-    rows = b"".join(proposed(k, f"B{k}", rows) for k, rows in enumerate(handed_in, 1))
+    task, rows = parts(text.decode())
     words = ["--at", str(AT), *map(str, WORDS), *words_for(latencies)]
-    got = ending(["trace", *words, "--task", stored("traced.iloc", text_of(blocks))], rows)
+    got = ending(["trace", *words, "--task", stored("traced.iloc", task)], rows)
     if got != (PASSED if all(traced for _, traced in entries) else FAILED, due, b""):
-        yield f"{rows!r}: {told(got)}"
+        yield f"{text!r}: {told(got)}"
 
 
 def drawn():
@@ -51,16 +52,14 @@ def drawn():
         chance = random.Random(f"traced {seed}")
         latencies = {name: chance.randint(1, 16) for name in USUAL}
         blocks = [made_block(chance) for _ in range(A_FILE)]
-        yield from wrongly_traced(blocks, [Schedule(ops, latencies).rows for ops in blocks], latencies)
+        rows = (proposed(k, f"B{k}", Schedule(ops, latencies).rows) for k, ops in enumerate(blocks, 1))
+        yield from wrongly_traced(text_of(blocks) + b"".join(rows), latencies)
 
 
 def of_kind(kind):
     for seed in range(SEEDS if TESTED.is_short else ALL_SEEDS):
         for name, latencies in EACH_LATENCIES.items():
-            chance = random.Random(f"{seed} {kind.__name__}")
-            blocks, givens = given_blocks(seed, name)
-            rows = [kind(chance, given) or ours(chance, given) for given in givens]
-            yield from wrongly_traced(blocks, rows, latencies)
+            yield from wrongly_traced(handed_in(seed, name, kind), latencies)
 
 
 def as_checked(text):
