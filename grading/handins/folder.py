@@ -1,27 +1,42 @@
 """A student's folder and archives in it: nothing outside is read, whatever is in it and becomes of it meanwhile."""
-import bz2
 import errno
-import gzip
-import io
+import json
 import os
+import re
+import shutil
+import socket
 import stat
-import tarfile
-import zipfile
+import subprocess
+import sys
+import tempfile
+import unicodedata
 from contextlib import ExitStack, contextmanager, suppress
-from functools import cached_property, partial
+from functools import cache, cached_property
+from glob import glob
 from itertools import islice
+from pathlib import Path
+from threading import Lock
 
+from handins import unpack
+from handins.unpack import MOST_NAMES, MOST_PACKED
+from judge import CannotGrade
 from marks import NoRows
 from words import shown
 
 MOST_BYTES = 1 << 20        # of a file, and of what a program prints
-MOST_PACKED = 1 << 24       # bytes of an archive, and of all that is in it
-MOST_NAMES = 1000           # of a folder or an archive that are looked at
+DEPTH = 2                   # of folders in a student's that are looked into
 ENDINGS = (".zip", ".tar", ".tar.gz", ".tgz", ".tar.bz2")
 META = {"__MACOSX", ".git", ".github", ".DS_Store", "Thumbs.db", "desktop.ini", "submission_metadata.yml"}
-OPENERS = {b"\x1f\x8b": gzip.open, b"BZh": bz2.open}
-OURS = (errno.ENFILE, errno.EMFILE, errno.ENOMEM, errno.EIO)       # errors that are no student's
+AGAIN = re.compile(r" ?\(\d{1,3}\)(?=\.|$)")        # how browsers name what was downloaded before
+# Errors that are no student's.
+OURS = (errno.ENFILE, errno.EMFILE, errno.ENOMEM, errno.EIO, errno.ENOSPC, errno.EDQUOT)
+LOCK = Lock()       # who has it may have something unpacked
 STRANGE = {errno.ELOOP: "It is a link", errno.ENXIO: "It is no regular file", errno.ENOTDIR: "The folder is a link"}
+
+
+def key_of(text):
+    """What names somebody or something, as it is compared."""
+    return unicodedata.normalize("NFC", " ".join(text.casefold().split()))
 
 
 def is_meta(path):
@@ -29,33 +44,33 @@ def is_meta(path):
     return any(part in META or part.startswith("._") for part in path.split("/"))
 
 
-def files_of(data):
-    """Of each file in an archive path, size, and what opens it."""
-    if data.startswith(b"PK"):
-        archive = zipfile.ZipFile(io.BytesIO(data))
-        return ((entry.filename, entry.file_size, partial(archive.open, entry)) for entry in archive.infolist()
-                if not entry.is_dir() and not stat.S_ISLNK(entry.external_attr >> 16))
-    archive = tarfile.open(fileobj=io.BytesIO(data), mode="r:")
-    return ((entry.name, entry.size, partial(archive.extractfile, entry))
-            for entry in archive if entry.isreg() and not entry.issparse())
+@cache
+def unpacker():
+    """A channel to the process that unpacks archives, in bubblewrap where that works."""
+    bubblewrap = [shutil.which("bwrap"), "--unshare-all", "--new-session", "--cap-drop", "ALL"]
+    for path in "/usr", *glob("/lib*"), sys.base_prefix, "/etc/ld.so.cache":
+        bubblewrap += ["--ro-bind-try", path, path]
+    python = [os.path.realpath(sys.executable), "-ISc", Path(unpack.__file__).read_text("utf-8")]
+    for words in [[*bubblewrap, "--", *python]] * bool(bubblewrap[0]) + [python]:
+        channel, its = socket.socketpair(socket.AF_UNIX, socket.SOCK_SEQPACKET)
+        with its:
+            subprocess.Popen(words, stdin=its, stdout=subprocess.DEVNULL, stderr=subprocess.DEVNULL, cwd="/",
+                             env={**os.environ, "LC_ALL": "C"}, start_new_session=True)
+        if channel.recv(8):
+            return channel
+    raise CannotGrade("archives can't be unpacked: Python doesn't begin")
 
 
-def members(name, data):
-    """By path the files of an archive: none is made on the disk, and sizes are known before anything is read."""
+@contextmanager
+def blamed():
+    """Errors of the system as the student's, but for some."""
     try:
-        opener = next((opener for begin, opener in OPENERS.items() if data.startswith(begin)), io.BufferedReader)
-        data = opener(io.BytesIO(data)).read(MOST_PACKED + 1)
-        found = [*islice(files_of(data), MOST_NAMES + 1)]
-        if len(data) > MOST_PACKED or len(found) > MOST_NAMES or sum(size for _, size, _ in found) > MOST_PACKED:
-            raise NoRows("refused", f"{shown(name)} has more than {MOST_PACKED >> 20} MiB or {MOST_NAMES} files.")
-        outside = [path for path, *_ in found if path.startswith("/") or ".." in path.split("/")]
-        if outside:
-            raise NoRows("refused", f"{shown(name)} has a file {shown(outside[0], 80)}.")
-        return {f"{name}/{path}": opened().read(size) for path, size, opened in found if not is_meta(path)}
-    except (NoRows, MemoryError):
-        raise
-    except Exception as why:        # whatever is wrong with it
-        raise NoRows("refused", f"{shown(name)} can't be unpacked: {shown(f'{why}')}.") from why
+        yield
+    except OSError as why:
+        if why.errno in OURS:
+            raise
+        verdict = "missing" if why.errno == errno.ENOENT else "refused"
+        raise NoRows(verdict, f"{STRANGE.get(why.errno, why.strerror)}.") from why
 
 
 @contextmanager
@@ -63,40 +78,39 @@ def opened(parts, flags=0, within=None):
     """The number of an open file, by the parts of its path. No link is followed, and no pipe or device waited for."""
     with ExitStack() as stack:
         for left, part in enumerate(parts, 1 - len(parts)):
-            try:
+            with blamed():
                 kind = os.O_DIRECTORY if left else flags
                 within = os.open(part, kind | os.O_NOFOLLOW | os.O_NONBLOCK, dir_fd=within)
-            except OSError as why:
-                if why.errno in OURS:
-                    raise
-                verdict = "missing" if why.errno == errno.ENOENT else "refused"
-                raise NoRows(verdict, f"{STRANGE.get(why.errno, why.strerror)}.") from why
             stack.callback(os.close, within)
         yield within
 
 
 def listed(number):
     """The first entries of an open folder by name, without what systems and programs put there."""
-    with os.scandir(number) as entries:
+    with blamed(), os.scandir(number) as entries:
         found = islice((entry for entry in entries if not is_meta(entry.name)), MOST_NAMES)
         return sorted((entry.name, entry.is_dir(follow_symlinks=False)) for entry in found)
 
 
 def nearest(names, paths):
-    """The path of what has one of these names in any letters, the first name first, and of its places the nearest."""
-    ranks = {name.casefold(): rank for rank, name in enumerate(names)}
-    bases = ((path.rpartition("/")[2].casefold(), path) for path in paths)
-    found = sorted((ranks[base], path.count("/"), path) for base, path in bases if base in ranks)
-    if len(found) > 1 and found[0][:2] == found[1][:2]:
-        raise NoRows("refused", f"There are {shown(found[0][2])} and {shown(found[1][2])}, and one is expected.")
-    return found[0][2] if found else None
+    """The path of what has one of these names in any letters, the first name first, and of its places the nearest; or
+    has one but for the number of a download."""
+    ranks = {key_of(name): rank for rank, name in enumerate(names)}
+    for name_of in key_of, lambda base: key_of(AGAIN.sub("", base)):
+        bases = ((name_of(path.rpartition("/")[2]), path) for path in paths)
+        found = sorted((ranks[base], path.count("/"), path) for base, path in bases if base in ranks)
+        if len(found) > 1 and found[0][:2] == found[1][:2]:
+            raise NoRows("refused", f"There are {shown(found[0][2])} and {shown(found[1][2])}, and one is expected.")
+        if found:
+            return found[0][2]
+    return None
 
 
 class Folder:
     """An open folder of a student's; or, of one with all students' files, some by the names that they had."""
 
     def __init__(self, number, given=None):
-        self.number, self.given, self.packed = number, given, {}
+        self.number, self.given, self.packed, self.store, self.refusal = number, given, None, None, None
 
     def opened(self, path, flags=0):
         return opened((self.given[path] if self.given else path).split("/"), flags, self.number)
@@ -106,16 +120,15 @@ class Folder:
 
     @cached_property
     def paths(self):
-        """What is in the folder, and in each folder in it."""
+        """What is in the folder, and in folders in it, those above first."""
         if self.given is not None:
             return [*self.given]
-        found = []
-        for name, is_folder in listed(self.number):
-            found.append(name)
-            if is_folder and len(found) < MOST_NAMES:
-                with suppress(NoRows), self.opened(name, os.O_DIRECTORY) as inner:
-                    found += [f"{name}/{entry}" for entry, _ in listed(inner)]
-        return found
+        found = [*listed(self.number)]
+        for path, is_folder in found:
+            if is_folder and path.count("/") < DEPTH and len(found) < MOST_NAMES:
+                with suppress(NoRows), self.opened(path, os.O_DIRECTORY) as inner:
+                    found += [(f"{path}/{name}", is_folder) for name, is_folder in listed(inner)]
+        return [path for path, _ in found]
 
     def archives(self):
         return [path for path in self.paths if path.lower().endswith(ENDINGS)]
@@ -124,10 +137,39 @@ class Folder:
         """Whether what was handed in isn't there as it was: it has other names, or is in archives alone."""
         return self.given is not None or {*self.paths} == {*self.archives()} != set()
 
+    def members(self, names):
+        """By path place and size in the store of each file in archives, which are stored one after another."""
+        sizes, self.store = [], tempfile.TemporaryFile()
+        with LOCK:
+            for name in names:
+                sizes.append(self.store.write(self.read(name, MOST_PACKED)))
+                if sum(sizes) > MOST_PACKED:
+                    raise NoRows("refused", f"Archives have more than {MOST_PACKED >> 20} MiB.")
+            self.store.flush()
+            try:
+                socket.send_fds(unpacker(), [json.dumps(sizes).encode()], [self.store.fileno()])
+                status = os.waitstatus_to_exitcode(int(unpacker().recv(8)))
+            except (OSError, ValueError) as why:
+                unpacker.cache_clear()
+                raise CannotGrade("the process that unpacks archives was ended") from why
+        if status == unpack.NO_SPACE:
+            raise OSError(errno.ENOSPC, "archives can't be unpacked", tempfile.gettempdir())
+        found, wrong = [], [0, f"it takes more than {unpack.SECONDS} s or {unpack.MOST_MEMORY >> 20} MiB"]
+        if not status:
+            found, wrong = json.loads(os.pread(self.store.fileno(), unpack.MOST_FOUND, unpack.FOUND_AT))
+        if wrong:
+            raise NoRows("refused", f"{shown(names[wrong[0]])} can't be unpacked: {shown(wrong[1])}.")
+        return {f"{names[number]}/{path}": (at, size) for number, path, at, size in found if not is_meta(path)}
+
     def unpacked(self):
-        """By path the files of archives that are there."""
-        for name in self.archives() if not self.packed else ():
-            self.packed.update(members(name, self.read(name, MOST_PACKED)))
+        """The same of all archives that are there; they are unpacked once."""
+        if self.packed is None:
+            try:
+                self.packed = self.members(self.archives()) if self.archives() else {}
+            except NoRows as why:
+                self.packed, self.refusal = {}, why
+        if self.refusal:
+            raise self.refusal
         return self.packed
 
     def find(self, names):
@@ -137,9 +179,11 @@ class Folder:
 
     def read(self, path, most=MOST_BYTES):
         """The bytes of a regular file that isn't too long."""
-        data = self.packed.get(path)
-        if data is None:
-            with self.opened(path) as number:
+        at, size = (self.packed or {}).get(path, (0, None))
+        if size is not None:
+            data = os.pread(self.store.fileno(), min(size, most + 1), at)
+        else:
+            with self.opened(path) as number, blamed():
                 if not stat.S_ISREG(os.fstat(number).st_mode):
                     raise NoRows("refused", "It is no regular file.")
                 with open(number, "rb", closefd=False) as file:
@@ -148,7 +192,18 @@ class Folder:
             raise NoRows("refused", f"It is longer than {most >> 20} MiB.")
         return data
 
+    def files(self):
+        """Path and bytes of each file that was handed in with another name or in an archive, without folders that have
+        all of them."""
+        found = {path.split("/", 1)[1]: path for path in self.unpacked()}
+        while found and len({path.partition("/")[0] for path in found}) == 1 and all("/" in path for path in found):
+            found = {path.partition("/")[2]: here for path, here in found.items()}
+        found.update((path, path) for path in self.paths if path not in self.archives())
+        for path, here in found.items():
+            with suppress(NoRows):
+                yield path, self.read(here, MOST_PACKED)
+
     def names(self):
         """What is there in place of what was asked for."""
-        names = [shown(path, 40) for path in self.paths]
+        names = [shown(path, 40) for path in (*self.paths, *(self.packed or ()))]
         return ", ".join(names[:8]) + " .." * (len(names) > 8) if names else "nothing"

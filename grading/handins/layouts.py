@@ -2,9 +2,14 @@
 import math
 import os
 import re
+import tempfile
+import zipfile
+import zlib
 from collections import Counter, defaultdict
+from contextlib import ExitStack, contextmanager
+from pathlib import Path
 
-from handins.folder import is_meta
+from handins.folder import OURS, is_meta, key_of
 from judge import CannotGrade
 from marks import Student
 from words import say, shown
@@ -19,13 +24,47 @@ DAY = 86400     # seconds
 PLAIN = re.compile("(?P<name>.+)", re.DOTALL)       # of which only folders are students
 
 
+def listing(folder):
+    return sorted(name for name in os.listdir(folder) if not is_meta(name))
+
+
+def unpack(path, folder):
+    """Unpacks a site's zip: no link is made, and nothing outside of the folder."""
+    with zipfile.ZipFile(path) as archive:
+        for entry in archive.infolist():
+            try:
+                os.chmod(archive.extract(entry, folder), 0o755)
+            except OSError as why:
+                if why.errno in OURS:
+                    raise
+                say(f"{shown(entry.filename)} is left out: {why.strerror or why}")
+
+
+@contextmanager
+def as_folder(asked):
+    """Unpacks a class's export for as long, where it is the zip that a site gives, maybe of one folder with all."""
+    with ExitStack() as stack:
+        if asked.submissions.is_file() and not (asked.gradescope or asked.github):
+            path, made = asked.submissions, stack.enter_context(tempfile.TemporaryDirectory(prefix="ilocgrade-"))
+            asked.submissions = folder = Path(made, path.stem)
+            try:
+                unpack(path, folder)
+            except (zipfile.BadZipFile, zlib.error, EOFError, RuntimeError) as why:
+                raise CannotGrade(f"{path}: {why}") from why
+            names = listing(folder)
+            is_one = len(names) == 1 and layout_of(folder, names) == "folders"
+            if is_one and any(map(os.path.isdir, (folder / names[0]).glob("*"))):
+                asked.submissions = folder / names[0]
+        yield
+
+
 def layout_of(folder, names):
     if (folder / ABOUT).is_file():
         return "gradescope"
     for layout, pattern in ENTRIES.items():
         if 2 * sum(bool(pattern.fullmatch(name)) for name in names) > len(names):
             return layout
-    return "github" if any((folder / name / ".git").is_dir() for name in names) else "folders"
+    return "github" if any(os.path.isdir(folder / name / ".git") for name in names) else "folders"
 
 
 def days_late(at, due):
@@ -47,15 +86,15 @@ def last_attempts(files, tasks):
 
 
 def of_entries(folder, names, pattern, tasks):
-    """The students whose folders or files a pattern knows."""
+    """The students whose folders or files a pattern knows. Of a text beside files nothing is read."""
     files, late = defaultdict(dict), set()
     for name in names:
         found, path = pattern.fullmatch(name), folder / name
         group = found.groupdict("") if found else {}
-        if group.get("text"):
+        if group.get("text") and name.replace("_onlinetext", "_file") in names:
             continue
         if found and (path.is_symlink() or path.is_dir()):
-            yield Student(group["name"], path, group.get("id", ""))
+            yield Student(group["name"], path, group.get("id", ""), site=f"{name}/" * (pattern is ENTRIES["moodle"]))
         elif found and group.get("file") and path.is_file():
             who = group["name"], group["id"]
             files[who][name] = group["file"]
@@ -64,7 +103,10 @@ def of_entries(folder, names, pattern, tasks):
             say(f"{shown(name)} is left out: it is no {'folder' if pattern is PLAIN else 'submission'}")
     for who, several in files.items():
         given, attempt, notes = last_attempts(several, tasks)
-        yield Student(who[0], folder, who[1], days=int(who in late), attempt=attempt, files=given, notes=notes)
+        first = min(given.values())
+        site = first.removesuffix(several[first]) if pattern is ENTRIES["moodle"] else first
+        yield Student(who[0], folder, who[1], days=int(who in late), attempt=attempt, files=given, notes=notes,
+                      site=site)
 
 
 def of_gradescope(folder, names, due):
@@ -84,25 +126,42 @@ def of_gradescope(folder, names, due):
         raise CannotGrade(f"{folder / ABOUT}: {shown(f'{why}')}") from why
 
 
-def named_apart(students):
-    """Students of whom no two have the same name."""
-    times, names = Counter(student.name for student in students), set()
+def by_key(students):
+    """By what a table may name a student by who is named so."""
+    found = defaultdict(list)
     for student in students:
-        student.plain = student.name
-        apart = student.id or (student.path.name if student.path else "")
-        student.name += f" ({apart})" * (times[student.name] > 1 and bool(apart))
+        for key in {key_of(text) for text in (student.plain or student.name, student.id, student.email) if text}:
+            found[key].append(student)
+    return found
+
+
+def differing(students):
+    """Students of whom each has another name than those before."""
+    names = set()
+    for student in students:
         while student.name in names:
             student.name += "'"
         names.add(student.name)
     return students
 
 
+def named_apart(students):
+    """Students of whom no two have the same name."""
+    times = Counter(student.name for student in students)
+    for student in students:
+        student.plain = student.name
+        apart = student.id or (student.path.name if student.path else "")
+        student.name += f" ({apart})" * (times[student.name] > 1 and bool(apart))
+    return differing(students)
+
+
 def read_class(asked, tasks, known):
     """The students of a folder, where these names may be known."""
-    folder, names = asked.submissions, sorted(name for name in os.listdir(asked.submissions) if not is_meta(name))
+    known = {*map(key_of, known)}
+    folder, names = asked.submissions, listing(asked.submissions)
     layout = asked.layout or layout_of(folder, names)
     if layout != (asked.layout or "folders"):
-        say(f"{folder} is read by --layout {layout}")
+        say(f"{folder.name or folder} is read by --layout {layout}")
     if layout == "gradescope":
         students = [*of_gradescope(folder, names, asked.due)]
     else:
@@ -111,7 +170,7 @@ def read_class(asked, tasks, known):
         prefix = "".join(os.path.commonprefix([student.name for student in students]).rpartition("-")[:2])
         for student in students:        # of ASSIGNMENT-USER the longest user that is known, or else what differs
             ends = (student.name[at.end():] for at in re.finditer("-", student.name))
-            student.name = next((end for end in ends if end in known), student.name.removeprefix(prefix))
+            student.name = next((end for end in ends if key_of(end) in known), student.name.removeprefix(prefix))
     if not students:
         raise CannotGrade(f"{folder}: no student's folder is there")
     return students

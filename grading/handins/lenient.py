@@ -1,4 +1,5 @@
 """Rows as they are judged, and among other lines, as logs have them: what `--lenient` takes, and notes of changes."""
+import codecs
 import io
 import re
 from array import array
@@ -10,7 +11,7 @@ from language import FORMS
 from words import count, shown
 
 ENDINGS = (".rows", ".rows.txt", ".out", ".sched", ".txt", "")      # of a file's name
-MARKS = {b"\xff\xfe": "utf-16", b"\xfe\xff": "utf-16", b"\xef\xbb\xbf": "utf-8-sig"}
+MARKS = {codecs.BOM_UTF16_LE: "utf-16", codecs.BOM_UTF16_BE: "utf-16", codecs.BOM_UTF8: "utf-8-sig"}
 OPCODES = {opcode.lower(): opcode for opcode in FORMS}
 CLAIM = re.compile(r"(?:cycles|total) \d{1,9}", re.ASCII)
 LONGEST = 200   # characters of a row
@@ -19,7 +20,7 @@ LOST = "left out, being no rows"
 
 class Rows:
     def __init__(self, data, notes=()):
-        self.data, self.notes = data, [*notes]      # of what was changed in them
+        self.data, self.notes = data.removeprefix(codecs.BOM_UTF8), [*notes]       # of what was changed in them
 
     @cached_property
     def lines(self):
@@ -83,5 +84,5 @@ def lenient(data, head):
         times.update(kinds)
         rows += row.encode() + b"\n"
     kinds = sorted(first, key=lambda kind: kind != LOST)
-    begun = [f"read as {coding.removesuffix('-sig')}, with a mark of its bytes' order"] if coding else []
+    begun = [f"read as {coding}, with a mark of its bytes' order"] if coding == "utf-16" else []
     return bytes(rows), [*(f"{kind}: {count(times[kind], 'line')}, as in {first[kind]}" for kind in kinds), *begun]

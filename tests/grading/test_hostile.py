@@ -3,11 +3,12 @@ import csv
 import io
 import os
 import re
+from concurrent.futures import ThreadPoolExecutor
 from html import unescape
 from urllib.parse import unquote
 
 from grading.test_class import Graded
-from grading.test_programs import groups
+from grading.test_programs import NOBODY, TO_NOBODY, groups
 from harness.program import needs
 
 NAMES = [os.fsdecode(name) for name in (
@@ -33,7 +34,7 @@ class Hostile(Graded):
         self.expect("cells that a spreadsheet computes", computed, [])
         self.expect("nothing ran", os.path.exists(self.path("gone")), False)
         report = self.text("grades/report.html")
-        self.expect("elements", re.findall(r"(?i)<(?:script|img|iframe)|<[^>]* on\w+=", report), [])
+        self.expect("elements", re.findall(r"(?i)<(?:script|img|iframe)|<[^>]* on\w+=", report), ["<script"])   # ours
         links = [unquote(unescape(link)) for link in re.findall('(?:href|src)="([^"]*)"', report)]
         dead = [link for link in links if not os.path.exists(self.path(f"grades/{link}"))]
         self.expect("links, and dead ones", (len(links), dead), (3 * len(NAMES) + 1, []))
@@ -50,6 +51,31 @@ class Hostile(Graded):
         self.expect("planted", self.read("victim"), b"")
         self.expect("mode", os.stat(self.path("grades")).st_mode & 0o777, 0o700)
 
+    def graded_by_user(self, *words):
+        """The gradebook by an ordinary user, where bubblewrap is forbidden."""
+        self.script("bin/bwrap", "#!/bin/sh\nexit 1\n")
+        self.user = TO_NOBODY * (os.geteuid() == 0)
+        self.shell(f"rm -rf grades; chmod 755 .; chown {NOBODY} .")
+        book = self.grade(*words)
+        self.user = ()
+        os.remove(self.path("bin/bwrap"))
+        return book
+
+    def test_closed(self):
+        """Whose folder can't be entered, or goes meanwhile, loses alone."""
+        names = [f"{number}" for number in range(40)]
+        for name in "right", "closed", *names:
+            self.hand_in(name, self.rows())
+        self.shell("chmod 0 submissions/closed; mkdir gone")
+        with ThreadPoolExecutor() as pool:
+            graded = pool.submit(self.graded_by_user)
+            while not graded.done():
+                for there, gone in ((self.path(f"submissions/{name}"), self.path(f"gone/{name}")) for name in names):
+                    os.rename(there, gone)
+                    os.rename(gone, there)
+        verdicts = {name: line["both verdict"] for name, line in graded.result().items()}
+        self.expect("verdicts", (verdicts["right"], verdicts["closed"]), ("lawful", "refused"))
+
     def test_hand_ins(self):
         """As hand-ins.cases says, rows are found where it is clear which are meant, and read by --lenient from what is
         round them; else the student loses alone."""
@@ -57,7 +83,8 @@ class Hostile(Graded):
             for name, (_, lines) in due.items():
                 self.hand_in(name, self.rows())
                 self.shell(f"cd 'submissions/{name}'; {lines}")
-            plain, lenient = self.grade(*words), self.grade(*words, "--lenient", "--penalty", "1")
+            plain = self.graded_by_user(*words)
+            lenient = self.grade(*words, "--lenient", "--penalty", "1")
             self.expect("students", ({*plain}, {*lenient}), ({*due}, {*due}))
             for name, (wanted, _) in due.items():
                 verdict, _, points = wanted.partition("|")
