@@ -18,7 +18,8 @@ made = seccomp.SyscallFilter(seccomp.ALLOW)     # calls of another architecture 
 for name in DENIED.split():
     made.add_rule(REFUSED, name)
 # Of sockets a network namespace confines these families alone.
-for family in set(range(socket.AF_INET6)) - {socket.AF_UNSPEC, socket.AF_UNIX, socket.AF_INET}:
-    made.add_rule(REFUSED, "socket", seccomp.Arg(0, seccomp.EQ, family))
-made.add_rule(REFUSED, "socket", seccomp.Arg(0, seccomp.GT, socket.AF_INET6))
+for name in "socket", "socketpair":
+    for family in set(range(socket.AF_INET6)) - {socket.AF_UNSPEC, socket.AF_UNIX, socket.AF_INET}:
+        made.add_rule(REFUSED, name, seccomp.Arg(0, seccomp.EQ, family))
+    made.add_rule(REFUSED, name, seccomp.Arg(0, seccomp.GT, socket.AF_INET6))
 made.export_bpf(sys.stdout)

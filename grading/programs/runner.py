@@ -3,20 +3,21 @@ import io
 import itertools
 import os
 import queue
-import re
 import select
+import shutil
 import signal
 import subprocess
 import tarfile
 import tempfile
 import time
-from contextlib import contextmanager, suppress
+from contextlib import contextmanager
 from functools import partial
-from glob import glob
 
+import judge
 from handins.folder import MOST_BYTES
 from judge import CannotGrade
 from marks import NoRows
+from programs.usage import seconds_of_scope, used
 from programs.walls import Bubblewrap, NoWalls
 from words import shown
 
@@ -25,69 +26,32 @@ MOST_KEPT = 1 << 26         # bytes of a student's folder, and of each file in i
 MOST_WRITTEN = 1 << 24      # of a file that a program writes
 SPACE = 1 << 32             # of addresses of a process: to reserve them is free, and what is used is watched
 # Unpacks a student's folder from standard input, and runs the words after a task's path on it; or on nothing,
-# and then packs the folder.
-UNPACK = "tar xf - --no-same-owner --no-overwrite-dir 2>/dev/null; "
+# and then packs the folder. A line before all that is printed says that it began, and another that there is a program.
+UNPACK = """echo; tar xf - --no-same-owner --no-overwrite-dir 2>/dev/null
+case $1 in */*) [ -e "$1" ] ;; *) command -v "$1" >/dev/null ;; esac || exit 127
+echo; """
+MARKS = 2           # bytes of these lines
 RUN = f'{UNPACK}rm -rf task.iloc; cp "$0" task.iloc && exec prlimit --fsize={MOST_WRITTEN} "$@" <"$0"'
 BUILD = f'{UNPACK}prlimit --fsize={MOST_WRITTEN} "$@" </dev/null >&2 && exec tar cf - .'
 SECONDS = 60        # for reading a student's folder
 LINES = 10          # of standard error that are shown, after the first
 NEEDED = "Debian's package bubblewrap, 0.8 or later, has to be installed and allowed, or see --unconfined"
+PACKAGES = {"find": "findutils", "getent": "libc-bin", "prlimit": "util-linux", "setpriv": "util-linux", "tar": "tar",
+            "taskset": "util-linux", "timeout": "coreutils"}        # of Debian, by command
+LOOKED = "Memory was looked at ten times a second, and not bounded exactly, since systemd-run doesn't work here."
 STEP = 0.1              # seconds from one look at what is used to the next
 STARVED = 0.1           # of the time that a program has, what it may wait for the processor
 MOST_ERRORS = 1 << 24   # bytes of standard error
-TICKS, PAGE = os.sysconf("SC_CLK_TCK"), os.sysconf("SC_PAGE_SIZE")
-INODE, SOCKET = 1 << 10, 1 << 20        # bytes of memory that a file costs, however short, and a socket may
-
-
-def numbers(path, before=""):
-    """The numbers after a pattern in a file of /proc, to the end of their line; none where the process has ended."""
-    with suppress(OSError), open(path, encoding="ascii", errors="replace") as file:
-        found = re.search(rf"{before}([-0-9 ]*)", file.read(), re.DOTALL)
-        return [*map(int, found[1].split())] if found else []
-    return []
-
-
-def below(process):
-    """The process and all that come of it."""
-    found = [process]
-    for each in found:
-        found += (child for path in glob(f"/proc/{each}/task/*/children") for child in numbers(path))
-    return found
-
-
-def kept(processes, sizes):
-    """Bytes of files in memory and of sockets, as the last process sees them that is in its sandbox, by these sizes."""
-    for each in reversed(processes if sizes else ()):
-        with suppress(OSError):
-            found = [os.statvfs(f"/proc/{each}/root{path}") for path in sizes]
-            if [about.f_blocks * about.f_frsize for about in found] == [*sizes.values()]:
-                files = sum((about.f_blocks - about.f_bfree) * about.f_frsize + (about.f_files - about.f_ffree) * INODE
-                            for about in found)
-                return files + SOCKET * sum(numbers(f"/proc/{each}/net/sockstat", "sockets: used "))
-    return 0
-
-
-def used(process, sizes, most):
-    """Seconds and bytes of a process and all below it, shared bytes once if need be; and whether any could run."""
-    resident, seconds = {}, 0
-    for each in below(process):
-        fields = numbers(f"/proc/{each}/stat", r".*\) . ")     # after the name, which may be anything
-        seconds += sum(fields[10:14]) / TICKS
-        resident[each] = sum(fields[20:21]) * PAGE
-    files = kept([*resident], sizes)
-    if files + sum(resident.values()) > most:
-        resident = {each: 1024 * sum(numbers(f"/proc/{each}/smaps_rollup", ".*\nPss: +")) for each in resident}
-    is_ready = any(numbers(path, r".*\) R ") for each in resident for path in glob(f"/proc/{each}/task/*/stat"))
-    return seconds, files + sum(resident.values()), is_ready
 
 
 class Run:
-    """A run: its status, or the failure for which it was stopped, what it printed, and how long it computed."""
+    """A run: its status, or the failure for which it was stopped, what it printed, and how long it computed. It has
+    begun where its script ran, and there is a program where the script found one."""
 
     def __init__(self, words, runner, most, **how):
-        self.most, self.asked, self.sizes, self.patience = most, runner.asked, runner.walls.sizes, runner.patience
+        self.most, self.asked, self.walls, self.patience = most, runner.asked, runner.walls, runner.patience
         self.status, self.failure, self.output, self.errors = None, None, bytearray(), bytearray()
-        self.seconds, self.ready, pipe = 0, 0, subprocess.PIPE      # ready: in which it could run
+        self.seconds, self.ready, self.times, pipe = 0, 0, {}, subprocess.PIPE      # ready: in which it could run
         self.begun = self.looked = time.monotonic()
         self.process = subprocess.Popen(words, stdout=pipe, stderr=pipe, start_new_session=True, **how)
         self.ending = os.pidfd_open(self.process.pid)
@@ -101,6 +65,9 @@ class Run:
                 self.process.returncode = os.waitstatus_to_exitcode(status)
         if not self.failure:        # bubblewrap may end before it is told what its processes have used
             self.status, self.seconds = self.process.returncode, max(self.seconds, usage.ru_utime + usage.ru_stime)
+            self.failure = self.late()
+        self.has_begun, self.is_there = (len(self.output) >= lines for lines in range(1, MARKS + 1))
+        del self.output[:MARKS]
 
     def wait(self):
         """Waits until it has ended or has to be stopped, and takes what it prints."""
@@ -109,6 +76,8 @@ class Run:
         for number in (self.ending, *printed):
             poll.register(number, select.POLLIN)
         while found != {self.ending} and not self.failure:
+            if judge.stopped.is_set():
+                raise KeyboardInterrupt
             found = {number for number, _ in poll.poll(1000 * STEP)}
             for stream in found - {self.ending}:
                 piece = os.read(stream, 1 << 16)
@@ -117,40 +86,45 @@ class Run:
                     poll.unregister(stream)
             self.failure = self.fault()
 
+    def late(self):
+        """The failure where all its processes together took longer than any of them may."""
+        if self.seconds > self.asked.time + 1:
+            return NoRows("timeout", f"No answer within {self.asked.time} s of processor time.")
+
     def fault(self):
-        """Why it has to be stopped, or None. Who starved may run again with more patience, and else is unjudged."""
-        if len(self.output) > self.most or len(self.errors) > MOST_ERRORS:
-            return NoRows("crashed", f"It printed more than {self.most >> 20} MiB.")
+        """Why it has to be stopped, or None. Who starved runs again with more patience, until the clock decides."""
+        if len(self.output) > self.most + MARKS:
+            what = "It printed" if self.most < MOST_KEPT else "What the build left has"
+            return NoRows("crashed", f"{what} more than {self.most >> 20} MiB.")
+        if len(self.errors) > MOST_ERRORS:
+            return NoRows("crashed", f"It printed more than {MOST_ERRORS >> 20} MiB of errors.")
         passed, limit = time.monotonic() - self.looked, self.asked.time
         if passed < STEP:
             return None
         self.looked += passed
-        seconds, memory, is_ready = used(self.process.pid, self.sizes, self.asked.memory << 20)
-        self.seconds = max(self.seconds, seconds)       # what ends may be counted no more
+        most, top = self.asked.memory << 20, self.walls.top or self.process.pid
+        seconds, memory, is_ready = used(top, self.walls.sizes, most, self.times)
+        self.seconds = max(self.seconds, seconds, seconds_of_scope(self.process.pid))
         self.ready += passed * is_ready
-        if memory > self.asked.memory << 20:
+        if memory > most:
             return NoRows("crashed", f"It used more than {self.asked.memory} MiB.")
         clock = self.looked - self.begun
         if clock <= self.patience * (2 * limit + 1):
-            return None
+            return self.late()
         is_starved = self.seconds < limit and self.ready - self.seconds > STARVED * limit
-        return NoRows("unjudged" if is_starved and self.patience > 1 else "timeout", f"No answer within {clock:.0f} s, "
-                      f"in which it computed for {self.seconds:.1f} s.", is_starved=is_starved)
+        return NoRows("timeout", f"No answer within {clock:.0f} s, in which it computed for {self.seconds:.1f} s.",
+                      is_starved=is_starved)
 
 
 def pack(folder, made):
-    """The same of files that have other names here, or are in archives; a folder that all are in isn't made."""
-    files = {path.split("/", 1)[1]: data for path, data in folder.unpacked().items()}
-    while files and len({path.partition("/")[0] for path in files}) == 1 and all("/" in path for path in files):
-        files = {path.partition("/")[2]: data for path, data in files.items()}
-    for path in set(folder.paths) - set(folder.archives()):
-        with suppress(NoRows):
-            files[path] = folder.read(path)
+    """The same of files that have other names here, or are in archives."""
     with tarfile.open(fileobj=made, mode="w") as archive:
-        for path, data in files.items():
+        for path, data in folder.files():
             about = tarfile.TarInfo(path)
             about.size, about.mode = len(data), 0o755
             archive.addfile(about, io.BytesIO(data))
+            if made.tell() > MOST_KEPT:
+                raise NoRows("refused", f"The folder has more than {MOST_KEPT >> 20} MiB.")
     made.flush()
 
 
@@ -173,6 +147,14 @@ def said_in(errors, home):
     return lines if len(lines) <= LINES + 1 else [lines[0], "..", *lines[-LINES:]]
 
 
+def why_not(ended, home):
+    """Why a run came to nothing, in the words of what refused it; or nothing where it went well."""
+    if ended.status == 0:
+        return ""
+    said = ended.failure.lines if ended.failure else said_in(ended.errors, home)
+    return " ".join(said) or f"status {ended.status}"
+
+
 class Runner:
     """How programs are run on this machine, as tried once."""
 
@@ -180,22 +162,35 @@ class Runner:
         self.asked, self.cores, self.patience = asked, queue.Queue(), 1
         for _, core in zip(range(asked.jobs), itertools.cycle(sorted(os.sched_getaffinity(0)))):
             self.cores.put(core)
-        self.walls = NoWalls() if asked.unconfined else Bubblewrap(asked, hidden)
-        self.warning, self.jobs = self.walls.warning, 1 if asked.unconfined else asked.jobs
-        scope = ["systemd-run", *["--user"] * bool(os.geteuid()), "--scope", "--quiet", "--collect",
+        self.jobs, is_root = 1 if asked.unconfined else asked.jobs, os.geteuid() == 0
+        for name in PACKAGES:
+            if not shutil.which(name):
+                raise CannotGrade(f"programs can't be run: {name} is not on the PATH (Debian: {PACKAGES[name]})")
+        scope = ["systemd-run", *["--user"] * (not is_root), "--scope", "--quiet", "--collect",
                  f"-pMemoryMax={asked.memory}M", "-pMemorySwapMax=0", f"-pTasksMax={asked.processes + 16}"]
-        for self.scope in scope, []:        # which bounds memory exactly, where it works
-            why = self.refusal()
+        for walls in [NoWalls] if asked.unconfined else [Bubblewrap, *[NoWalls] * bool(asked.gradescope and is_root)]:
+            self.scope, self.walls = scope * bool(shutil.which(scope[0])), walls(asked, hidden)
+            why = self.refusal() or self.walls.reached()
             if not why:
                 return
-        if asked.gradescope and not asked.unconfined and os.geteuid() == 0:
-            self.walls, self.warning = NoWalls(), ""       # of one student, who has no neighbour
-            why = self.refusal() or self.walls.reached(hidden)
-        if why:
-            raise CannotGrade(f"programs can't be run apart: {why}: {NEEDED}")
+        raise CannotGrade(f"programs can't be run apart: {why}: {NEEDED}")
 
-    def run(self, command, archive, task, script=RUN, most=MOST_BYTES):
-        """How a command in a student's folder ends, on a core of its own while others run, and the folder's name."""
+    @property
+    def warning(self):
+        """What is to be said beside the marks."""
+        return " ".join(filter(None, (self.walls.warning, LOOKED * (not self.scope))))
+
+    def run(self, *asked):
+        """How a command in a student's folder ends, and the folder's name; without the scope from when it fails on."""
+        scope = self.scope      # which bounds memory exactly, where it works
+        ended, home = self.run_in(scope, *asked)
+        if scope and not ended.has_begun:
+            self.scope = []
+            ended, home = self.run_in([], *asked)
+        return ended, home
+
+    def run_in(self, scope, command, archive, task, script=RUN, most=MOST_BYTES):
+        """The same in a scope, on a core of its own while others run."""
         core, seconds, processes = self.cores.get(), self.asked.time, self.asked.processes + self.walls.others
         # With a limit on cores that isn't 1 byte, the host may start a program of its own for one.
         limits = ["prlimit", f"--cpu={seconds}:{seconds + 1}", f"--as={SPACE}", f"--nproc={processes}",
@@ -205,7 +200,7 @@ class Runner:
             with self.walls.start(task) as (words, how, home, given), \
                     open(f"/proc/self/fd/{archive.fileno()}", "rb") as packed, \
                     subprocess.Popen(["cat"], stdin=packed, stdout=subprocess.PIPE) as piped:
-                before = [*self.scope, "taskset", "-c", f"{core}", "env", "-i", *VARIABLES, f"HOME={home}", *words]
+                before = [*scope, "taskset", "-c", f"{core}", "env", "-i", *VARIABLES, f"HOME={home}", *words]
                 words = [*before, *limits, "sh", "-c", script, given, *command]
                 return Run(words, self, most, stdin=piped.stdout, **how), home
         finally:
@@ -214,8 +209,7 @@ class Runner:
     def refusal(self):
         """Why nothing can be run, in the words of what refuses it."""
         with tempfile.TemporaryFile() as nothing:
-            ended, home = self.run(["true"], nothing, b"")
-        return "" if ended.status == 0 else " ".join(said_in(ended.errors, home)) or f"status {ended.status}"
+            return why_not(*self.run(["true"], nothing, b""))
 
     @contextmanager
     def reading(self, folder):
@@ -223,28 +217,31 @@ class Runner:
         with tempfile.TemporaryFile() as packed, tempfile.TemporaryFile() as built:
             archive(folder, packed)
             if self.asked.build:
-                built.write(self.ended(self.asked.build, packed, b"", BUILD, MOST_KEPT).output)
+                built.write(self.ended(folder, self.asked.build, packed, b"", BUILD, MOST_KEPT).output)
                 built.flush()
             yield partial(self.printed, folder, built if self.asked.build else packed)
 
     def printed(self, folder, archive, task):
         words = [word.replace("{task}", "task.iloc") for word in self.asked.program]
-        if not (self.asked.build or folder.is_packed() or "/" not in words[0] or folder.has(words[0])):
-            raise NoRows("missing", f"There is no program {shown(words[0])}; there is {folder.names()}.")
-        ended = self.ended(words, archive, task.path.read_bytes())
+        ended = self.ended(folder, words, archive, task.path.read_bytes())
         return ended.output, [], [], round(ended.seconds, 2)
 
-    def ended(self, *asked):
+    def ended(self, folder, command, *asked):
         """A run that ended with status 0, or the failure of any other."""
-        ended, home = self.run(*asked)
+        ended, home = self.run(command, *asked)
+        if not ended.has_begun and not (ended.failure and ended.failure.is_starved and self.patience == 1):
+            raise CannotGrade(f"programs can't be run apart: {why_not(ended, home)}")
         if ended.failure:
             raise ended.failure
         if ended.status == 0:
             return ended
         number = -ended.status if ended.status < 0 else ended.status - 128
+        if not ended.is_there and ended.status == 127:
+            raise NoRows("missing", f"There is no program {shown(command[0])}; there is {folder.names()}.")
         if number == signal.SIGXCPU or number == signal.SIGKILL and ended.seconds >= self.asked.time:
             raise NoRows("timeout", f"No answer within {self.asked.time} s of processor time.")
-        if number == signal.SIGKILL:
-            raise NoRows("crashed", f"It was killed, as is what uses more than {self.asked.memory} MiB.")
         how = f"signal {number}" if 0 < number < 65 else f"status {ended.status}"
-        raise NoRows("crashed", f"It ended with {how}:", *(f"  {line}" for line in said_in(ended.errors, home)))
+        if number == signal.SIGKILL and self.scope:
+            how += f", as what uses more than {self.asked.memory} MiB does"
+        lines = [f"  {line}" for line in said_in(ended.errors, home)]
+        raise NoRows("crashed", f"It ended with {how}{':' if lines else '.'}", *lines)

@@ -1,17 +1,22 @@
 """How a student's program is started: in bubblewrap or without walls, for root as another user, within limits."""
+import ctypes
 import os
 import random
 import shlex
 import shutil
+import signal
 import subprocess
 import tempfile
 from contextlib import ExitStack, contextmanager
 from glob import glob
 from pathlib import Path
 
+from programs.usage import children
+
 HERE = os.path.dirname(os.path.realpath(__file__))
 OWN_USERS = range(61184, 65520)     # of these systemd takes numbers for services while they run
 NO_FILTER = "Programs ran without a filter of system calls, since python3-seccomp isn't installed."
+SUBREAPER = 36      # of <linux/prctl.h>
 NO_WALLS = "Without walls any program may have falsified marks, and read and written what its user may."
 
 
@@ -29,8 +34,10 @@ class Walls:
     """What all have in common. For root, who owns much of /proc, a user whom nobody else is, nor another grading."""
     sizes, warning = {}, ""     # in bytes, by path of a file system in memory; what is said beside the marks
     others = 0                  # processes of its user that aren't the run's
+    top = None                  # the process below which all of a run is, if not the run's first
 
-    def __init__(self):
+    def __init__(self, asked, hidden):
+        self.hidden = hidden
         self.number, self.user = None, []
         if os.geteuid() == 0:
             self.number = next(user for user in random.sample(OWN_USERS, 99) if subprocess.call(
@@ -38,12 +45,16 @@ class Walls:
             user = f"{self.number}"
             self.user = ["setpriv", "--reuid", user, "--regid", user, "--clear-groups", "--inh-caps=-all"]
 
+    def reached(self):
+        """What of what is hidden a program could read, or nothing."""
+        return ""
+
 
 class Bubblewrap(Walls):
     """The machine of bubblewrap.words, with the student's folder and a task."""
 
     def __init__(self, asked, hidden):
-        super().__init__()
+        super().__init__(asked, hidden)
         self.sizes = {"/work": asked.memory << 20, "/tmp": 1 << 24, "/dev/shm": 1 << 22}
         bound = [folder for folder in map(os.path.realpath, asked.bind) if os.path.exists(folder)]
         words = Path(f"{HERE}/bubblewrap.words").read_text().format(*self.sizes.values())
@@ -69,9 +80,16 @@ class Bubblewrap(Walls):
 
 
 class NoWalls(Walls):
-    """A folder on the disk, which goes with the run; and for root all that its user runs."""
-    warning = NO_WALLS
+    """A folder on the disk, which goes with the run; and for root all that its user runs. One run at a time: what its
+    processes leave behind comes to this one, and so is counted, and ended."""
     others = 4096 * bool(os.geteuid())
+    top = os.getpid()
+
+    def __init__(self, asked, hidden):
+        super().__init__(asked, hidden)
+        self.hidden = [] if asked.unconfined else hidden
+        self.warning = NO_WALLS * bool(asked.unconfined)        # else it is of one student, who has no neighbour
+        ctypes.CDLL(None).prctl(SUBREAPER, 1, 0, 0, 0)
 
     @contextmanager
     def start(self, task):
@@ -86,11 +104,15 @@ class NoWalls(Walls):
             words = [*self.user, "setpriv", "--no-new-privs", "env", f"TMPDIR={home}"]
             yield words, {"cwd": home}, home, f"{given}"
         finally:        # the folder isn't walked here: `rm` follows no link, and goes to any depth
-            last = ["sh", "-c", "kill -9 -1"] if self.user else ["chmod", "-R", "u+rwx", made]
-            for words in [*self.user, *last], ["rm", "-rf", made]:
+            if self.user:
+                subprocess.run([*self.user, "sh", "-c", "kill -9 -1"], stderr=subprocess.DEVNULL)
+            while left := children("self"):
+                for each in left:
+                    os.kill(each, signal.SIGKILL)
+                    os.waitpid(each, 0)
+            for words in ["chmod", "-R", "u+rwx", made], ["rm", "-rf", made]:
                 subprocess.run(words, stderr=subprocess.DEVNULL)
 
-    def reached(self, hidden):
-        """What of this a program could read, or nothing."""
-        reads = (path for path in hidden if not subprocess.run([*self.user, "test", "-r", path]).returncode)
+    def reached(self):
+        reads = (path for path in self.hidden if not subprocess.run([*self.user, "test", "-r", path]).returncode)
         return next((f"{path} can be read, which `chmod 700` prevents" for path in reads), "")

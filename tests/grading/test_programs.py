@@ -4,18 +4,25 @@ import json
 import os
 import re
 import shlex
+import shutil
+import signal
 import socket
 from concurrent.futures import ThreadPoolExecutor
 from pathlib import Path
 
 from grading import classes
 from grading.test_class import BOTH, Graded
+from harness.place import until
 from harness.program import TESTED, TOP, needs, needs_bubblewrap
 
 PROGRAM = ("--program", "./schedule")
 WARNING = "Without walls any program may have falsified marks, and read and written what its user may."
+LOOKED = "Memory was looked at ten times a second, and not bounded exactly, since systemd-run doesn't work here."
+# Commands that a grading starts; Debian's package of those without which there is none.
+COMMANDS = {"bwrap": "", "cc": "", "find": "findutils", "getent": "libc-bin", "prlimit": "util-linux",
+            "setpriv": "util-linux", "systemd-run": "", "tar": "tar", "taskset": "util-linux", "timeout": "coreutils"}
 NOBODY = 65534
-TO_NOBODY = ["setpriv", "--reuid", f"{NOBODY}", "--regid", f"{NOBODY}", "--clear-groups"]
+TO_NOBODY = [shutil.which("setpriv") or "setpriv", "--reuid", f"{NOBODY}", "--regid", f"{NOBODY}", "--clear-groups"]
 
 
 def groups(name):
@@ -36,6 +43,7 @@ class Programs(Graded):
         super().setUp()
         needs("setpriv", "prlimit", "taskset", "unshare", "pgrep", "/usr/bin/python3")
         self.user = [] if self.is_root or os.geteuid() else TO_NOBODY
+        self.environment["TMPDIR"] = self.path("open")
         self.addCleanup(self.shell, "rm -rf submissions")       # of any depth
         self.shell("chmod 755 .; mkdir -m 777 open" + f"; chown {NOBODY}:{NOBODY} ." * bool(self.user))
         if self.call(*self.user, "test", "-x", TESTED.program, "-a", "-r", f"{TOP}/grading/ilocgrade")[0]:
@@ -47,6 +55,17 @@ class Programs(Graded):
         self.hand_in(name, self.rows(), "rows")
         for line in re.findall(r"^\$ (.*)", lines, re.MULTILINE):
             self.shell(f"cd 'submissions/{name}'; {line}")
+
+    def path_without(self, name):
+        """A PATH of all commands of this machine but one."""
+        self.shell(f"rm -rf links; mkdir links; ln -s /usr/bin/* /usr/sbin/* /bin/* links; rm -f links/{name}")
+        return f"{self.path('bin')}:{self.path('links')}"
+
+    def left(self):
+        """What is left of gradings and their programs, in folders and running."""
+        ours = [*os.listdir(self.folder), *os.listdir(self.path("open"))]
+        marked = [name for name in (*os.listdir("/tmp"), *os.listdir("/dev/shm")) if "MARK" in name]
+        return [name for name in ours if re.match("ilocgrade-|.grades-", name)] + marked, self.is_running("98765")
 
     def graded(self, due, command=("ilocgrade",)):
         """Grades, of which only the result is said; whoever is lawful has all points, and nobody else any."""
@@ -66,16 +85,46 @@ class ByRoot(Programs):
 
     def test_limits(self):
         """Who breaks a limit has no points, nobody else has less for it, and nothing is left."""
-        before = set(os.listdir("/tmp"))
         core = f"{min(os.sched_getaffinity(0))}"
         for command, due in groups("programs"):
             for name, (_, lines) in due.items():
                 self.hand_in_program(name, lines)
             command = [core if word == "CORE" else word for word in command]
             self.graded({name: verdict for name, (verdict, _) in due.items()}, command)
-        self.expect("left running", self.is_running("98765"), False)
-        found = set(os.listdir("/tmp")) - before | set(os.listdir("/dev/shm"))
-        self.expect("left behind", [name for name in found if "MARK" in name or "ilocgrade" in name], [])
+        self.expect("left", self.left(), ([], False))
+
+    def test_commands(self):
+        """Without a command programs run all the same, or it is named with its package."""
+        self.hand_in_program("right", "cat rows\n")
+        for name, package in COMMANDS.items():
+            path, due = self.path_without(name), f"{name} is not on the PATH (Debian: {package})"
+            for words in "submissions", "submissions --unconfined", "submissions/right --gradescope json":
+                status, *said = self.call(*self.user, "ilocgrade", BOTH, *words.split(), *PROGRAM, PATH=path)
+                passes = b"1 of 1 passed" in said[0] or '"score": 10' in self.text("json") if not status else None
+                got = status, passes, due in said[1].decode()
+                self.expect(f"{name} {words}: {said}", got, (3, None, True) if package else (0, True, False))
+
+    def test_scope(self):
+        """Of a scope that fails from now on nothing is left to students: what ran in it runs without."""
+        self.script("bin/systemd-run", f"#!/bin/sh\nmkdir {self.folder}/open/scoped || exit 1\n"
+                    'while case $1 in -*) ;; *) exec "$@" ;; esac; do shift; done\n')
+        self.hand_in_program("right", "cat rows\n")
+        self.grade(*PROGRAM)
+        self.expect("passed", (self.said.partition(":")[0], LOOKED in self.text("grades/report.html")),
+                    ("1 student, 1 task, 1 of 1 passed", True))
+
+    def test_stopped(self):
+        """A signal ends it at once, and nothing is left, with walls and without."""
+        for name in map(str, range(9)):
+            self.hand_in_program(name, "(setsid sleep 98765 &) >&-; sleep 98765\n")
+        for number, words in (signal.SIGINT, ()), (signal.SIGTERM, ()), (signal.SIGINT, ("--unconfined",)):
+            words = *self.user, "ilocgrade", BOTH, "submissions", *PROGRAM, "--time", "99", *words
+            begun = self.process(*words, cwd=self.folder, env=self.environment)
+            until("a program runs", lambda: self.is_running("98765"))
+            begun.send_signal(number)
+            said = begun.communicate(timeout=60)[1].splitlines()
+            self.expect(f"ended: {said}", (begun.returncode, said[-1]), (128 + number, "ilocgrade: stopped"))
+            self.expect("left", self.left(), ([], False))
 
     def test_class(self):
         """A class's programs have the marks of the rows that they print, with walls and without."""
@@ -134,11 +183,12 @@ class ByUser(ByRoot):
 
 
 class Unwalled(Programs):
-    """Where bubblewrap is forbidden, which a program in its place does."""
+    """Where bubblewrap is forbidden, and systemd fails, which programs in their places do."""
 
     def setUp(self):
         super().setUp()
         self.script("bin/bwrap", "#!/bin/sh\necho 'bwrap: forbidden' >&2\nexit 1\n")
+        self.script("bin/systemd-run", "#!/bin/sh\nexit 1\n")
         self.hand_in_program("right", "(setsid sleep 98765 &) >&-; cat rows\n")
         self.hand_in_program("fails", "echo $PWD/x >&2; exit 1\n")
 
@@ -150,15 +200,21 @@ class Unwalled(Programs):
 
     def test_unconfined(self):
         """Programs run all the same, and that marks may be false is said wherever there are any."""
-        words = (*PROGRAM, "--unconfined")
+        words = (*PROGRAM, "--unconfined", "--memory", "64")
+        self.hand_in_program("kills", "kill -9 $$\n")
+        self.hand_in_program("says", "yes >&2\n")
+        self.hand_in_program("holds", "(python3 -c 'import time\nheld = b\"x\" * (99 << 20), open(\"held\", \"x\")\n"
+                             "time.sleep(99)' &)\nuntil [ -e held ]; do sleep 0.1; done; sleep 1; cat rows\n")
         book = self.grade(*words)
-        self.expect("said", self.said.splitlines()[-1], f"ilocgrade: {WARNING}")
-        self.expect("verdicts", [book[name]["both verdict"] for name in ("right", "fails")], ["lawful", "crashed"])
+        self.expect("said", self.said.splitlines()[-1], f"ilocgrade: {WARNING} {LOOKED}")
+        self.expect("verdict", book["right"]["both verdict"], "lawful")
         self.expect("report", WARNING in self.text("grades/report.html"), True)
+        self.expect("feedback", [self.feedback(name)[-1] for name in ("kills", "says", "holds")], [
+            "  It ended with signal 9.", "  It printed more than 16 MiB of errors.", "  It used more than 64 MiB."])
         self.expect("feedback", self.feedback("fails")[-2:], ["  It ended with status 1:", "    x"])
         self.call("ilocgrade", BOTH, "submissions/right", *words, "--gradescope", "results.json")
         self.expect("results", WARNING in self.text("results.json"), True)
-        self.expect("left running", self.is_running("98765"), False)
+        self.expect("left", self.left(), ([], False))
 
     def test_in_a_container(self):
         """For Gradescope root runs one student's program all the same, as a user who can't read what is secret."""
@@ -170,6 +226,20 @@ class Unwalled(Programs):
         status, _, said = self.call(*words)
         self.expect("not hidden", (status, b"secret can be read, which `chmod 700` prevents" in said), (3, True))
         self.shell("chmod 700 secret submissions")
-        self.expect("status", self.call(*words), (0, b"", b""))
-        self.expect("score", json.loads(self.read("secret/results.json"))["score"], 10)
+        self.expect("status", self.call(*words), (0, b"", f"ilocgrade: {LOOKED}\n".encode()))
+        made = json.loads(self.read("secret/results.json"))
+        self.expect("score", (made["score"], made["output"]), (10, "1 of 1 tasks passed."))
         self.expect("left running", self.is_running("98765"), False)
+
+    def test_autograder(self):
+        """Gradescope's autograder with --program, in a container without systemd."""
+        self.shell("sed 's,--gradescope,--program ./schedule &,' grading/gradescope/run_autograder > run; chmod +x run;"
+                   f"rm bin/systemd-run; cp --remove-destination {TESTED.program} bin; mkdir -p auto/source/ilocfarm;"
+                   f"mv bin $_; cp -rL {BOTH} auto/source/tasks; mv submissions/right auto/submission")
+        path = f"{self.path_without('systemd-run')}:{self.path('auto')}"
+        self.expect("status", self.call("./run", AUTOGRADER=self.path("auto"), PATH=path)[:2], (0, b""))
+        self.expect("score", json.loads(self.read("auto/results/results.json"))["score"], 10)
+
+
+class UnwalledByUser(Unwalled):
+    is_root, test_in_a_container, test_autograder = False, None, None
