@@ -42,10 +42,10 @@ def reason(found, rows):
     more = {name: shown(value, 80) if name in ("problem", "text") else value for name, value in found.items()}
     if "row" in found:
         more["Row"] = f"Row {found['row']} (line {rows.line_of(found['row'])})"
-    more["side"] = "before" if found.get("other_row", 0) > found.get("row", 0) else "after"
     lost = found.get("lost_operation")
     more["before"] = f"of row {found['lost_row']}, `{lost}`" if lost else "of the start"
-    return SENTENCES["reasons"][found["kind"]].format(**more)
+    kind = " ".join(filter(None, (found["kind"], found.get("side"))))
+    return SENTENCES["reasons"][kind].format(**more)
 
 
 def faults(said, rows):
