@@ -6,6 +6,7 @@ import re
 import shutil
 import subprocess
 import sys
+import threading
 from dataclasses import dataclass
 from pathlib import Path
 
@@ -14,6 +15,7 @@ ENDINGS = (".i", ".iloc")
 WORDS = r"(?:-i (\d{1,10})((?: -?\d{1,10})*))?"
 VOID = {"faults": "faults on its words", "shows_nothing": "shows nothing"}
 program = "ilocfarm"
+stopped = threading.Event()     # by a signal: nothing is judged or run any more
 
 
 class CannotGrade(Exception):
@@ -25,9 +27,11 @@ class NoAnswer(CannotGrade):
 
 
 def found(name):
-    """The path of a program that is beside the command that was started, or else on the PATH."""
+    """The path of a program: beside the command that was started, built in its clone, or on the PATH; or else what runs
+    the clone unproved, in minutes."""
     beside = os.path.dirname(os.path.abspath(sys.argv[0]))
-    path = shutil.which(name, path=os.pathsep.join((beside, os.environ.get("PATH", os.defpath))))
+    places = beside, f"{beside}/../out", os.environ.get("PATH", os.defpath), f"{beside}/.."
+    path = shutil.which(name, path=os.pathsep.join(places))
     if not path:
         raise NoAnswer(f"{name} is not on the PATH")
     return path
@@ -45,6 +49,8 @@ class Version(argparse.Action):
 
 def call(words, given):
     """Status, standard output, and what is wrong in one line."""
+    if stopped.is_set():
+        raise KeyboardInterrupt
     try:
         done = subprocess.run([program, *words], input=given, capture_output=True, timeout=SECONDS, check=False)
     except (subprocess.TimeoutExpired, OSError) as failed:
@@ -69,12 +75,19 @@ def decoded(members):
             for name, value in members.items()}
 
 
+def alone(text):
+    """The rows of a text without blanks and comments, and without the lines before and after."""
+    rows = b"\n".join(line for line in text.splitlines() if line.lstrip().startswith(b"["))
+    return re.sub(rb"//.*|\s+", b"", rows)
+
+
 @dataclass(frozen=True)
 class Task:
     name: str
     path: Path
     words: tuple        # for the program: the words that memory starts with
     ours: int           # cycles of our schedule
+    schedule: bytes     # those of ours, alone
     least: int          # the bound
     rule: str           # of both
     head: str           # the line that rows for it may have before them
@@ -109,8 +122,13 @@ def read_task(path, asked):
         raise CannotGrade(f"{path}: the block {VOID[said['void']['kind']]}")
     rule = "with addresses compared" if asked.disambiguate else "by the book"
     points = given(path, "POINTS", r"\d{1,6}(\.\d{1,4})?", "N")
-    return Task(path.stem, path.resolve(), words, said["ours"], said["least"], rule, f"block 1 {said['name'] or '-'}",
-                float(points[0]) if points else asked.points, path.stem in asked.hidden)
+    options = [option for option in asked.check if "=" in option] + ["--disambiguate"] * asked.disambiguate
+    status, schedule, why = call(["schedule", *options], path.read_bytes())
+    if status:
+        raise NoAnswer(f"{path}: {why}")
+    return Task(path.stem, path.resolve(), words, said["ours"], alone(schedule), said["least"], rule,
+                f"block 1 {said['name'] or '-'}", float(points[0]) if points else asked.points,
+                path.stem in asked.hidden)
 
 
 def read_tasks(asked):

@@ -4,9 +4,11 @@ import re
 from dataclasses import dataclass, field
 from pathlib import Path
 
-from judge import Task
+from judge import Task, alone
 from language import PASSING
 from words import count, faults, number, shown
+
+OURS, SAME_WAY = "equal to our own schedule", "wrong in the same way, but for registers and blanks"
 
 
 class NoRows(Exception):
@@ -50,12 +52,21 @@ class Student:
     days: int = 0               # late
     attempt: int = None
     files: dict = None          # in a folder for all, by the names that the student gave them
+    site: str = ""              # where a site takes feedback: a file's name, or how those of files begin
     notes: list = field(default_factory=list)
     row: list = field(default_factory=list)         # a mark a task
     less: float = 0.0           # points, for being late
 
+    def hand_in(self):
+        """What was submitted; a group's students have the same."""
+        return f"{self.path}", *sorted((self.files or {}).values())
+
     def total(self):
         return round(max(0, sum(mark.points for mark in self.row) - self.less), 2)
+
+    def points(self, at):
+        """Of a task, by its place; None for the total."""
+        return self.total() if at is None else self.row[at].points
 
     def said(self):
         """What is said of all that was handed in."""
@@ -63,13 +74,15 @@ class Student:
         return [f"{late}."] * bool(self.days) + [f"Note: {note}." for note in self.notes]
 
 
-def alike(rows, verdict):
+def alike(rows, verdict, task):
     """By how hand-ins may be alike, what is equal where they are."""
     passes, names = verdict in PASSING, {}
     texts = {"equal to the byte" + ", and right" * passes: rows}
     if not passes:
         plain = re.sub(rb"\br\d+", lambda found: b"r%d" % names.setdefault(found[0], len(names)), rows)
-        texts["wrong in the same way, but for registers and blanks"] = re.sub(rb"//.*|\s+", b"", plain)
+        texts[SAME_WAY] = re.sub(rb"//.*|\s+", b"", plain)
+    if alone(rows) == task.schedule:
+        texts[OURS] = task.schedule
     return {how: hashlib.sha256(text).hexdigest() for how, text in texts.items() if text}
 
 
@@ -83,7 +96,7 @@ def judged(task, said, rows, required):
     told = [] if verdict in PASSING else [*faults(said, rows)]
     told += [f"You claim {count(said['claimed'], 'cycle')}."] * (said["claimed"] not in (None, said["cycles"]))
     return Mark(task, verdict, told, rows.notes, said["cycles"], next(iter(lines), None),
-                prints=bool(prints), alike=alike(rows.data, verdict))
+                prints=bool(prints), alike=alike(rows.data, verdict, task))
 
 
 def refused(task, why, rows):
@@ -91,7 +104,7 @@ def refused(task, why, rows):
     found = re.match(r"line (\d{1,9}):", why)
     line = int(found[1]) if found else None
     text = f": `{shown(rows.text_at(line), 80)}`" if line else ""
-    return Mark(task, "refused", [why + text], rows.notes, line=line, alike=alike(rows.data, "refused"))
+    return Mark(task, "refused", [why + text], rows.notes, line=line, alike=alike(rows.data, "refused", task))
 
 
 def unmarked(task, why):

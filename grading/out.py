@@ -8,6 +8,7 @@ import tempfile
 from contextlib import contextmanager
 from pathlib import Path
 
+from handins.layouts import by_key, differing, key_of
 from judge import CannotGrade
 from marks import Mark, Student
 
@@ -53,15 +54,37 @@ def kept(out, tasks):
     for about in found:
         if [mark["task"] for mark in about["row"]] != [task.name for task in tasks]:
             raise CannotGrade(f"{out}: earlier grades are of other tasks")
+        about["path"] = about["path"] and Path(about["path"])
         about["row"] = [Mark(**{**mark, "task": task}) for task, mark in zip(tasks, about["row"])]
     return [Student(**about) for about in found]
 
 
+def is_same(one, other):
+    """Whether records with a key in common are of one student: their numbers and addresses aren't all others."""
+    numbers = [{key_of(text) for text in (each.id, each.email) if text} for each in (one, other)]
+    return not all(numbers) or not numbers[0].isdisjoint(numbers[1])
+
+
 def chosen(students, names, earlier):
-    """The students of these names or numbers, and with them all earlier ones."""
-    again = {student.name: student for student in students if {student.name, student.id} & {*names}}
-    strange = {*names} - {text for student in again.values() for text in (student.name, student.id)}
+    """Who of a class is marked again: who has one of these names, and who is new on the roster. Then all, the others
+    with their earlier marks; and each of these with the name that they had."""
+    wanted, found, again, made, was = {key_of(name): name for name in names}, set(), [], [], []
+    known, left = by_key(earlier), {id(other): other for other in earlier}
+    for student in students:
+        others = (other for text in (student.id, student.email, student.plain) for other in known[key_of(text)])
+        other = next((other for other in others if id(other) in left and is_same(student, other)), None)
+        left.pop(id(other), None)
+        keys = {key_of(text) for each in (student, other) if each for text in (each.name, each.id, each.email)}
+        found |= keys
+        if keys & {*wanted} or not (other or student.path):
+            again.append(student)
+            made.append(student)
+        elif other:
+            made.append(dataclasses.replace(
+                other, name=student.name, plain=student.plain, id=student.id, email=student.email))
+            was.append((made[-1], other.name))
+    strange = [name for key, name in wanted.items() if key not in found]
     if strange:
         raise CannotGrade(f"--only: there is no student {min(strange)}")
-    others = {student.name: student for student in earlier}
-    return [*again.values()], [*{**others, **again}.values()]
+    was += [(other, other.name) for other in left.values()]
+    return again, differing([*made, *left.values()]), was

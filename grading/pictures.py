@@ -53,6 +53,7 @@ class Pictures:
             raise svg.Unread("too many rows")
         trace = judge.call([*self.traced, "--task", f"{mark.task.path}", *mark.task.words], rows.data)[1]
         block, = read_traces(listing.lines_of(self.graph(mark.task.path) + trace))
+        block.number_by(said["operations"])
         block.said += faults(said, rows)
         return stepper.drawn([judged(block, mark, said, rows)]).encode()
 

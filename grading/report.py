@@ -1,4 +1,5 @@
 """What a grading leaves behind: gradebook, feedback and a report; of one student what Gradescope and GitHub read."""
+import base64
 import csv
 import hashlib
 import json
@@ -7,22 +8,27 @@ import secrets
 import string
 import tempfile
 import unicodedata
-from collections import defaultdict
+import zipfile
+from collections import Counter, defaultdict
 from html import escape
+from itertools import combinations
 from pathlib import Path
 from statistics import fmean
 from urllib.parse import quote
 
 import svg
 from language import PASSING
-from words import SENTENCES, count, number, shown, told
+from marks import OURS, SAME_WAY
+from words import SENTENCES, VERDICTS, count, number, shown, told
 
 # By verdict a colour of the page; the others are wrong.
 COLOURS = {**dict.fromkeys(PASSING, "right"), **dict.fromkeys(SENTENCES["open"], "ask"), "missing": "none"}
 LONGEST = 120           # bytes of a folder's name
 PLAIN = " -_.@,'()"     # in it, beside letters, marks and digits
+MEANINGS = {"right": "Right", "ask": "For you to look at", "wrong": "Wrong", "none": "Nothing submitted"}
 PAGE = Path(__file__).resolve().with_name("report.html")
 NOT_ALL = 1_000_000     # cycles on the leaderboard of who hasn't passed all tasks
+MOST_ALIKE = 20         # students who are wrong in one way and listed in pairs
 WIDE, HIGH, EDGE = 90, 240, 40      # of the picture: a task, all cycles, and what is round them
 
 
@@ -59,14 +65,33 @@ def write_gradebook(path, students, tasks, has_programs):
             table.writerow([in_table(student.name), *points, *more])
 
 
-def write_feedback(folder, student, tasks):
-    """What a student reads, beside the pictures."""
-    folder.mkdir(parents=True, exist_ok=True)
+def feedback(student, tasks, has_pictures=True):
+    """What a student reads, beside the pictures where there are any."""
     lines = [f"{number(student.total())} of {number(sum(task.points for task in tasks))} points", *student.said()]
     for mark in student.row:
         lines += ["", "\n  ".join(told(mark, False))]
-        lines += [f"  {'Picture' if name.endswith('.svg') else 'Cycle by cycle'}: {name}" for name in mark.pictures]
-    (folder / "feedback.txt").write_text("\n".join(lines) + "\n", "utf-8", "replace")
+        lines += [f"  {'Picture' if name.endswith('.svg') else 'Cycle by cycle'}: {name}"
+                  for name in mark.pictures if has_pictures]
+    return ("\n".join(lines) + "\n").encode("utf-8", "replace")
+
+
+def write_feedback(folder, students, tasks):
+    """A folder for each student; and where a site takes feedback by its own names, a zip of them."""
+    for student in students:
+        home = folder / safe_name(student.name)
+        home.mkdir(parents=True, exist_ok=True)
+        (home / "feedback.txt").write_bytes(feedback(student, tasks))
+    sites = {os.fsencode(student.site).decode("utf-8", "replace"): student for student in reversed(students)
+             if student.site}       # of a group who submitted
+    if not sites:
+        return
+    with zipfile.ZipFile(folder.with_suffix(".zip"), "w", zipfile.ZIP_DEFLATED) as archive:
+        for site, student in sites.items():
+            if site.endswith(("/", "_")):
+                for path in filter(Path.is_file, (folder / safe_name(student.name)).iterdir()):
+                    archive.writestr(site + path.name, path.read_bytes())
+            else:
+                archive.writestr(site, feedback(student, tasks, False))
 
 
 def plain(text):
@@ -74,12 +99,32 @@ def plain(text):
     return escape(shown(text))
 
 
+def kind_of(verdict):
+    return f'class="{COLOURS.get(verdict, "wrong")}" data-verdict="{verdict}"'
+
+
 def cell(mark, home):
     """A mark, with what is said of it below."""
     said = [escape(line) for line in told(mark)]
     said += [f'<a href="{home}/{quote(name)}">{escape(name)}</a>' for name in mark.pictures]
-    return (f'<td class="{COLOURS.get(mark.verdict, "wrong")}"><details><summary>{number(mark.points)}</summary>'
-            f"<p>{'</p><p>'.join(said)}</p></details></td>")
+    return (f"<td {kind_of(mark.verdict)}><details><summary>{number(mark.points)} <small>{mark.verdict}</small>"
+            f"</summary><p>{'</p><p>'.join(said)}</p></details></td>")
+
+
+def legend(students):
+    """By colour what it means, and each verdict that somebody has as a button."""
+    times = Counter(mark.verdict for student in students for mark in student.row)
+    for colour, meaning in MEANINGS.items():
+        buttons = [f'<button {kind_of(verdict)} aria-pressed="false" title="{escape(VERDICTS[verdict])}">{verdict} '
+                   f"{times[verdict]}</button>"
+                   for verdict in VERDICTS if verdict in times and COLOURS.get(verdict, "wrong") == colour]
+        if buttons:
+            yield f"<span>{meaning}: {' '.join(buttons)}</span>"
+
+
+def heads(*names):
+    """The heads of columns, in HTML, by which a table is sorted."""
+    return "".join(f"<th><button>{name}</button></th>" for name in names)
 
 
 def line_of(student):
@@ -127,41 +172,58 @@ def cycles(students, tasks):
     if not ranked:
         return ""
     picture = svg.picture(EDGE + WIDE * len(tasks), HIGH + 2 * EDGE, "cycles by task and student", dots(ranked, tasks))
-    heads = "".join(f"<th>{plain(task.name)}</th>" for task in tasks)
-    return ("<h2>Cycles</h2><p>Of what passes: how many tasks, on average how many times the bound "
-            f"{tasks[0].rule}, and cycles; and a program's seconds of processor time.</p>"
-            f'<div class="scroll">{picture}'
-            f"<table><tr><th>student</th><th>passed</th><th>bound</th>{heads}<th>seconds</th></tr>"
-            f"{''.join(map(line, ranked))}</table></div>")
+    columns = heads("student", "passed", "bound", *(plain(task.name) for task in tasks), "seconds")
+    return ("<h2>Cycles</h2><p>Of what passes: tasks, cycles as a multiple of the bound "
+            f"{tasks[0].rule} on average, and cycles; and a program's seconds of processor time.</p>"
+            f'<div class="scroll" tabindex="0" role="group" aria-label="the cycles">{picture}'
+            f"<table><thead><tr>{columns}</tr></thead><tbody>{''.join(map(line, ranked))}</tbody></table></div>")
+
+
+def shared(groups):
+    """By students the tasks in which they are alike: who has our own schedule, and pairs that are wrong in one way."""
+    found = defaultdict(list)
+    for (task, how, _), names in groups.items():
+        pairs = combinations(names, 2) if how == SAME_WAY and len(names) <= MOST_ALIKE else ()
+        for who in ((name,) for name in names) if how == OURS else pairs:
+            found[who, how].append(task)
+    return sorted(found.items(), key=lambda each: -len(each[1]))
 
 
 def alike(students):
-    """Of each task the students whose hand-ins are equal to the byte, or wrong in the same way."""
+    """Who is alike in how many tasks, those in the most first; and of each task whose hand-ins are equal."""
     groups, hows = defaultdict(list), {}
-    for student in students:
+    for student in {student.hand_in(): student for student in reversed(students)}.values():     # a group is one
         for mark in student.row:
             for how, text in mark.alike.items():
                 groups[mark.task.name, how, text].append(student.name)
     for (task, how, _), names in groups.items():
         if len(names) > 1:
-            hows.setdefault((task, *names), how)        # what is equal is wrong in the same way too
-    lines = [f"<li>{plain(task)}: {how}: {escape('; '.join(map(shown, names)))}"
-             for (task, *names), how in sorted(hows.items())]
-    about = "A right schedule is often everybody's, since there are few: what is wrong in the same way says more."
-    return f"<h2>Alike</h2><p>{about}</p><ul>{''.join(lines)}</ul>" if lines else ""
+            hows.setdefault((task, *sorted(names)), how)        # what is equal is wrong in the same way too
+    lines = [f"<tr><td>{'; '.join(map(plain, sorted(who)))}</td><td>{len(tasks)}</td><td>{how}: "
+             f"{', '.join(map(plain, sorted(tasks)))}</td></tr>" for (who, how), tasks in shared(groups)]
+    each = [f"<li>{plain(task)}: {how}: {'; '.join(map(plain, names))}</li>"
+            for (task, *names), how in sorted(hows.items())]
+    about = ("Who submits our own schedule, and pairs that are wrong in the same way, but for what more than "
+             f"{MOST_ALIKE} share. A right schedule is often everybody's, since there are few.")
+    return (f'<h2>Alike</h2><p>{about}</p><div class="scroll" tabindex="0" role="group" aria-label="who is alike">'
+            f'<table class="names"><thead><tr>{heads("students", "tasks")}<th>how</th></tr></thead><tbody>'
+            f"{''.join(lines)}</tbody></table></div><details><summary>All that is equal, by task</summary>"
+            f"<ul>{''.join(each)}</ul></details>") if lines or each else ""
 
 
 def write_report(path, students, tasks, warning):
     """A page with all marks, the best first, a warning where there is one, and what only staff should see."""
     best_first = sorted(students, key=lambda student: (-student.total(), student.name))
-    heads = (f"<th>{plain(task.name)}<br><small>{task.ours} / {task.least}</small></th>" for task in tasks)
-    columns = zip(*(student.row for student in best_first))
-    passed = (f"<td>{sum(mark.passes() for mark in column)}</td>" for column in columns)
+    columns = (f"{plain(task.name)}<br><small>{task.ours} / {task.least}</small>" for task in tasks)
+    passed = (f"<td>{sum(student.row[at].passes() for student in students)}</td>" for at in range(len(tasks)))
     points = number(sum(task.points for task in tasks))
     size = f"{count(len(students), 'student')}, {count(len(tasks), 'task')}, {points} points."
+    script = PAGE.with_suffix(".js").read_text("utf-8")
     path.write_text(string.Template(PAGE.read_text("utf-8")).substitute(
-        size=size, rule=tasks[0].rule, warning=warning, heads="".join(heads), rows="\n".join(map(line_of, best_first)),
-        passed="".join(passed), speed=cycles(best_first, tasks), alike=alike(best_first)), "utf-8", "replace")
+        size=size, rule=tasks[0].rule, warning=warning, legend=" ".join(legend(students)),
+        heads=heads("student", "total", *columns), rows="\n".join(map(line_of, best_first)), passed="".join(passed),
+        speed=cycles(best_first, tasks), alike=alike(best_first), script=script,
+        digest=base64.b64encode(hashlib.sha256(script.encode()).digest()).decode()), "utf-8", "replace")
 
 
 def write_results(student, asked, seconds, warning):

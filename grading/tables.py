@@ -3,74 +3,104 @@ import csv
 import io
 import math
 import re
-from collections import Counter, defaultdict
+from collections import Counter
+from contextlib import suppress
 from datetime import datetime
 
-from handins.layouts import DAY, days_late
+from handins.folder import key_of
+from handins.layouts import DAY, by_key, days_late
+from handins.lenient import MARKS
 from judge import CannotGrade
 from marks import Student
-from words import count, say, shown
+from words import count, number as plainly, say, shown
 
-MARK = b"\xef\xbb\xbf"
-HEADERS = {"student", "name", "id", "sid", "login", "username", "email"}
 ODD = {"points possible", "student, test", "test student", "manual posting"}     # Canvas's lines that are no students
 LATE = ("late", "days late", "lateness (h:m:s)", "status", "submission time", "submission_timestamp")
-NAMED = ("student", "full name", "name")
+MOST = ("max points", "maximum grade", "points_available")
+# Columns that name students as their site does, those that come first here; columns that name nobody on their own; and
+# all by which a first line is known to name columns.
+NAMED = (("github_username",), ("student",), ("full name",), ("name",), ("first name", "last name"),
+         ("first name", "surname"))
+PARTS = {"first name", "last name", "surname", "assignment_name"}
+HEADERS = {*sum(NAMED, ()), *PARTS, "id", "sid", "login", "username", "email", "email address", "identifier",
+           "roster_identifier"}
 UNITS = {"day": DAY, "hour": 3600, "min": 60, "sec": 1}
 
 
-def key_of(text):
-    """What names somebody, as it is compared."""
-    return " ".join(text.casefold().split())
+def decoded(path):
+    """The text of a file and its coding: what Excel writes, where that isn't UTF-8."""
+    data = path.read_bytes()
+    coding = next((coding for mark, coding in MARKS.items() if data.startswith(mark)), "utf-8")
+    with suppress(UnicodeDecodeError):
+        return data.decode(coding), coding
+    say(f"{path} isn't UTF-8, and is read as Windows-1252")
+    return data.decode("cp1252"), "cp1252"
 
 
 class Table:
-    """A CSV file with a comma, a semicolon or a tab between cells, in which a column names students."""
+    """A CSV file with a comma, a semicolon or a tab between cells, in which a column names students, or two do."""
 
-    def __init__(self, path, by):
-        data = path.read_bytes()
-        self.path, self.mark, self.text = path, data.startswith(MARK), data.decode("utf-8-sig")
+    def __init__(self, path, by, is_bare=False):
+        """One that may be bare names its columns in the first line only where that begins with a known name."""
+        self.path, (self.text, self.coding) = path, decoded(path)
         self.between = max(",;\t", key=self.text.partition("\n")[0].count)
-        rows = [*csv.reader(io.StringIO(self.text, newline=""), delimiter=self.between, strict=True)]
+        try:
+            rows = [*csv.reader(io.StringIO(self.text, newline=""), delimiter=self.between, strict=True)]
+        except csv.Error as why:
+            raise CannotGrade(f"{path}: {why}") from why
         first = next(iter(rows), [])
         self.rows = [row + [""] * (len(first) - len(row)) for row in rows]
-        self.header = first if by or key_of("".join(first[:1])) in HEADERS else []
+        self.header = [] if is_bare and not by and key_of("".join(first[:1])) not in HEADERS else first
         self.heads = [key_of(cell) for cell in self.header]
-        self.at, self.is_by = self.column(by) if by else 0, by
-        self.named = next((self.heads.index(name) for name in NAMED if name in self.heads), 0)
+        self.named = next(([*map(self.heads.index, heads)] for heads in NAMED if {*heads} <= {*self.heads}), [0])
+        named = self.named if PARTS & {*self.heads[:1]} else [0]
+        self.at = [self.column(by, "canvas_user_id")] if by else named
 
     def column(self, *names):
         """The number of the column with one of these names."""
         found = next((self.heads.index(key_of(name)) for name in names if key_of(name) in self.heads), None)
         if found is None:
-            raise CannotGrade(f"{self.path}: there is no column {names[0]}; there is {', '.join(self.header)}")
+            raise CannotGrade(f"{self.path}: there is no column {names[0]}; there is {shown(', '.join(self.header))}")
+        return found
+
+    def columns(self, texts, tasks):
+        """By number of a column to fill the place of its task, of these names; None for the total."""
+        found = {}
+        for text in texts:
+            task, _, name = text.partition("=")
+            at = tasks.index(task) if name and task in tasks else None
+            column = self.column(text if at is None else name)
+            if column in found:
+                raise CannotGrade(f"--column: {self.header[column]} is given twice")
+            found[column] = at
         return found
 
     def cells(self):
         """By number of a row what names its student."""
         rows = [*enumerate(self.rows)][bool(self.header):]
-        return {number: row[self.at].strip().removeprefix("Participant ") for number, row in rows
-                if len(row) > self.at and row[self.at].strip() and row[0].strip().casefold() not in ODD}
+        texts = {number: text_of(row, self.at).removeprefix("Participant ") for number, row in rows}
+        return {number: text for number, text in texts.items() if text and key_of(self.rows[number][0]) not in ODD}
 
     def matched(self, students):
         """By number of a row its student, of these; None where it isn't clear which one is meant."""
-        known, cells = defaultdict(set), {number: key_of(cell) for number, cell in self.cells().items()}
-        for place, student in enumerate(students):
-            for text in filter(None, {student.plain or student.name, student.id, student.email}):
-                known[key_of(text)].add(place)
-        found = {number: known[key] for number, key in cells.items() if key in known}
-        times = Counter(place for places in found.values() for place in places)
-        clear = {number for number, places in found.items() if sum(times[place] for place in places) == 1}
+        known, cells = by_key(students), self.cells()
+        found = {number: known[key_of(cell)] for number, cell in cells.items() if key_of(cell) in known}
+        times = Counter(id(student) for several in found.values() for student in several)
+        clear = {number for number, several in found.items() if sum(times[id(student)] for student in several) == 1}
         for number in found.keys() - clear:
-            say(f"{self.path}: {shown(self.rows[number][self.at])} is more than one: name another column by --by")
-        return {number: students[min(places)] if number in clear else None for number, places in found.items()}
+            say(f"{self.path}: {shown(cells[number])} is more than one: name another column by --by")
+        return {number: several[0] if number in clear else None for number, several in found.items()}
+
+    def students(self):
+        """By number of a row its student."""
+        return {number: Student(text_of(self.rows[number], self.named) or cell, None, cell * (self.at != self.named))
+                for number, cell in self.cells().items()}
 
     def missing(self, students):
         """Who is listed and is none of these students; that is said, and who of them isn't listed."""
         found = self.matched(students)
         strange = [student.name for student in students if not any(student is other for other in found.values())]
-        made = [Student(self.rows[number][self.named].strip() or cell, None, cell * bool(self.is_by))
-                for number, cell in self.cells().items() if number not in found]
+        made = [student for number, student in self.students().items() if number not in found]
         silent = [student.name for student in made]
         for names, what in (silent, "on the roster submitted nothing"), (strange, "submitted but not on the roster"):
             if names:
@@ -78,8 +108,24 @@ class Table:
                 say(f"{len(names)} {what}: {some}")
         return made
 
+    def check_most(self, column, tasks, at):
+        """Reports a column that is out of other points than the task at a place, or than all where that is None."""
+        points = sum(task.points for task in tasks) if at is None else tasks[at].points
+        cells = [row[column] for row in self.rows if row and key_of(row[0]) == "points possible"]
+        heads = [self.heads.index(head) for head in MOST if at is None and head in self.heads]
+        cells += [self.rows[row][head] for head in heads for row in self.cells()]
+        for text in sorted({cell.strip().replace(",", ".") for cell in cells}):
+            if re.fullmatch(r"\d{1,9}(\.\d*)?", text) and float(text) != points:
+                say(f"{self.path}: {self.header[column]} is out of {text} points, not {plainly(points)}")
+
     def filled(self, at, cells):
-        """The file with other cells in a column, by its number and that of a row: nothing else is changed."""
+        """The file with other cells in a column too, by its number and that of a row: words and all else stay."""
+        words = {row: self.rows[row][at].strip() for row in cells if re.search(r"[^\W\d_]", self.rows[row][at])}
+        cells = {row: cell for row, cell in cells.items() if row not in words}
+        if words:
+            times = Counter(shown(word, 40) for word in words.values()).most_common(5)
+            some = "; ".join(f"{word} ({number})" for word, number in times)
+            say(f"{self.path}: kept in {self.header[at]}: {some}")
         mark = re.escape(self.between)
         piece = re.compile(rf'("(?:[^"]|"")*"|[^{mark}\r\n]*)({mark}|\r\n|\r|\n|\Z)')
         made, row, cell, left = [], 0, 0, len(cells)
@@ -93,7 +139,8 @@ class Table:
             row, cell = (row, cell + 1) if found[2] == self.between else (row + 1, 0)
         if left:
             raise CannotGrade(f"{self.path}: {count(left, 'row')} too short to be filled")
-        return MARK * self.mark + "".join(made).encode()
+        self.text = "".join(made)
+        return self.text.encode(self.coding)
 
     def set_days(self, students, due):
         """Notes how many days late each of these students is."""
@@ -104,6 +151,10 @@ class Table:
                 raise CannotGrade(f"{self.path}: {shown(self.rows[row][at])} is neither days nor a time after --due")
             if student:
                 student.days = days
+
+
+def text_of(row, places):
+    return " ".join(row[at].strip() for at in places if at < len(row)).strip()
 
 
 def days_of(text, due):

@@ -9,10 +9,13 @@ from grading import classes
 from harness.place import Place
 from harness.program import TOP
 from harness.suite import rows_of
+from judged.test_rows import LISTED, WORDS
 from oracle.judge import proposed
 
 BOTH, CLASS = "examples/class/tasks", "examples/class/submissions"
 BEST = ("ada", "dan", "fay")
+# Lines of a block and rows that are shown as they are, with nothing else; and what is listed of one block.
+PLAIN, ONE = re.compile(r"(?:(?!block|cycles|total)[ -~]{,64}\n)*"), re.compile(r"block 1 .*\n(?:  .*\n)*total .*\n")
 # Options, and the points of ada (lawful, 16 cycles as ours and the least), dan (same, 15) and fay (lawful, 21).
 POLICIES = {
     "": (10, 10, 7.62), "--policy pass": (10, 10, 10), "--policy least": (10, 10, 7.62),
@@ -59,6 +62,31 @@ class Graded(Place):
 
 
 class Class(Graded):
+    def test_reasons(self):
+        """Feedback says what `check` lists of a block of rows.cases below its verdict, each reason in its sentence."""
+        forms, seen, due = rows_of(f"{TOP}/tests/grading/reasons.tsv"), set(), {}
+        for name, (text, options, out, _) in LISTED.items():
+            block, bracket, rows = text.partition("[")
+            path, words = f"tasks/{name}.iloc", (*WORDS, "--task", f"tasks/{name}.iloc")
+            if options in ([], ["--lawful"]) and PLAIN.fullmatch(text) and ONE.fullmatch(out):
+                self.write(path, f"//SIM INPUT: -i 4 9\n{block}")
+                if b" void " in self.call("ilocfarm", *words)[1]:
+                    os.remove(self.path(path))
+                    continue
+                self.hand_in("ada", bracket + rows, f"{name}.rows")
+                listed = self.call("ilocfarm", *words, given=(bracket + rows).encode())[1].decode().splitlines()[1:-1]
+                found = [next((sentence, found) for sentence, form in forms
+                              if (found := re.fullmatch(form, line.strip()))) for line in listed]
+                seen |= {sentence for sentence, _ in found}
+                due[name] = [sentence.format(*match.groups()) for sentence, match in found]
+        self.grade("--require", "lawful", tasks="tasks")
+        said = re.sub(r" \(line \d+\)", "", "\n".join(self.feedback("ada"))).split("\n\n")[1:]
+        for (name, wanted), text in zip(sorted(due.items()), said, strict=True):
+            told = text.split("\n  ")[1:]       # of broken units also what is left out, and of a line its text
+            told = told[-1:] if "rules of the units" in text else told
+            self.expect(name, [line[:len(due)] for line, due in zip(told, wanted, strict=True)], wanted)
+        self.expect("forms that were tried", seen, {sentence for sentence, _ in forms})
+
     def test_kinds(self):
         """No right hand-in gets less than its points, no wrong one any, and a cheat what the policy gives: nothing."""
         due = {}

@@ -1,4 +1,6 @@
 """What a course asks for: own points, days, hidden tasks, one student again, a build, whose are alike."""
+import zipfile
+
 from grading import classes
 from grading.test_class import BOTH, CLASS, Graded
 from harness.program import needs_bubblewrap
@@ -73,12 +75,56 @@ class Course(Graded):
         self.expect("fails", "  It ended with status 2:" in self.feedback("fails"), True)
 
     def test_alike(self):
-        """Equal bytes, and what is wrong in the same way up to registers, are listed for staff alone."""
+        """Equal bytes, our own schedule and pairs that are wrong in the same way are listed for staff alone."""
         wrong = self.rows("ben").replace(b"r1,", b"r77,").replace(b"r1 ", b"r77 ")
-        for name, rows in ("ada", self.rows()), ("ann", self.rows()), ("ben", self.rows("ben")), ("bob", wrong):
-            self.hand_in(name, rows)
-        self.grade()
+        own = self.printed("ilocfarm", "schedule", given=self.read(f"{BOTH}/both.iloc")).replace(b" ; ", b";")
+        for task in "both", "other":
+            self.write(f"tasks/{task}.iloc", self.read(f"{BOTH}/both.iloc"))
+            for name, rows in ("ada", self.rows()), ("ann", self.rows()), ("ben", self.rows("ben")), ("bob", wrong):
+                self.hand_in(name, rows, f"{task}.rows")
+        self.hand_in("own", b"// mine\n" + own.partition(b"\n")[2], "other.rows")
+        self.grade(tasks="tasks")
         page = self.text("grades/report.html")
-        for line in ("equal to the byte, and right: ada; ann",
-                     "wrong in the same way, but for registers and blanks: ben; bob"):
-            self.expect(line, f"<li>both: {line}" in page, True)
+        way = "wrong in the same way, but for registers and blanks"
+        for line in ("<li>both: equal to the byte, and right: ada; ann", f"<li>both: {way}: ben; bob",
+                     f"<tr><td>ben; bob</td><td>2</td><td>{way}: both, other",
+                     "<tr><td>own</td><td>1</td><td>equal to our own schedule: other"):
+            self.expect(line, f"{line}</" in page, True)
+
+    def test_groups(self):
+        """All of a group have the marks of who submitted, who isn't alike by that; a site's zip has feedback once."""
+        for path, name in ("fay_LATE_6_71_both.rows", "fay"), ("ben_1_72_both.rows", "ben"):
+            self.write(f"export/{path}", self.rows(name))
+        words = ("--roster site.csv --by ID --groups groups.csv --per-day 2 --merge site.csv --column Lab "
+                 "--column both=Task").split()
+        table = "Student,ID,Lab,Task\nFay,6,{0},{1}\nZoe,7,{0},{1}\nBen,1,{2},{2}\n"
+        self.write("site.csv", table.format("", "", ""))
+        self.write("groups.csv", "name,canvas_user_id,group_name\nFay,6,T\nZoe,7,t\nBen,1,\nJan,9,U\n")
+        self.grade(*words, submissions="export")
+        self.expect("merged", self.text("grades/merged.csv"), table.format("5.62", "7.62", "0"))
+        self.expect("alike", "<h2>Alike" in self.text("grades/report.html"), False)
+        feedback = self.feedback("Zoe")
+        self.expect("feedback", feedback[2], "Note: submitted by fay.")
+        with zipfile.ZipFile(self.path("grades/feedback.zip")) as archive:
+            self.expect("zip", sorted(archive.namelist()), ["ben_1_72_both.rows", "fay_LATE_6_71_both.rows"])
+            said = archive.read("fay_LATE_6_71_both.rows").decode().splitlines()
+            self.expect("zip", said, [line for line in feedback if "Note" not in line])
+        self.write("export/fay_LATE_6_71_both.rows", self.rows())
+        self.grade(*words, "--only", "7", submissions="export")
+        self.expect("merged", self.text("grades/merged.csv"), table.format("8", "10", "0"))
+
+    def test_teams(self):
+        """A repository is a team's whose students a table has; and Moodle's zip has feedback in its folders."""
+        for team, name in ("red-ones", "ada"), ("blue", "ben"):
+            self.write(f"export/lab3-{team}/both.rows", self.rows(name))
+            self.write(f"export/lab3-{team}/.git/config", b"")
+        self.write("groups.csv", "name,team\nann,red-ones\nbob,Blue\nzoe,red-ones\n")
+        book = self.grade("--groups", "groups.csv", submissions="export")
+        points = {name: line["total"] for name, line in book.items()}
+        self.expect("points", points, {"ann": "10", "zoe": "10", "bob": "0"})
+        self.shell("rm -r export; mkdir -p 'export/Ben B_7_assignsubmission_file_'")
+        self.write("export/Ben B_7_assignsubmission_file_/both.rows", self.rows("ben"))
+        self.grade("--pictures", "wrong", submissions="export")
+        with zipfile.ZipFile(self.path("grades/feedback.zip")) as archive:
+            self.expect("zip", sorted(archive.namelist()), [
+                f"Ben B_7_assignsubmission_file_/{name}" for name in ("both.html", "both.svg", "feedback.txt")])

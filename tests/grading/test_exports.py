@@ -1,5 +1,7 @@
 """A class of 120 as a course's site exports it, and its table with the points of each filled in."""
 import random
+import re
+import unicodedata
 from types import SimpleNamespace
 
 from grading.test_class import BOTH, Graded
@@ -21,11 +23,19 @@ class One:
 
 CHANCE = random.Random(1)
 STUDENTS = [One(number, CHANCE.choice(FIRST), CHANCE.choice(LAST)) for number in range(120)]    # with names in common
+LATER = [one for one in STUDENTS[::13] if one.kind]     # hand in when the others are graded
+# By coding a table as a site has it: head, who submitted, who didn't, that one's name, and the last cells of both when
+# they are filled.
+TABLES = {
+    "utf-8": ("Full name;Maximum Grade;Grade", "José X;100,0;EX", "Jo B;100,0;-", "Jo B", "EX", "0"),
+    "utf-8-sig": ("First Name,Last Name,SID,Score,Grade", "José,X,5,1,2", "Jo,B,,,", "Jo B", "10", "0"),
+    "utf-16": ("assignment_name\tgithub_username\tGrade", "lab3\tJosé X\t0", "lab3\tjob\t0", "job", "10", "0"),
+    "cp1252": ("Student;ID;Grade", "José X;5;", '"B, Jo";6;', "B, Jo", "10", "0")}
 
 
 class Site(SimpleNamespace):
     """Formats of what a site writes about `one`: paths of the rows and of what is beside them, head, line and last of
-    its table, and about a submission; `late` is its word for who is in time and for who is late."""
+    its table, about a submission, and `again` for --only; `late` is its word for who is in time and for who is late."""
     last = about = ""
 
     def format(self, text, one, **more):
@@ -45,7 +55,7 @@ class Site(SimpleNamespace):
 SITES = {
     # Files of all in one folder; a later attempt has a number. Its table has lines that are no students.
     "canvas": Site(
-        words=(), by="ID", column="Lab 3 (4711)", late=("", "LATE_"),
+        again="{one.id}", words=(), by="ID", column="Lab 3 (4711)", late=("", "LATE_"),
         paths=["{one.short}_{late}{one.id}_7700{attempt}_both{again}.rows"],
         head="Student,ID,SIS User ID,SIS Login ID,Section,Lab 3 (4711),Lab 4 (4712)\r\n"
         "    Points Possible,,,,,10.00,(read only)\r\n",
@@ -53,7 +63,8 @@ SITES = {
         last='"Student, Test",77,,,A,,\r\n'),
     # A folder a submission, and a file of YAML that says whose.
     "gradescope": Site(
-        words=DUE, by="SID", column="Score", late=("20", "21"), paths=["submission_33{one.number:04}/both.rows"],
+        words=DUE, by="SID", column="Score", late=("20", "21"), again="{one.user}@X.edu",
+        paths=["submission_33{one.number:04}/both.rows"],
         head="First Name,Last Name,SID,Email,Score\n",
         line="{one.first},{one.last},{one.id},{one.user}@x.edu,{points}\n",
         about="""\
@@ -70,12 +81,14 @@ submission_33{one.number:04}:
     # A repository a student, with a folder for what is handed in.
     "github": Site(
         words=(*DUE, "--late", "site.csv"), by="github_username", column="points_awarded", late=("20", "21"),
+        again="{one.user}",
         paths=["lab3-{one.user}/rows/both.rows", "lab3-{one.user}/.git/config", "lab3-{one.user}/README.md"],
         head='"roster_identifier","github_username","submission_timestamp","points_awarded"\r\n',
         line='"{one.id}","{one.user}","2026-11-{late} 22:59:00 UTC","{points}"\r\n'),
     # A folder a student; its table has a mark of bytes, semicolons, and words for how late.
     "moodle": Site(
         words=("--late", "site.csv"), by="Identifier", column="Grade", late=("", " - 23 hours 59 mins late"),
+        again="{one.id}",
         paths=["{one.name}_{one.id}_assignsubmission_file/Both.ROWS",
                "{one.name}_{one.id}_assignsubmission_onlinetext/onlinetext.html"],
         head="\ufeffIdentifier;Full name;Status;Grade;Feedback comments\r\n",
@@ -83,47 +96,78 @@ submission_33{one.number:04}:
 
 
 class Exports(Graded):
-    def export(self, site):
-        for student in (student for student in STUDENTS if student.kind):
+    def export(self, site, students):
+        for student in students:
             for path, data in site.files(student, self.rows(student.kind)):
                 self.write(f"export/{path}", data)
         if site.about:
-            about = (site.format(site.about, student) for student in STUDENTS if student.kind)
+            about = (site.format(site.about, student) for student in students)
             self.write("export/submission_metadata.yml", "---\n" + "".join(about))
         self.write("export/__MACOSX/._both.rows", b"")
         self.write("site.csv", site.table(dict.fromkeys(POINTS, "")))
 
     def test_sites(self):
-        """By one command each student has the right points, days and attempt, and the table one column filled."""
+        """Each student has the right points, days and attempt, and the table one column filled: also who is graded when
+        all others are. What is written is the same as if everybody were graded anew, from a zip."""
         for name, site in SITES.items():
             with self.subTest(name):
-                self.shell("rm -rf export grades")
-                self.export(site)
+                self.shell("rm -rf export* grades* late")
                 words = "--roster", "site.csv", "--by", site.by, "--merge", "site.csv", "--column", site.column
-                book = self.grade(*words, *site.words, submissions="export")
+                words += site.words
+                handed_in = [one for one in STUDENTS if one.kind]
+                self.export(site, [one for one in handed_in if one not in LATER])
+                self.grade(*words, submissions="export")
+                self.export(site, handed_in)
+                again = [site.format(site.again, one) for one in LATER]
+                book = self.grade(*words, "--only", *again, submissions="export")
                 self.expect("students", len(book), len(STUDENTS))
                 for line in "30 on the roster submitted nothing:", f"export is read by --layout {name}":
                     self.expect(line, line in self.said, True)
                 self.expect("merged", self.text("grades/merged.csv"), site.table(POINTS))
-                by_id = {line["id"]: line for line in book.values()}
+                by_id = {line["id"]: line for line in book.values()} if name != "github" else {}
                 for student in STUDENTS:
-                    line = by_id[student.id] if name != "github" else book.get(student.user) or by_id[student.user]
+                    line = by_id.get(student.id) or book[student.user]
                     days = "1" if student.is_late and student.kind else ""
                     attempt = f"{student.attempt}" if student.kind and name in ("canvas", "gradescope") else ""
                     self.expect(f"{student.name}", (line["total"], line["days late"], line.get("attempt", "")),
                                 (POINTS[student.kind], days, attempt))
+                files = "export/*" if name == "canvas" else "export"
+                self.shell(f"mv grades late; python3 -m zipfile -c export.zip {files}")
+                self.grade(*words, submissions="export.zip")
+                self.expect("anew", self.shell("diff -r -x marks.json -x feedback.zip grades late"), (0, b""))
 
     def test_tables(self):
         """Whom two lines name is filled nowhere, which is said; what a table lacks is said before anybody is graded."""
         for name in "Ann X_1", "Ann X_2", "=1+1_3":
             self.write(f"export/{name}_assignsubmission_file/both.rows", self.rows())
+            self.write(f"export/{name}_assignsubmission_onlinetext/onlinetext.html", b"")
+        self.write("export/Bo_4_assignsubmission_onlinetext/onlinetext.html", b"")
         text = '\ufeffName;ID;"Grade ""x"""\r\nAnn X;1;\r\n"Ann X";2;?\r\n=1+1;"3";"?"\r\n\r\n'
         self.write("site.csv", text)
         for by, lines in (("Name", 'Ann X;1;\r\n"Ann X";2;?\r\n'), ("id", 'Ann X;1;10\r\n"Ann X";2;10\r\n')):
             words = "--merge", "site.csv", "--by", by, "--column", 'Grade "x"'
-            self.grade(*words, submissions="export")
+            book = self.grade(*words, submissions="export")
+            self.expect("a text alone", (len(book), book["Bo"]["both verdict"]), (4, "missing"))
             self.expect(by, self.said.count("Ann X is more than one"), 2 * (by == "Name"))
             self.expect(by, self.text("grades/merged.csv"), text[:text.index("Ann")] + lines + '=1+1;"3";"10"\r\n\r\n')
+
+    def test_as_they_come(self):
+        """Without --by a table names students as its site does, however accents are written; words in it stay."""
+        self.hand_in(unicodedata.normalize("NFD", "José X"), self.rows())
+        for coding, (head, one, other, absent, *filled) in TABLES.items():
+            self.write("site.csv", "\n".join((head, one, other, "")).encode(coding))
+            book = self.grade("--roster", "site.csv", "--merge", "site.csv", "--column", "Grade")
+            self.expect(coding, {unicodedata.normalize("NFC", name): line["total"] for name, line in book.items()},
+                        {"José X": "10", absent: "0"})
+            between = max(";,\t", key=head.count)
+            lines = [between.join((*line.split(between)[:-1], cell)) for line, cell in zip((one, other), filled)]
+            self.expect("merged", self.read("grades/merged.csv"), "\n".join((head, *lines, "")).encode(coding))
+            said = {"utf-8": {": Grade is out of 100.0 points, not 10", ": kept in Grade: EX (1)"},
+                    "cp1252": {" isn't UTF-8, and is read as Windows-1252"}}.get(coding, set())
+            self.expect("said", {*re.findall("site.csv(.*)", self.said)}, said)
+        self.write("site.csv", b"\x81\n")
+        self.grade("--roster", "site.csv", status=3)
+        self.expect("unreadable", "site.csv isn't UTF-8" in self.said, True)
 
     def test_attempts(self):
         """The last attempt counts, in whatever order files are; a task's own number is none."""

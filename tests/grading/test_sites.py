@@ -1,5 +1,6 @@
 """One student in Gradescope's autograder and in a GitHub workflow; and a class's report in a browser."""
 import json
+import os
 import re
 
 from grading.test_class import BOTH, CLASS, Graded
@@ -41,6 +42,11 @@ class Sites(Graded):
         made = self.autograder("ben", b"ilocgrade: ilocfarm is not on the PATH\n")
         self.expect("failed", (made["score"], "no fault of yours" in made["output"]), (0, True))
 
+    def test_in_a_clone(self):
+        """Where no ilocfarm is on the PATH, the one of the clone judges."""
+        self.shell("mkdir clone; cp -rL grading charts clone; mv bin/ilocfarm clone")
+        self.expect("graded", self.call("clone/grading/ilocgrade", BOTH, CLASS)[0], 0)
+
     def test_github(self):
         """Annotations lead to the line; students' texts are no commands of the runner."""
         status, out, err = self.call("ilocgrade", BOTH, BEN, "--github")
@@ -71,6 +77,14 @@ class Sites(Graded):
                                     ".map(style => [style.color, style.backgroundColor].join('; '))")
             faint = [pair for pair in set(colours) if contrast(*pair.split("; ")) < LEAST_CONTRAST]
             self.expect("texts of too little contrast", faint, [])
+        names, verdict = sorted(os.listdir(self.path(CLASS))), ".legend [data-verdict=units]"
+        for what, button, due in (("by name", "thead button", names), ("from Z on", "thead button", names[::-1]),
+                                  ("verdict", verdict, ["cem"]), ("all", verdict, names[::-1]),
+                                  ("by points", "th:nth-child(3) button", ["ivy", "dan", "ada", "fay"])):
+            browser.value(f"document.querySelector('{button}').click()")
+            shown = browser.value("[...document.querySelector('tbody').rows].filter(row => !row.hidden)"
+                                  ".map(row => row.cells[0].textContent)")
+            self.expect(what, shown[:len(due)] if what == "by points" else shown, due)
         tree = browser.tree()
-        self.expect("rows", (sum(role == "row" for role, _ in tree), ("heading", "Grades") in tree), (17, True))
+        self.expect("rows", (sum(role == "row" for role, _ in tree), ("heading", "Grades") in tree), (19, True))
         self.expect("problems", browser.problems, [])

@@ -1,0 +1,55 @@
+"""Groups of students who submit together, as a table has them."""
+import shutil
+from collections import defaultdict
+from dataclasses import replace
+
+from tables import key_of
+from words import say, shown
+
+GROUP = ("group", "group_name", "group name", "team")     # the column that names a student's
+
+
+def names(table):
+    at = table.column(*GROUP)
+    return [table.rows[row][at].strip() for row in table.cells()]
+
+
+def in_groups(students, table):
+    """The students, and each of a group in which somebody submitted. Who submits as a group isn't one of them."""
+    at, found, groups = table.column(*GROUP), table.matched(students), defaultdict(list)
+    for row, made in table.students().items():
+        groups[key_of(table.rows[row][at])].append((row, made))
+    teams, made, dropped = {key_of(student.name): student for student in students}, [], []
+    for group, members in groups.items():
+        given = [found[row] for row, _ in members if found.get(row)]
+        if group in teams and teams[group] not in given:
+            given.append(teams[group])
+            dropped.append(id(teams[group]))
+        if len(given) > 1:
+            say(f"{shown(group)}: {len(given)} submitted; for who of it didn't that of {shown(given[0].name)} counts")
+        if group and given:
+            notes = [*given[0].notes, f"submitted by {shown(given[0].name)}"]
+            made += [replace(given[0], name=other.name, id=other.id, email="", notes=notes) for row, other in members
+                     if row not in found]
+    return [student for student in students if id(student) not in dropped] + made
+
+
+def partners(students, names):
+    """The names, and those of students who submitted together with these."""
+    wanted = {student.hand_in() for student in students if student.path
+              and {*map(key_of, (student.name, student.id, student.email))} & {*map(key_of, names)}}
+    return [*names, *(student.name for student in students if student.hand_in() in wanted)]
+
+
+def mark_once(students, mark, home_of):
+    """Marks students by a call for several: of those who submitted together one, whose marks and feedback all have."""
+    first = {}
+    for student in students:
+        first.setdefault(student.hand_in(), student)
+    mark([*first.values()])
+    for student in students:
+        one = first[student.hand_in()]
+        if one is not student:
+            student.row = [replace(mark, lines=[*mark.lines]) for mark in one.row]
+            if home_of(one.name).is_dir():
+                shutil.copytree(home_of(one.name), home_of(student.name))
