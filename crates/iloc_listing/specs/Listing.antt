@@ -107,11 +107,11 @@ total_cycles lat schedules = sum_by (cycles_of lat) schedules
 abbrev pub total_of : ℕ → List ℕ
 total_of cycles = codes "total " ++ decimal cycles ++ codes "\n"
 
--- the same of these cycles together
+-- the same of the sum of `cycles`
 abbrev pub total_of_all : List ℕ → List ℕ
 total_of_all cycles = total_of (sum cycles)
 
--- these entries, and the cycles of all
+-- the texts of `entries`, and the cycles of all
 abbrev pub listing_of_entries : List ScheduleEntry → List ℕ
 listing_of_entries entries = flat_map (λ e. e.text) entries ++ total_of_all (map (λ e. e.cycles) entries)
 
@@ -134,3 +134,17 @@ count_entry lat k name s = count_line false k name (cycles_of lat s)
 -- the listing of a file's blocks with the cycles of their schedules, which is no table
 abbrev pub counts_listing : Latencies → List Block → List Table → List ℕ
 counts_listing lat blocks schedules = entries (count_entry lat) 1 blocks schedules ++ total_line lat schedules
+
+-- the header of a table of cycles
+abbrev pub count_header : List ℕ
+count_header = codes "block,name,cycles\n"
+
+-- after the blocks `total C`, the sum of `cycles`; nothing in a table
+abbrev pub count_ending : Bool → List ℕ → List ℕ
+count_ending true cycles = []
+count_ending false cycles = total_of_all cycles
+
+-- the listing of a file's blocks whose schedules take `cycles`, as lines or as a table
+abbrev pub listing_of_counts : (csv : Bool) → List Block → (cycles : List ℕ) → List ℕ
+listing_of_counts csv blocks cycles =
+    (opening_as csv count_header ++ entries (count_line csv) 1 blocks cycles) ++ count_ending csv cycles

@@ -11,15 +11,15 @@ use Rattle.iloc_rules.specs.declared.heuristic.Heuristic.{Heuristic}
 use Rattle.iloc_rules.specs.declared.memory_rule.MemoryRule.{MemoryRule}
 use Rattle.iloc_rules.specs.declared.memory_rule.MemoryRule.TheVariants.{Book}
 use Rattle.iloc_rules.specs.Greedy.{IsGreedyBy, IsGreedyWhere}
-use Rattle.iloc_rules.specs.Rule.{counts_by, priorities_under}
-use Rattle.iloc_rules.specs.Heuristics.{priorities_by}
+use Rattle.iloc_rules.specs.Rule.{counts_by}
+use Rattle.iloc_rules.specs.Heuristics.{priorities_by, priorities_under}
 use Rattle.iloc_listing.specs.Listing.{cycles_of}
 
 -- the schedule of the block is greedy by the priorities that this heuristic gives its operations
 abbrev pub IsGreedyAs : Heuristic → Latencies → List Op → Table → Type 0
 IsGreedyAs heuristic lat block s = IsGreedyBy (priorities_by heuristic lat s.ops) lat block s.ops s.rows
 
--- the schedules are those of the blocks that are greedy by this heuristic, one by one
+-- one by one, each schedule is the one of its block that is greedy by `heuristic`
 abbrev pub AreGreedyAs : Heuristic → Latencies → List Block → List Table → Type 0
 AreGreedyAs heuristic lat [] [] = Unit {0}
 AreGreedyAs heuristic lat [] (s ∷ schedules) = ⊥
@@ -31,8 +31,8 @@ AreGreedyAs heuristic lat (b ∷ blocks) (s ∷ schedules) =
 abbrev pub IsScheduleOf : Heuristic → Latencies → List Block → ℕ → Table → Type 0
 IsScheduleOf heuristic lat blocks i s = IfSome (slice_get blocks i) (λ (b : Block). IsGreedyAs heuristic lat b.ops s)
 
--- the schedule is that of the block, greedy by this rule of memory and these priorities of its renamed operations, and there
--- is no other
+-- `s` is the schedule of the block `b` that is greedy by `rule` and by the priorities `prios` of its renamed
+-- operations, and there is no other
 pub record IsTheGreedyUnder (rule : MemoryRule) (prios : List Op → List ℕ) (lat : Latencies) (b : Block) (s : Table)
     : Type 0 where
   pub greedy : IsGreedyWhere (counts_by rule s.ops) (prios s.ops) lat b.ops s.ops s.rows
@@ -42,7 +42,7 @@ pub record IsTheGreedyUnder (rule : MemoryRule) (prios : List Op → List ℕ) (
 abbrev pub IsTheGreedyBy : (List Op → List ℕ) → Latencies → Block → Table → Type 0
 IsTheGreedyBy = IsTheGreedyUnder Book
 
--- by those of this heuristic
+-- by the priorities of `heuristic`
 abbrev pub IsTheGreedy : Heuristic → Latencies → Block → Table → Type 0
 IsTheGreedy heuristic lat b s = IsTheGreedyBy (priorities_by heuristic lat) lat b s
 
@@ -55,7 +55,7 @@ ranks_under rule heuristic lat (Some numbers) ops = numbers
 abbrev pub ranks : Heuristic → Latencies → Option (List ℕ) → List Op → List ℕ
 ranks = ranks_under Book
 
--- these are the cycles of the block's schedule that is greedy by this rule of memory and these priorities
+-- `cycles` are the cycles of the schedule of the block `b` that is greedy by `rule` and by the priorities `prios`
 pub record IsCountUnder (rule : MemoryRule) (prios : List Op → List ℕ) (lat : Latencies) (b : Block) (cycles : ℕ)
     : Type 0 where
   pub schedule : Table
@@ -66,7 +66,7 @@ pub record IsCountUnder (rule : MemoryRule) (prios : List Op → List ℕ) (lat 
 abbrev pub IsCountBy : (List Op → List ℕ) → Latencies → Block → ℕ → Type 0
 IsCountBy = IsCountUnder Book
 
--- by those of this heuristic
+-- by the priorities of `heuristic`
 abbrev pub IsCount : Heuristic → Latencies → Block → ℕ → Type 0
 IsCount heuristic lat b cycles = IsCountBy (priorities_by heuristic lat) lat b cycles
 
@@ -87,7 +87,7 @@ timed_outcomes lat memory schedules = map (λ (s : Table). timed_outcome lat s.o
 abbrev pub KeepOutcomes : Latencies → List Block → List Table → Type 0
 KeepOutcomes lat blocks schedules = (memory : List ℤ) → timed_outcomes lat memory schedules ≡ plain_outcomes memory blocks
 
--- these blocks are to be scheduled for a machine with these latencies, by this heuristic
+-- blocks to be scheduled, with the latencies and the heuristic
 pub record ToSchedule : Type 0 where
   pub blocks : List Block
   pub latencies : Latencies

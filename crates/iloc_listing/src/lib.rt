@@ -5,6 +5,7 @@ mod lines;
 mod scheduled;
 mod table;
 mod text;
+mod words;
 mod writing;
 
 pub use lines::{

@@ -2,14 +2,14 @@
 ghost use Rattle.std.specs.Prelude.{◌≡◌, ◌+◌, ◌≤◌, ◌<◌, ◌^◌, ◌++◌, length, OnOk, IfOk};
 ghost use Rattle.iloc_ops.specs.Limits.{MAX_BLOCKS};
 ghost use Rattle.std.specs.Option.{option_copied};
-ghost use Rattle.std.specs.List.{flat_map};
 ghost use Rattle.std.specs.Fmt.{decimal};
 ghost use Rattle.iloc_listing.specs.Listing.{counts_listing};
 ghost use Rattle.iloc_listing.specs.Listing as listed;
 
 use crate::table::push_count;
+use crate::words::push_words;
 use iloc_meaning::Outcome;
-use iloc_ops::{IlocFile, Name, NoMemory, push_number, write_text};
+use iloc_ops::{IlocFile, Name, NoMemory, write_text};
 use iloc_timed::{Latencies, MAX_ROWS, Row, RowWriter, Schedule, cycles};
 use itoa::write_digits;
 use std::alloc::Global;
@@ -58,19 +58,8 @@ pub fn push_block_head(
     Ok(())
 }
 
-/// Appends each word on a line of its own.
-fn push_words(text: &mut Vec<u8>, words: &[i32]) -> Result<(), NoMemory>
-    ensures { OnOk result (text.new.items ≡ text.old.items ++ flat_map listed.word_line words.now) }
-{
-    for word in words {
-        push_number(text, *word)?;
-        text.push(b'\n')?;
-    }
-    Ok(())
-}
-
-/// Appends what is listed of the block with this number, counted from 1, which emitted these words,
-/// or faulted where there are none. After a refusal a part of it may follow the text.
+/// Appends what is listed of block `number`, counted from 1, which emitted `words`, or faulted where there are none.
+/// After a refusal a part of it may follow the text.
 pub fn push_outcome(
     text: &mut Vec<u8>,
     number: usize,
@@ -107,8 +96,8 @@ fn held_rows(rows: &[Row]) -> &[Row]
     &rows[..count]
 }
 
-/// Appends the rows and the cycles of the block with this number, counted from 1, and this schedule, which takes so
-/// many cycles. Empty rows after the last operation are left out.
+/// Appends the rows and the `cycles` of block `number`, counted from 1, with its `schedule`. Empty rows after the last
+/// operation are left out.
 pub(crate) fn push_schedule(
     text: &mut Vec<u8>,
     writer: &mut RowWriter,
@@ -144,7 +133,7 @@ pub fn count_of(schedule: &Schedule, latencies: &Latencies) -> u32
     cycles(schedule, latencies) as u32
 }
 
-/// Appends the line of these cycles together.
+/// Appends the line with the sum of `cycles`.
 pub fn push_total_of(text: &mut Vec<u8>, cycles: &[u32]) -> Result<(), NoMemory>
     requires { length cycles.now ≤ MAX_BLOCKS }
     ensures { OnOk result (text.new.items ≡ text.old.items ++ listed.total_of_all cycles.now) }

@@ -79,21 +79,21 @@ impl EntryMaker {
         )?;
         push_bound(&mut self.text, bound, count)?;
         let folds = cycles as usize / 4 > block.ops.len();
-        let text = FoldedText::of(self.alloc, &mut self.piece, &self.text, folds)?;
+        let text = FoldedText::of(self.alloc, &mut self.piece, &mut self.text, folds)?;
         Ok(ScheduleEntry { text, cycles })
     }
 
-    /// The entry that is this text, for a schedule that takes so many cycles.
+    /// The entry with this `text`, for a schedule that takes `cycles` cycles.
     pub fn entry_of(&mut self, text: &[u8], cycles: u32) -> Result<ScheduleEntry, NoMemory>
         ensures text { IfOk result (λ entry. entry.text ≡ text.now) }
         ensures cycles { IfOk result (λ entry. entry.cycles ≡ cycles) }
     {
-        let text = FoldedText::of(self.alloc, &mut self.piece, text, false)?;
+        let text = FoldedText::copied(self.alloc, &mut self.piece, text)?;
         Ok(ScheduleEntry { text, cycles })
     }
 }
 
-/// The cycles of these entries' schedules together.
+/// The sum of the cycles of `entries`.
 fn cycles_of_all(entries: &[ScheduleEntry]) -> u64
     requires { length entries.now ≤ MAX_BLOCKS }
     ensures sum { result ≡ sum_by (λ entry. entry.cycles) entries.now }
@@ -106,7 +106,7 @@ fn cycles_of_all(entries: &[ScheduleEntry]) -> u64
     total
 }
 
-/// The listing of these entries, with the cycles of all at the end.
+/// The listing of `entries`, with the cycles of all at the end.
 pub fn with_total(alloc: Global, entries: Vec<ScheduleEntry>) -> Result<Listing, NoMemory>
     requires { length entries.items ≤ MAX_BLOCKS }
     ensures { IfOk result (λ text. text ≡ listed.listing_of_entries entries.items) }

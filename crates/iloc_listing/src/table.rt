@@ -50,8 +50,7 @@ pub fn push_field(text: &mut Vec<u8>, csv: bool, label: &str, number: u64) -> Re
     push_column(text, label, number)
 }
 
-/// Appends the line of the block with this number, counted from 1, whose schedule takes so many cycles, or its row in a
-/// table.
+/// Appends the line of block `number`, counted from 1, whose schedule takes `cycles` cycles, or its row in a table.
 pub fn push_count(
     text: &mut Vec<u8>,
     csv: bool,

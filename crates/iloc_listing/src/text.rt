@@ -12,6 +12,7 @@ use iloc_ops::NoMemory;
 use std::alloc::Global;
 use std::io::Write;
 use std::marker::Model;
+use std::mem;
 
 /// How a row without an operation is listed.
 const EMPTY_ROW: &[u8] = b"[ nop ; nop ]\n";
@@ -24,6 +25,9 @@ const PIECE: usize = 65536;
 
 /// Texts are joined up to this length before they are written.
 const MOST_JOINED: usize = 65536;
+
+/// An entry from this size on keeps the buffer that it was written to, in place of a copy.
+const WHOLE: usize = 4096;
 
 /// Rows without an operation that follow one another.
 #[derive(Clone, Copy, Drop)]
@@ -75,7 +79,8 @@ fn line_size(text: &[u8]) -> usize
     end.map_or(text.len(), |end| end + 1)
 }
 
-/// Adds so many empty rows to the buffer, or writes it where they don't fit. After a failure a prefix of both was written.
+/// Adds `rows` empty rows to `buffer`, which is written where they don't fit. After a failure a prefix of both was
+/// written.
 fn write_empty_rows<W: Write>(
     rows: usize,
     buffer: &mut Vec<u8>,
@@ -134,20 +139,39 @@ impl FoldedText {
         })
     }
 
-    /// This text, folded, or as it is and cut from the piece that is being filled.
-    pub(crate) fn of(
+    /// A copy of `text`, cut from `piece`.
+    pub(crate) fn copied(
         alloc: Global,
         piece: &mut BytesMut,
         text: &[u8],
-        folds: bool,
     ) -> Result<FoldedText, NoMemory>
         ensures { IfOk result (λ kept. kept ≡ text.now) }
     {
-        if folds {
-            return FoldedText::folded(alloc, text);
-        }
         Ok(FoldedText {
             bytes: cut(piece, text)?,
+            runs: Vec::new(alloc),
+        })
+    }
+
+    /// What `buffer` holds: folded, copied to `piece`, or from `WHOLE` bytes on in the buffer itself, in whose place there is
+    /// an empty one then.
+    pub(crate) fn of(
+        alloc: Global,
+        piece: &mut BytesMut,
+        buffer: &mut Vec<u8>,
+        folds: bool,
+    ) -> Result<FoldedText, NoMemory>
+        ensures { IfOk result (λ kept. kept ≡ buffer.old.items) }
+    {
+        if folds {
+            return FoldedText::folded(alloc, buffer);
+        }
+        if buffer.len() < WHOLE {
+            return FoldedText::copied(alloc, piece, buffer);
+        }
+        let next = Vec::with_capacity(alloc, buffer.len())?;
+        Ok(FoldedText {
+            bytes: Bytes::from_vec(mem::replace(buffer, next))?,
             runs: Vec::new(alloc),
         })
     }
@@ -207,7 +231,7 @@ impl Listing {
         }
     }
 
-    /// The listing of these entries, and this ending. The buffer by which they are written is made now, so that writing takes
+    /// The listing of `entries`, and `ending`. The buffer by which they are written is made now, so that writing takes
     /// no memory.
     pub fn of_entries(
         alloc: Global,

@@ -49,8 +49,11 @@ fn write_buffer<W: Write>(buffer: &mut Vec<u8>, writer: &mut W) -> Result<(), Wr
     Ok(())
 }
 
-/// Adds a text to the buffer, which is written before where the text doesn't fit in what is left of it, and the text by itself where
-/// the whole buffer is too short: it never grows. After a failure a prefix of both was written.
+/// Texts from this size on are written by themselves. Joined with others they cost a copy.
+const UNJOINED: usize = 16384;
+
+/// Adds `text` to `buffer`, which never grows: where `text` doesn't fit in what is left of it, the buffer is written first. A text of
+/// `UNJOINED` bytes or one that is longer than the buffer is written by itself. After a failure a prefix of both was written.
 pub(crate) fn write_joined<W: Write>(
     text: &[u8],
     buffer: &mut Vec<u8>,
@@ -61,11 +64,12 @@ pub(crate) fn write_joined<W: Write>(
     ensures err { OnErr result
         (WritesFront (W.contents writer.old) (W.contents writer.new) (buffer.old.items ++ text.now)) }
 {
-    if text.len() <= buffer.capacity() - buffer.len() {
+    let is_short = text.len() < UNJOINED;
+    if is_short && text.len() <= buffer.capacity() - buffer.len() {
         return buffer.extend_from_slice(text).map_err(|_| WriteFailed);
     }
     write_buffer(buffer, writer)?;
-    if text.len() <= buffer.capacity() {
+    if is_short && text.len() <= buffer.capacity() {
         return buffer.extend_from_slice(text).map_err(|_| WriteFailed);
     }
     write_bytes(writer, text)

@@ -2,12 +2,12 @@
 use Rattle.std.specs.Prelude.{ℕ, zero, suc, List, [], ◌∷◌, ◌++◌, take, drop, sum_by, codes}
 use Rattle.iloc_listing.specs.declared.text.EmptyRows.{EmptyRows}
 
--- so many rows without an operation, as they are listed
+-- a number of rows without an operation, as they are listed
 abbrev pub empty_rows : ℕ → List ℕ
 empty_rows zero = []
 empty_rows (suc n) = codes "[ nop ; nop ]\n" ++ empty_rows n
 
--- the text of these bytes and the runs of rows among them
+-- the text of `bytes` and the runs of rows among them
 abbrev pub unfolded : List EmptyRows → List ℕ → List ℕ
 unfolded [] bytes = bytes
 unfolded (run ∷ runs) bytes = take run.bytes bytes ++ (empty_rows run.rows ++ unfolded runs (drop run.bytes bytes))
