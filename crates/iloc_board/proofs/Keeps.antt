@@ -1,5 +1,5 @@
 -- The five atomic steps keep the rule.
-use Rattle.iloc_board.proofs.Common.{◌≡◌, ℕ, zero, suc, ◌+◌, ◌<◌, ◌≤◌, Bool, true, false, cond, ◌≢◌, ◌⊎◌, List, [], ◌∷◌, ◌++◌, length, set, replicate, ◌==◌, slice_index, slice_set, sym, refl, ap, ◌∙◌, subst, inl, inr, arith, length-append, length-set, cases_eq, Core, after, costs_at, found, hand_reply, is_holding, look_reply, missed, next_after, opening, played, reply_to, try_reply, worker_of, entries_of, noted, seen, state_of, final, Fits, FitsPass, FitsRoot, IsKept, Sat, TableState, Tells, gathers, hands, looks, made_pass, makes, pass_seat, root_seat, spent_seat, tells_all, tries, State, Holding, Looked, Journal, Reply, Handed, NotNow, Took, Step, Hand, Look, Try}
+use Rattle.iloc_board.proofs.Common.{◌≡◌, ℕ, zero, suc, ◌+◌, ◌<◌, ◌≤◌, Bool, true, false, cond, ◌≢◌, ◌⊎◌, List, [], ◌∷◌, ◌++◌, length, set, replicate, ◌==◌, slice_index, slice_set, sym, refl, ap, ◌∙◌, subst, inl, inr, arith, length-append, length-set, cases_eq, Core, after, costs_at, look_finds, hand_reply, is_holding, look_reply, missed, next_after, opening, played, reply_to, try_reply, worker_of, entries_of, noted, seen, state_of, final, Fits, FitsPass, FitsRoot, IsKept, Sat, TableState, Tells, gathers, hands, looks, made_pass, makes, pass_seat, root_seat, spent_seat, tells_all, tries, State, Holding, Looked, Journal, Reply, Handed, NotNow, Took, Step, Hand, Look, Try}
 use mathlib.Core.Option.{none, some, some-injective, some-ne-none}
 use lib.ListN.{get_elem?}
 use prog.Atomic.{either}
@@ -99,19 +99,19 @@ adds_one count s k id v at role x w r e answered ws words =
 next_word : (ws costs : List ℕ) (next : ℕ) → ws ≡ next ∷ costs → slice_index ws 0 ≡ next
 next_word ws costs next e = ap (λ t. slice_index t 0) e
 
-stays_found : (next count : ℕ) → next_after next (found count next) ≡ next
+stays_found : (next count : ℕ) → next_after next (look_finds count next) ≡ next
 stays_found next count = grind arith
 
 stays_missed : (next count : ℕ) → next_after next (missed count next) ≡ next
 stays_missed next count = grind arith
 
-found_answers : (count next : ℕ) → found count next ≢ NotNow
+found_answers : (count next : ℕ) → look_finds count next ≢ NotNow
 found_answers count next = grind arith
 
 missed_answers : (count next : ℕ) → missed count next ≢ NotNow
 missed_answers count next = grind arith
 
-free_looks : (count next : ℕ) (s : State) → is_holding s ≡ false → look_reply count next s ≡ found count next
+free_looks : (count next : ℕ) (s : State) → is_holding s ≡ false → look_reply count next s ≡ look_finds count next
 free_looks count next (Holding k) e = absurd (cc)
 free_looks count next s e = refl
 
@@ -133,10 +133,10 @@ looks_kept count slots id m role free s k len at small =
     let word : n ≡ c.next = next_word s.words c.costs c.next k.words in
     let state : is_holding (c.state v.journal.worker) ≡ false = ap is_holding (state_here count s k id v at role)
     ∙ free in
-    let finds : reply_to count c x ≡ found count c.next = free_looks count c.next (c.state v.journal.worker) state in
-    let r : Reply = found v.count n in
+    let finds : reply_to count c x ≡ look_finds count c.next = free_looks count c.next (c.state v.journal.worker) state in
+    let r : Reply = look_finds v.count n in
     let same : reply_to count c x ≡ r = finds
-    ∙ (ap (λ q. found q c.next) (sym mine.counts) ∙ ap (λ q. found v.count q) (sym word)) in
+    ∙ (ap (λ q. look_finds q c.next) (sym mine.counts) ∙ ap (λ q. look_finds v.count q) (sym word)) in
     let stays : next_after c.next (reply_to count c x) ≡ c.next = ap (λ q. next_after c.next q) finds
     ∙ stays_found c.next count in
     let ws : slice_set s.words 0 n ≡ (after count c x).next ∷ (after count c x).costs =

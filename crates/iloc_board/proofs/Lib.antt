@@ -13,3 +13,4 @@ pub mod Retires
 pub mod Closes
 pub mod Works
 pub mod Claims
+pub mod Handed

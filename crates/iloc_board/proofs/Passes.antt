@@ -1,5 +1,5 @@
 -- From a value to what it keeps inside, and back.
-use Rattle.iloc_board.proofs.Common.{◌≡◌, ℕ, ◌<◌, ◌≤◌, true, false, cond, ◌≢◌, List, [], ◌∷◌, ◌++◌, ◌==◌, sym, refl, ap, ◌∙◌, append_assoc, append-nil, arith, le-ltb, lt-ltb, eq-eqb, ne_eqb, map-append, IsWithin, entry, found, is_holding, missed, state_after, accepted, all_handed, handed, saw_none, seen, state_of, Sat, adds, gathers, AllFit, BoardView, PassView, RootView, job_of, state, State, Free, Holding, Looked, Entry, Journal, Reply, Block, Handed, NoneLeft, Stale, Took, Step, Hand, Look, Try}
+use Rattle.iloc_board.proofs.Common.{◌≡◌, ℕ, ◌<◌, ◌≤◌, true, false, cond, ◌≢◌, List, [], ◌∷◌, ◌++◌, ◌==◌, sym, refl, ap, ◌∙◌, append_assoc, append-nil, arith, le-ltb, lt-ltb, eq-eqb, ne_eqb, map-append, IsWithin, entry, look_finds, is_holding, missed, state_after, accepted, all_handed, handed, saw_none, seen, state_of, Sat, adds, gathers, AllFit, BoardView, PassView, RootView, job_of, state, State, Free, Holding, Looked, Entry, Journal, Reply, Block, Handed, NoneLeft, Stale, Took, Step, Hand, Look, Try}
 use Rattle.atomic_table.specs.Seated.{TableId}
 use Rattle.iloc_board.specs.Steps.Inside.{IsPass, IsRoot}
 use Rattle.iloc_board.proofs.Parts.{state_from-snoc, handed_from-snoc, told_none, looked_seen}
@@ -66,12 +66,12 @@ module _ {J A : Type 0} {number : ℕ} {fits : ℕ → A → Type 0} {price : A 
 
   module _ {new : Sat} {id : TableId} {n : ℕ} (w : ℕ) where
     -- a look that finds the job n, and one that finds none
-    pub looked_inside : new ≡ adds me (Look w) (found me.0.count n) → n < number
+    pub looked_inside : new ≡ adds me (Look w) (look_finds me.0.count n) → n < number
         → IsPass number fits price new worker (Looked n) (after_step id new p)
     looked_inside e lt = steps_inside (Look w) (Block n)
         (e ∙ ap (λ b. adds me (Look w) (cond b (Block n) NoneLeft)) (lt-ltb n me.0.count (rw counts lt))) refl lt refl
 
-    pub free_again : new ≡ adds me (Look w) (found me.0.count n) → number ≤ n
+    pub free_again : new ≡ adds me (Look w) (look_finds me.0.count n) → number ≤ n
         → IsPass number fits price new worker Free (after_step id new p)
     free_again e le = steps_inside (Look w) NoneLeft
         (e ∙ ap (λ b. adds me (Look w) (cond b (Block n) NoneLeft)) (le-ltb n me.0.count (rw counts le))) refl tt refl

@@ -1,6 +1,6 @@
 -- How a worker's run falls.
 use Rattle.iloc_board.proofs.Common.{◌≡◌, ℕ, suc, ◌+◌, ◌<◌, ◌≤◌, max, true, List, [], ◌∷◌, ◌++◌, length, refl, ap, append_assoc, append-nil, arith, length-append, or_right, entry, state_after, is_none_left, noted, saw_none, seen, seen_from, shown, state_from, state_of, Ended, Goes, Pays, left, left_in, slack, slack_in, is_looking, State, Free, Holding, Looked, Entry, Journal, Reply, Handed, NoneLeft, Stale, Took, Step}
-use Rattle.iloc_board.specs.Working.{one_if_stale, stales, Adds, Runs, IsDone}
+use Rattle.iloc_board.specs.Working.{one_if_stale, stales, Extends, Runs, IsDone}
 use Rattle.iloc_board.proofs.Parts.{state_from-snoc, seen_from-snoc}
 
 stales-snoc : (es : List Entry) (x : Step) (r : Reply) → stales (es ++ entry x r ∷ []) ≡ stales es + one_if_stale r
@@ -22,8 +22,8 @@ stands_noted : (count : ℕ) (t : Journal) (x : Step) (r : Reply) (s : State) �
     × (slack count (noted t x r) ≡ slack_in count (max (seen count t) (shown count r)) (state_after s r))
 stands_noted count t x r s e = grind (arith, seen_from-snoc, state_from-snoc)
 
-adds_more : (j t : Journal) (added : List Entry) (x : Step) (r : Reply) → Adds j t added
-    → Adds j (noted t x r) (added ++ entry x r ∷ [])
+adds_more : (j t : Journal) (added : List Entry) (x : Step) (r : Reply) → Extends j t added
+    → Extends j (noted t x r) (added ++ entry x r ∷ [])
 adds_more j t added x r h = grind (arith, append_assoc)
 
 pub goes_none : (count : ℕ) (j : Journal) → Goes count j j
@@ -40,7 +40,7 @@ pays_more count j t x r entries late h fall few =
       stale = omega arith;
     }
 
-adds_join : (j t u : Journal) (xs ys : List Entry) → Adds j t xs → Adds t u ys → Adds j u (xs ++ ys)
+adds_join : (j t u : Journal) (xs ys : List Entry) → Extends j t xs → Extends t u ys → Extends j u (xs ++ ys)
 adds_join j t u xs ys h i = grind (arith, append_assoc)
 
 stales-append : (xs ys : List Entry) → stales (xs ++ ys) ≡ stales xs + stales ys

@@ -28,7 +28,7 @@ abbrev pub NoneTwice : List ℕ → Type 0
 NoneTwice [] = Unit {0}
 NoneTwice (x ∷ xs) = (list_any (λ y. x == y) xs ≡ false) × NoneTwice xs
 
--- the workers of these journals
+-- the workers of `journals`
 abbrev pub workers_of : List Journal → List ℕ
 workers_of journals = map (λ j. j.worker) journals
 
@@ -61,7 +61,7 @@ module _ {A : Type 0} where
   IsLegalWith fits answers count steps =
       Legal (FitsHandedBack fits) (opened count) (history (handed_back_in answers) count (opening count) steps)
 
-  -- the jobs of these answers
+  -- the jobs of the answers `xs`
   abbrev pub jobs_of : List (ℕ × A) → List ℕ
   jobs_of xs = map (λ x. x.0) xs
 

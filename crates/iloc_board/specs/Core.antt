@@ -36,8 +36,8 @@ worker_of (Try w) = w
 worker_of (Hand w cost) = w
 
 -- what a look finds
-abbrev pub found : ℕ → ℕ → Reply
-found count next = cond (nat_lt next count) (Block next) NoneLeft
+abbrev pub look_finds : ℕ → ℕ → Reply
+look_finds count next = cond (nat_lt next count) (Block next) NoneLeft
 
 -- what a try finds where another worker was faster
 abbrev pub missed : ℕ → ℕ → Reply
@@ -45,8 +45,8 @@ missed count next = cond (nat_lt next count) (Stale next) NoneLeft
 
 -- a look is forbidden while the worker holds a job
 abbrev pub look_reply : ℕ → ℕ → State → Reply
-look_reply count next Free = found count next
-look_reply count next (Looked k) = found count next
+look_reply count next Free = look_finds count next
+look_reply count next (Looked k) = look_finds count next
 look_reply count next (Holding k) = NotNow
 
 -- a try is for a worker that has looked at a job, and wins where that job is still the next
@@ -107,7 +107,7 @@ after count c x = record {
   state = λ w. cond (w == worker_of x) (state_after (c.state w) (reply_to count c x)) (c.state w);
 }
 
--- the core after these steps
+-- the core `c` after the steps of a list
 abbrev pub ends : ℕ → Core → List Step → Core
 ends count c [] = c
 ends count c (x ∷ xs) = ends count (after count c x) xs

@@ -74,8 +74,8 @@ module _ {A : Type 0} (said : ℕ → ℕ → A) where
   history count c [] = []
   history count c (x ∷ xs) = calls_of (c.state (worker_of x)) x (reply_to count c x) ++ history count (after count c x) xs
 
--- The board of one thread stands where the core does: the jobs from next on wait; those that were taken and are still
--- held are out, in the order of the takes; and these answers are done.
+-- The board `b` of one thread is where the core `c` is: the jobs from `next` on wait; the ones that are `taken` and
+-- still held are out, in the order of the takes; and `answers` are done.
 pub record StandsAt {A : Type 0} (count : ℕ) (c : Core)
     (taken : List (ℕ × ℕ)) (answers : List (ℕ × A)) (b : SequentialBoard A) : Type 0 where
   pub waiting : b.waiting ≡ range_with_len c.next (count - c.next)

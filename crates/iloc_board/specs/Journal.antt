@@ -48,7 +48,7 @@ seen_from count start (e ∷ es) = seen_from count (max start (shown count e.rep
 abbrev pub seen : ℕ → Journal → ℕ
 seen count j = seen_from count j.start j.entries
 
--- the greatest that these journals show
+-- the greatest number that the journals show
 abbrev pub seen_in : ℕ → List Journal → ℕ
 seen_in count [] = 0
 seen_in count (j ∷ js) = max (seen count j) (seen_in count js)
@@ -66,7 +66,7 @@ abbrev pub saw_none : List Entry → Bool
 saw_none [] = false
 saw_none (e ∷ es) = is_none_left e.reply || saw_none es
 
--- the jobs handed back in these entries, each with its cost
+-- the jobs handed back in the entries of a list, each with its cost
 abbrev pub handed_from : State → List Entry → List (ℕ × ℕ)
 handed_from s [] = []
 handed_from s (e ∷ es) = accepted s e.step e.reply ++ handed_from (state_after s e.reply) es

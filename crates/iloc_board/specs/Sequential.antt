@@ -42,7 +42,7 @@ module _ {A : Type 0} where
   moved b (Gave w i a) = record { waiting = b.waiting; out = without w i b.out; done = b.done ++ (i, a) ∷ [] }
   moved b (NoneLeft w) = b
 
-  -- the board after these calls
+  -- the board `b` after the calls of a list
   abbrev pub board_after : SequentialBoard A → List (Call A) → SequentialBoard A
   board_after b [] = b
   board_after b (x ∷ xs) = board_after (moved b x) xs

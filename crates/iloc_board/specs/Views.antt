@@ -1,5 +1,5 @@
 -- What contracts see of a board, a pass and a root, and what the board's calls answer, as replies of the core.
-use Rattle.std.specs.Prelude.{◌≡◌, ℕ, suc, Bool, true, false, List, [], ◌∷◌, ◌++◌, map, ◌<◌, ◌≤◌}
+use Rattle.std.specs.Prelude.{◌≡◌, ℕ, suc, Bool, true, false, List, [], ◌∷◌, ◌++◌, ◌<◌, ◌≤◌}
 use Rattle.atomic_table.specs.Seated.{TableId}
 use Rattle.iloc_board.specs.declared.step.Step.{Step}
 use Rattle.iloc_board.specs.declared.step.Step.TheVariants.{Hand}
@@ -14,7 +14,7 @@ use Rattle.iloc_board.specs.declared.board.Seen.TheVariants as saw
 use Rattle.iloc_board.specs.declared.board.Tried.{Tried}
 use Rattle.iloc_board.specs.declared.board.Tried.TheVariants as got
 
--- a board is told from others by its table, and has these jobs
+-- a board is told from others by its `table`, and has its `jobs`
 pub record BoardView (J : Type 0) : Type 0 where
   pub table : TableId
   pub jobs : J
@@ -33,21 +33,6 @@ pub record RootView (J A : Type 0) : Type 0 where
   pub made : ℕ
   pub gathered : List Journal
   pub answers : List (ℕ × A)
-
--- each answer fits its job
-abbrev pub AllFit : {A : Type 0} → (ℕ → A → Type 0) → List (ℕ × A) → Type 0
-AllFit fits [] = Unit {0}
-AllFit fits (x ∷ xs) = fits x.0 x.1 × AllFit fits xs
-
--- each answer's job with the answer's cost
-abbrev pub priced : {A : Type 0} → (A → ℕ) → List (ℕ × A) → List (ℕ × ℕ)
-priced price xs = map (λ x. (x.0, price x.1)) xs
-
--- the answers fit, and are one for each of these hand-backs, at its cost
-pub record AreFitting {A : Type 0} (fits : ℕ → A → Type 0) (price : A → ℕ)
-    (answers : List (ℕ × A)) (handed : List (ℕ × ℕ)) : Type 0 where
-  pub fit : AllFit fits answers
-  pub each : priced price answers ≡ handed
 
 abbrev pub is_looking : State → Bool
 is_looking Free = false

@@ -8,7 +8,8 @@ use Rattle.iloc_board.specs.declared.board.state.State.TheVariants.{Free}
 use Rattle.iloc_board.specs.declared.step.Journal.{Journal}
 use Rattle.iloc_board.specs.Core.{entry}
 use Rattle.iloc_board.specs.Journal.{state_of, saw_none, handed}
-use Rattle.iloc_board.specs.Views.{PassView, AllFit, priced}
+use Rattle.iloc_board.specs.Views.{PassView}
+use Rattle.iloc_board.specs.Finished.{AllFit, priced}
 
 abbrev pub one_if_stale : Reply → ℕ
 one_if_stale (Block k) = 0
@@ -18,21 +19,21 @@ one_if_stale (Stale k) = 1
 one_if_stale Handed = 0
 one_if_stale NotNow = 0
 
--- how many of these entries came too late
+-- how many entries of a list came too late
 abbrev pub stales : List Entry → ℕ
 stales [] = 0
 stales (e ∷ es) = one_if_stale e.reply + stales es
 
--- the second journal is the first with these entries more
-pub record Adds (j t : Journal) (added : List Entry) : Type 0 where
+-- the journal `t` is `j` with the entries `added`
+pub record Extends (j t : Journal) (added : List Entry) : Type 0 where
   pub worker : t.worker ≡ j.worker
   pub start : t.start ≡ j.start
   pub entries : t.entries ≡ j.entries ++ added
 
--- a run adds so many entries at most, and so many of them stale
+-- a run from journal `j` to `t` adds a limited number of entries, and a limited number of stale ones
 pub record Runs (count : ℕ) (j t : Journal) : Type 0 where
   pub added : List Entry
-  pub adds : Adds j t added
+  pub adds : Extends j t added
   pub few : length added ≤ 3 * count + 1
   pub late : stales added ≤ count
 

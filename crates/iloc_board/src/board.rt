@@ -211,9 +211,9 @@ impl<'a, J: Jobs> Board<'a, J> {
         Ok(())
     }
 
-    /// Takes the pass's answers into the root.
+    /// Takes the answers of `pass` into `root`.
     ///
-    /// Promise: the root has the pass's journal and its answers after those that it had. If memory is refused, the pass is given
+    /// Promise: the root has the pass's journal and its answers after its own. If memory is refused, the pass is given
     /// back and nothing has changed.
     pub fn gather(
         &self,

@@ -1,5 +1,6 @@
-//! The tests of the board, by its public calls. They stand apart so that the board is proved once, and not a second time
-//! beside its tests.
+//! Tests of the board, by its public calls.
+//!
+//! They are a crate of their own so that the board is proved once, and not a second time beside its tests.
 #![tactic(auto)]
 
 #[cfg(test)]

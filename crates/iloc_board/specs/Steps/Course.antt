@@ -6,7 +6,7 @@ use Rattle.iloc_board.specs.declared.board.state.State.TheVariants.{Free, Looked
 use Rattle.iloc_board.specs.declared.step.Journal.{Journal}
 use Rattle.iloc_board.specs.Journal.{seen, state_of, handed}
 use Rattle.iloc_board.specs.Views.{PassView}
-use Rattle.iloc_board.specs.Working.{stales, Adds}
+use Rattle.iloc_board.specs.Working.{stales, Extends}
 
 -- how many entries may be left for a worker in this state that has seen so much
 abbrev pub left_in : ℕ → ℕ → State → ℕ
@@ -29,7 +29,7 @@ slack count j = slack_in count (seen count j) (state_of j.entries)
 -- what was added is paid from what was left, and this much is over
 pub record Pays (count : ℕ) (j t : Journal) (entries late : ℕ) : Type 0 where
   pub added : List Entry
-  pub adds : Adds j t added
+  pub adds : Extends j t added
   pub few : length added + entries ≤ left count j
   pub stale : stales added + late ≤ slack count j
 

@@ -6,7 +6,8 @@ use Rattle.iloc_board.specs.Limits.{MOST_JOBS}
 use Rattle.iloc_board.specs.Core.{IsWithin}
 use Rattle.iloc_board.specs.Journal.{state_of, handed, all_handed}
 use Rattle.iloc_board.specs.Steps.Rule.{Sat, pass_seat, root_seat}
-use Rattle.iloc_board.specs.Views.{PassView, RootView, AllFit, priced}
+use Rattle.iloc_board.specs.Views.{PassView, RootView}
+use Rattle.iloc_board.specs.Finished.{AllFit, priced}
 
 -- the table was told the number of jobs, and has a word for the next job and one for each cost
 pub record IsBoard (number count key : ℕ) (id : TableId) : Type 0 where

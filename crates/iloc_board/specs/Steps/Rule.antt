@@ -11,7 +11,7 @@ use Rattle.iloc_board.specs.declared.step.Reply.TheVariants.{Took, Handed}
 use Rattle.iloc_board.specs.declared.step.Journal.{Journal}
 use Rattle.iloc_board.specs.declared.board.seat_view.Role.TheVariants.{Root, Pass, Spent}
 use Rattle.iloc_board.specs.declared.board.seat_view.SeatView.{SeatView}
-use Rattle.iloc_board.specs.Core.{opening, played, found, missed}
+use Rattle.iloc_board.specs.Core.{opening, played, look_finds, missed}
 use Rattle.iloc_board.specs.Journal.{journal_of, entries_of, seen, seen_in, noted}
 use Rattle.iloc_board.specs.Play.{final}
 use Rattle.iloc_board.specs.Collecting.{AllMade, AllAnswered}
@@ -79,7 +79,7 @@ adds m x r = (pass_seat m.0.count (noted m.0.journal x r), m.1)
 
 -- a load of word 0
 abbrev pub looks : StepEffect
-looks st m n after = (after ≡ adds m (Look m.0.journal.worker) (found m.0.count n)) × (seen m.0.count m.0.journal ≤ n)
+looks st m n after = (after ≡ adds m (Look m.0.journal.worker) (look_finds m.0.count n)) × (seen m.0.count m.0.journal ≤ n)
 
 -- a load of word 0 by the root: at that moment the rule held, with the root's seat as it was
 abbrev pub tells_all : StepEffect

@@ -11,7 +11,7 @@ use Rattle.iloc_board.specs.Core.{Core}
 abbrev pub state_in : BTreeMap ℕ State → ℕ → State
 state_in states q = unwrap_or (get nat_cmp states q) Free
 
--- these numbers and this map are the core
+-- `next`, `costs` and `states` are the core `c`
 pub record Shows (next : ℕ) (costs : List ℕ) (states : BTreeMap ℕ State) (c : Core) : Type 0 where
   pub next_is : next ≡ c.next
   pub costs_are : costs ≡ c.costs

@@ -2,7 +2,8 @@
 ghost use Rattle.std.specs.Prelude.{◌≡◌};
 ghost use Rattle.iloc_board.specs.Core.{IsWithin};
 ghost use Rattle.iloc_board.specs.Journal.{handed, all_handed};
-ghost use Rattle.iloc_board.specs.Views.{state, AreFitting};
+ghost use Rattle.iloc_board.specs.Views.{state};
+ghost use Rattle.iloc_board.specs.Finished.{AreFitting};
 
 use crate::answers::Answers;
 use crate::board::seat_view::SeatView;

@@ -1,5 +1,4 @@
 use Rattle.iloc_board.proofs.Common.{◌≡◌, sym, ap, ◌∙◌, arith, Sat, RootView}
-use Rattle.iloc_board.specs.Finished.{ReceiptView}
 use Rattle.iloc_board.proofs.Closes as closes
 use Rattle.iloc_board.proofs.Keeps as keeps
 use Rattle.iloc_board.proofs.Passes as passes
@@ -16,11 +15,14 @@ load-requires g c = (
 pub returns-clause-answers : goal.returns-clause-answers
 returns-clause-answers g c = ap (λ (v : RootView g.row.J.Denot g.row.J-Answer.Denot). v.answers) c.root.view_is
 
-pub returns-clause-receipt : goal.returns-clause-receipt
-returns-clause-receipt g c =
-    let seat : Sat → ReceiptView = λ m. record { made = m.0.made; gathered = m.0.gathered } in
-    ap seat c.load.ensures.2.0 ∙ (ap seat c.root.invariant.seat
-    ∙ ap (λ (v : RootView g.row.J.Denot g.row.J-Answer.Denot). record { made = v.made; gathered = v.gathered }) c.root.view_is)
+pub returns-clause-made : goal.returns-clause-made
+returns-clause-made g c = ap (λ (m : Sat). m.0.made) c.load.ensures.2.0 ∙ (ap (λ (m : Sat). m.0.made) c.root.invariant.seat
+    ∙ ap (λ (v : RootView g.row.J.Denot g.row.J-Answer.Denot). v.made) c.root.view_is)
+
+pub returns-clause-gathered : goal.returns-clause-gathered
+returns-clause-gathered g c = ap (λ (m : Sat). m.0.gathered) c.load.ensures.2.0
+    ∙ (ap (λ (m : Sat). m.0.gathered) c.root.invariant.seat
+    ∙ ap (λ (v : RootView g.row.J.Denot g.row.J-Answer.Denot). v.gathered) c.root.view_is)
 
 pub returns-clause-list : goal.returns-clause-list
 returns-clause-list g c =
