@@ -8,6 +8,7 @@ pub mod ReadingRows
 pub mod GivenSources
 pub mod AlikeOps
 pub mod CountsLike
+pub mod SameCounts
 pub mod NthLike
 pub mod SameOps
 pub mod NumberedLabels

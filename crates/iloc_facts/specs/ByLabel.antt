@@ -12,7 +12,7 @@ use Rattle.iloc_facts.specs.Counts.{are_alike}
 abbrev pub number_like : ByLabel → Op → Option ℕ
 number_like numbers op = get (of_ops.ghosts).cmp numbers.numbers (label_key op)
 
--- of those like this operation the number is another one
+-- from `old` to `new`, operations like `op` have another `number`, and nothing else changes
 abbrev pub SetsLike : ByLabel → ByLabel → Op → Option ℕ → Type 0
 SetsLike old new op number =
     (other : Op) → number_like new other ≡ (if are_alike op other then number else number_like old other)

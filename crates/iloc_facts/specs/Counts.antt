@@ -1,5 +1,5 @@
 -- How many operations are alike, and which have a counterpart.
-use Rattle.std.specs.Prelude.{ℕ, ◌≡◌, ◌<◌, nat_le, Bool, List, length, take, count_by}
+use Rattle.std.specs.Prelude.{ℕ, ◌≡◌, ◌<◌, ◌==◌, ◌&&◌, nat_le, Bool, List, length, take, count_by}
 use Rattle.std.specs.List.{range_with_len}
 use Rattle.iloc_ops.specs.declared.op.Op.{Op}
 use Rattle.iloc_ops.specs.contracts.op.OpPartialEq.TheImpl as of_ops
@@ -33,3 +33,11 @@ pub record AreLacking (ops others : List Op) (it : Lacking) : Type 0 where
   pub some : 0 < it.count
   pub within : it.number < length ops
   pub short : IsShort (op_at ops it.number) ops others
+
+-- whether nothing is left out and nothing added: each of `block` has a counterpart among `ops`, and each of `ops` one in `block`
+abbrev pub has_operations : List Op → List Op → Bool
+has_operations block ops = (lacking block ops == 0) && (lacking ops block == 0)
+
+-- of each opcode and constant `ops` has as many as `block`, whatever registers they name
+abbrev pub AreItsOperations : List Op → List Op → Type 0
+AreItsOperations block ops = (op : Op) → count_like op ops ≡ count_like op block

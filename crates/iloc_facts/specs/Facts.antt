@@ -77,23 +77,10 @@ pub record IsNeverRead (lat : Latencies) (ops : List Op) (rows : List Row) (issu
 abbrev pub HasLabel : List Op → ℕ → Op → Type 0
 HasLabel block i op = (i < length block) × (label (op_at block i) ≡ label op)
 
--- operations i and o of the block aren't in the order of those that are issued in cycles c and d: the one in c is to come
--- later, or else before
+-- operations `i` and `o` of the block aren't in the order of two that are issued in cycles `c` and `d`: the one in `c`
+-- is to come later, or else before
 abbrev pub AreAgainst : ℕ → ℕ → ℕ → ℕ → Type 0
 AreAgainst i o c d = ((o < i) × (c ≤ d)) ⊎ ((i < o) × (d < c))
-
--- two operations of which memory or outputs fix the order aren't in the order that two of their labels have in the block
-pub record IsOrdered (block ops : List Op) (rows : List Row) (issue other : Issue) : Type 0 where
-  pub k : ℕ
-  pub j : ℕ
-  pub here : IsIssued ops rows k issue
-  pub there : IsIssued ops rows j other
-  pub fixed : IsTrue (keeps_order (kind issue.op) (kind other.op) || keeps_order (kind other.op) (kind issue.op))
-  pub i : ℕ
-  pub o : ℕ
-  pub own : HasLabel block i issue.op
-  pub others : HasLabel block o other.op
-  pub against : AreAgainst i o issue.cycle other.cycle
 
 -- Alike operations
 
@@ -109,8 +96,8 @@ AreAllSources Alike [] [] = Unit
 AreAllSources Alike (s ∷ ss) (t ∷ ts) = AreSources Alike s t × AreAllSources Alike ss ts
 AreAllSources Alike _ _ = ⊥
 
--- Operation i of the block and operation k of the rows are alike to a depth: all are to depth 0, and to depth n + 1 those of
--- one label whose sources are both the start, or alike to depth n.
+-- Operation `i` of the block and operation `k` of the rows are alike to a depth: all are to depth 0, and to depth `n +
+-- 1` two of one label whose sources are both the start, or alike to depth `n`.
 abbrev pub AreAlike : Latencies → List Op → List Op → List Row → ℕ → ℕ → ℕ → Type 0
 AreAlike lat block ops rows zero i k = Unit
 AreAlike lat block ops rows (suc n) i k = (label (op_at block i) ≡ label (op_at ops k))
@@ -120,6 +107,23 @@ AreAlike lat block ops rows (suc n) i k = (label (op_at block i) ≡ label (op_a
 -- to some depth they aren't
 abbrev pub AreUnlike : Latencies → List Op → List Op → List Row → ℕ → ℕ → Type 0
 AreUnlike lat block ops rows i k = (depth : ℕ) × (AreAlike lat block ops rows depth i k → ⊥)
+
+-- two operations of which memory or outputs fix the order aren't in the order that two of their labels have in the block, of
+-- which neither is like the other one's
+pub record IsOrdered (lat : Latencies) (block ops : List Op) (rows : List Row) (issue other : Issue) : Type 0 where
+  pub k : ℕ
+  pub j : ℕ
+  pub here : IsIssued ops rows k issue
+  pub there : IsIssued ops rows j other
+  pub another : j ≢ k
+  pub fixed : IsTrue (keeps_order (kind issue.op) (kind other.op) || keeps_order (kind other.op) (kind issue.op))
+  pub i : ℕ
+  pub o : ℕ
+  pub own : HasLabel block i issue.op
+  pub others : HasLabel block o other.op
+  pub against : AreAgainst i o issue.cycle other.cycle
+  pub not_others : AreUnlike lat block ops rows o k
+  pub not_own : AreUnlike lat block ops rows i j
 
 -- an operation has the label of this one of the block, and isn't alike to it
 pub record IsFor (lat : Latencies) (block ops : List Op) (rows : List Row) (issue : Issue) (number : ℕ) (op : Op) : Type 0 where
@@ -142,7 +146,8 @@ abbrev pub IsCounterpart : List Op → List Op → ℕ → ℕ → Type 0
 IsCounterpart block ops i k = HasLabel block i (op_at ops k)
     × (count_like (op_at block i) (take i block) ≡ count_like (op_at ops k) (take k ops))
 
--- an operation doesn't read the results of those whose counterparts its own counterpart reads
+-- an operation doesn't read what its counterpart in the block reads: not the results of the same operations,
+-- counterpart by counterpart
 pub record IsToBeSeen (lat : Latencies) (block ops : List Op) (rows : List Row) (issue : Issue) : Type 0 where
   pub k : ℕ
   pub i : ℕ
@@ -159,7 +164,7 @@ IsFact lat block ops rows (UnderWay issue store due) = IsWhileUnderWay lat ops r
 IsFact lat block ops rows (Brings issue register late due) = IsBroughtLater lat ops rows issue register late due
 IsFact lat block ops rows (Replaced issue register from lost) = IsReplaced lat ops rows issue register from lost
 IsFact lat block ops rows (NeverRead issue) = IsNeverRead lat ops rows issue
-IsFact lat block ops rows (Order issue other) = IsOrdered block ops rows issue other
+IsFact lat block ops rows (Order issue other) = IsOrdered lat block ops rows issue other
 IsFact lat block ops rows (For issue number op) = IsFor lat block ops rows issue number op
 IsFact lat block ops rows (LikeNone issue) = IsLikeNone lat block ops rows issue
 IsFact lat block ops rows (See issue) = IsToBeSeen lat block ops rows issue

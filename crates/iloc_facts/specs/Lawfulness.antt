@@ -15,12 +15,12 @@ use Rattle.iloc_facts.specs.Counts.{lacking, IsShort}
 abbrev pub issue_of : List Op → List Row → ℕ → Issue
 issue_of ops rows k = record { cycle = issue_cycle rows k; op = op_at ops k }
 
--- so many operations of the block have no counterpart in the rows, and one that is short there is named
+-- how many operations of the block have no counterpart in the rows; and of one of which the rows have too few, its name
 abbrev pub AreLeftOut : List Op → List Op → Option LeftOut → Type 0
 AreLeftOut block ops None = lacking block ops ≡ 0
 AreLeftOut block ops (Some it) = (it.count ≡ lacking block ops) × Contains block it.op × IsShort it.op block ops
 
--- so many operations of the rows have no counterpart in the block, and one that is short there is named
+-- how many operations of the rows have no counterpart in the block; and of one of which the block has too few, its name
 abbrev pub AreAdded : List Op → List Op → List Row → Option Added → Type 0
 AreAdded block ops rows None = lacking ops block ≡ 0
 AreAdded block ops rows (Some it) = (it.count ≡ lacking ops block)

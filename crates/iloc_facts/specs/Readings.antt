@@ -34,15 +34,15 @@ abbrev pub last_of : (ℕ → ℕ) → Option ℕ → ℕ → Option ℕ
 last_of due None k = Some k
 last_of due (Some j) k = if nat_lt (due k) (due j) then Some j else Some k
 
--- those that define register r
+-- of the operations `ks` the ones that define register `r`
 abbrev pub defining : List Op → Reg → List ℕ → List ℕ
 defining ops r ks = filter (λ k. is_register r (defined (op_at ops k))) ks
 
--- those whose results have arrived by cycle c
+-- of the operations `ks` the ones whose results have arrived by cycle `c`
 abbrev pub arrived : (ℕ → ℕ) → ℕ → List ℕ → List ℕ
 arrived due c ks = filter (λ k. nat_le (due k) c) ks
 
--- the operation whose result register r holds at cycle c: of those that define r and have arrived the last; None where
+-- the operation whose result register `r` holds at cycle `c`: the last to arrive by then that defines `r`; None where
 -- there is none, and the register is as it was at the start
 abbrev pub read : Latencies → List Op → List Row → ℕ → Reg → Option ℕ
 read lat ops rows c r =

@@ -18,7 +18,7 @@ impl ByLabel {
     ghost use Rattle.iloc_facts.specs.ByLabel.{number_like, NumbersLabels, SetsLike};
 
     /// None has a number.
-    pub(crate) fn none(alloc: Global) -> ByLabel
+    pub fn none(alloc: Global) -> ByLabel
         ensures { (op : Operation) → number_like result op ≡ None }
     {
         ByLabel {
@@ -44,8 +44,8 @@ impl ByLabel {
         self.numbers.get(&label_key(op)).copied()
     }
 
-    /// Has those like an operation have another number, or none.
-    pub(crate) fn set(&mut self, op: &Op, number: Option<usize>) -> Result<(), NoMemory>
+    /// Sets the number of the operations like `op`, or that they have none.
+    pub fn set(&mut self, op: &Op, number: Option<usize>) -> Result<(), NoMemory>
         ensures { OnOk result (SetsLike self.old self.new op.now number) }
     {
         let key = label_key(op);

@@ -31,8 +31,8 @@ pub enum Fact {
     NeverRead {
         issue: Issue,
     },
-    /// An operation is issued before another one, or after it, that memory or outputs keep in order with it, and the block
-    /// has such operations in the other order; or in its row, though it has to come behind it.
+    /// An operation is issued before another one, or after it, or in its row, that memory or outputs keep in order with it, and
+    /// the block has two that differ from them in registers alone in the other order.
     Order {
         issue: Issue,
         other: Issue,
@@ -65,8 +65,8 @@ pub struct Reasons {
     pub left_out: Option<LeftOut>,
     /// The operations of the rows that have none.
     pub added: Option<Added>,
-    /// Facts of the rows, by row, at most `MOST_FACTS`.
+    /// Facts of the rows, by row, at most `MOST_FACTS`, each once.
     pub facts: Vec<Fact>,
-    /// How many more were found.
+    /// How many more were found. What is counted isn't promised.
     pub more: usize,
 }

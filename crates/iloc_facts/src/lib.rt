@@ -10,7 +10,7 @@ mod reading;
 mod sides;
 
 pub use by_label::ByLabel;
-pub use counterparts::lacking::{Lacking, without_counterpart};
+pub use counterparts::lacking::{Lacking, has_operations, without_counterpart};
 pub use fact::{Fact, MOST_FACTS, Reasons};
 pub use label::{have_one_label, opcode_and_constant};
 pub use lawfulness::{Added, Issue, LeftOut};

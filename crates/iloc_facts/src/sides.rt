@@ -1,5 +1,5 @@
 //! A block and rows for it, with what their operations read.
-ghost use Rattle.std.specs.Prelude.{◌≡◌, ◌<◌, ◌≤◌, ℕ, length, IfOk, IfSome};
+ghost use Rattle.std.specs.Prelude.{◌≡◌, ◌<◌, ◌≤◌, ℕ, length, IfOk, IfNone, IfSome};
 ghost use Rattle.iloc_ops.specs.Registers.{used};
 ghost use Rattle.iloc_meaning.specs.Trace.{op_at};
 ghost use Rattle.iloc_timed.specs.Limits.{MAX_ROWS};
@@ -65,9 +65,10 @@ impl Sides<'_> {
         })
     }
 
-    /// Operation k of the rows, with its cycle.
+    /// Operation `k` of the rows, with its cycle, if there is one.
     pub fn issue(&self, k: usize) -> Option<Issue>
-        ensures { IfSome result (IsIssued self.now.schedule.now.ops self.now.schedule.now.rows k) }
+        ensures is { IfSome result (IsIssued self.now.schedule.now.ops self.now.schedule.now.rows k) }
+        ensures beyond { IfNone result (length self.now.schedule.now.ops ≤ k) }
     {
         let reading = self.readings.get(k)?;
         let op = self.schedule.ops().get(k)?;
@@ -77,7 +78,7 @@ impl Sides<'_> {
         })
     }
 
-    /// Operation k of the rows, which is one of them, with its cycle.
+    /// Operation `k` of the rows, which is one of them, with its cycle.
     pub fn issued(&self, k: usize) -> Issue
         requires { k < length self.now.schedule.now.ops }
         ensures { result ≡ issue_of self.now.schedule.now.ops self.now.schedule.now.rows k }
@@ -88,40 +89,31 @@ impl Sides<'_> {
         }
     }
 
-    /// When operation k of the rows is issued, and what it reads then.
+    /// When operation `k` of the rows is issued, and what it reads then, if there is one.
     pub fn reading(&self, k: usize) -> Option<Reading>
-        ensures { IfSome result (λ reading. reading ≡ reading_of self.now.latencies.now self.now.schedule.now.ops
+        ensures is { IfSome result (λ reading. reading ≡ reading_of self.now.latencies.now self.now.schedule.now.ops
             self.now.schedule.now.rows k) }
+        ensures beyond { IfNone result (length self.now.schedule.now.ops ≤ k) }
     {
         self.readings.get(k).copied()
     }
 
-    /// What operation i of the block reads.
+    /// What operation `i` of the block reads, if there is one.
     pub fn given(&self, i: usize) -> Option<Sources>
-        ensures { IfSome result (λ sources. sources
+        ensures is { IfSome result (λ sources. sources
             ≡ sources_of (given self.now.block.items i) (used (op_at self.now.block.items i))) }
+        ensures beyond { IfNone result (length self.now.block.items ≤ i) }
     {
         self.givens.get(i).copied()
     }
 
-    /// The cycle at which the result of operation k of the rows arrives.
+    /// The cycle at which the result of operation `k` of the rows arrives, if there is one.
     pub fn due(&self, k: usize) -> Option<usize>
-        ensures { IfSome result (λ cycle. cycle ≡ due self.now.latencies.now self.now.schedule.now.ops
+        ensures is { IfSome result (λ cycle. cycle ≡ due self.now.latencies.now self.now.schedule.now.ops
             self.now.schedule.now.rows k) }
+        ensures beyond { IfNone result (length self.now.schedule.now.ops ≤ k) }
     {
         let issue = self.issue(k)?;
-        issue
-            .cycle
-            .checked_add(latency(&issue.op, self.latencies) as usize)
-    }
-
-    /// The cycles in which operation k of the rows is issued, and its result arrives.
-    pub fn cycles(&self, k: usize) -> Option<(usize, usize)> {
-        let cycle = self.readings.get(k)?.cycle;
-        let op = self.schedule.ops().get(k)?;
-        Some((
-            cycle,
-            cycle.saturating_add(latency(op, self.latencies) as usize),
-        ))
+        Some(issue.cycle + latency(&issue.op, self.latencies) as usize)
     }
 }

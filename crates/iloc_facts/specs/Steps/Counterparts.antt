@@ -27,12 +27,12 @@ pub record AreChained (ops : List Op) (k : ℕ) (chains : Chains) : Type 0 where
 abbrev pub IsCounterpart : List Op → List Op → ℕ → Option ℕ → Type 0
 IsCounterpart ops others i o = IsNth others (op_at ops i) (count_like (op_at ops i) (take i ops)) o
 
--- these are the counterparts of all operations
+-- `counterparts` has the counterpart of each operation of `ops` among `others`
 pub record AreCounterparts (ops others : List Op) (counterparts : List (Option ℕ)) : Type 0 where
   pub size : length counterparts ≡ length ops
   pub each : (i : ℕ) → i < length ops → IsCounterpart ops others i (noted_at counterparts i)
 
--- how many of these counterparts there aren't, and one of them
+-- how many operations have none of `counterparts`, and one of them
 abbrev pub IsLackingIn : List (Option ℕ) → Option Lacking → Type 0
 IsLackingIn counterparts None = count_by is_none counterparts ≡ 0
 IsLackingIn counterparts (Some it) = (it.count ≡ count_by is_none counterparts) × (0 < it.count)

@@ -26,7 +26,7 @@ fn noted(numbers: &[Option<usize>], place: usize) -> Option<usize>
 }
 
 impl Chains {
-    /// Puts operation k before those like it.
+    /// Puts operation `k` before the operations like it.
     fn put_first(&mut self, ops: &[Op], k: usize) -> Result<(), NoMemory>
         requires within { k < length ops.now }
         requires later { AreChained ops.now (k + 1) self.old }
@@ -37,7 +37,7 @@ impl Chains {
         Ok(())
     }
 
-    /// Takes out the first of those like an operation.
+    /// Takes out the first operation like `op`.
     fn take(&mut self, op: &Op) -> Result<Option<usize>, NoMemory>
         ensures next { OnOk result (self.new.next ≡ self.old.next) }
         ensures first { IfOk result (λ k. k ≡ number_like self.old.waiting op.now) }

@@ -1,7 +1,7 @@
 //! Operations of a block and of rows that have no counterpart.
-ghost use Rattle.std.specs.Prelude.{◌≡◌, ◌<◌, None, length, IfOk, IfSome, IfNone};
+ghost use Rattle.std.specs.Prelude.{◌≡◌, ◌<◌, ◌==◌, None, length, IfOk, IfSome, IfNone};
 ghost use Rattle.iloc_meaning.specs.Trace.{op_at};
-ghost use Rattle.iloc_facts.specs.Counts.{lacking, IsShort, AreLacking};
+ghost use Rattle.iloc_facts.specs.Counts.{lacking, has_operations, IsShort, AreLacking};
 ghost use Rattle.iloc_facts.specs.Steps.Counterparts.{IsLackingIn};
 
 use super::chains::counterparts_among;
@@ -74,4 +74,20 @@ pub fn without_counterpart(
         }
         None => Ok(None),
     }
+}
+
+/// Whether each operation has a counterpart among the others.
+fn have_counterparts(alloc: Global, ops: &[Op], others: &[Op]) -> Result<bool, NoMemory>
+    ensures { IfOk result (λ yes. yes ≡ (lacking ops.now others.now == 0)) }
+{
+    Ok(without_counterpart(alloc, ops, others, None)?.is_none())
+}
+
+/// Whether `ops` are the operations of `block`, which has no `nop`s, whatever registers they name.
+pub fn has_operations(alloc: Global, block: &[Op], ops: &[Op]) -> Result<bool, NoMemory>
+    ensures { IfOk result (λ yes. yes ≡ has_operations block.now ops.now) }
+{
+    let none_left_out = have_counterparts(alloc, block, ops)?;
+    let none_added = have_counterparts(alloc, ops, block)?;
+    Ok(none_left_out && none_added)
 }
