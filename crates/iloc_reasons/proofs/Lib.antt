@@ -1,2 +1,4 @@
 pub mod Common
 pub mod Claims
+pub mod OnceListed
+pub mod Numbering

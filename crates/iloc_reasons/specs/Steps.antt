@@ -2,3 +2,4 @@
 pub mod Sides
 pub mod Terms
 pub mod Likeness
+pub mod Origins

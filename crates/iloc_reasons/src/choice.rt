@@ -88,7 +88,7 @@ fn walked(
     walk.choice()
 }
 
-/// What is claimed of rows, whose operations and those of the block are these.
+/// What is claimed of the rows of `sides`: `here` is the data flow of the block, `there` the one of the rows.
 pub(crate) fn chosen(
     alloc: Global,
     sides: &Sides,

@@ -188,7 +188,7 @@ fn has_label(block: &[Op], i: usize, op: &Op) -> bool
     }
 }
 
-/// Whether operations of the block, by their numbers, aren't in the order of those that are issued in these cycles.
+/// Whether operations `i` and `o` of the block aren't in the order of two that are issued in `cycle` and `other`.
 fn are_against(i: usize, o: usize, cycle: usize, other: usize) -> bool
     ensures { result ≡ true → AreAgainst i o cycle other }
 {
@@ -198,9 +198,11 @@ fn are_against(i: usize, o: usize, cycle: usize, other: usize) -> bool
     i < o && other < cycle
 }
 
-/// Memory or outputs fix in which order operation k and another one come, and the block has operations that differ from them
-/// in registers alone, by these numbers, in the other order.
-fn ordered(sides: &Sides, k: usize, other: usize, i: usize, o: usize) -> Option<Fact>
+/// Memory or outputs fix the order of operations `k` and `other`, and operations `i` and `o` of the block, which differ from them
+/// in registers alone, come in the other order; `k` isn't alike to `o`, nor `other` to `i`.
+fn ordered(sides: &Sides, terms: &Terms, k: usize, other: usize, i: usize, o: usize) -> Option<Fact>
+    requires terms { TellApart sides.now.latencies.now sides.now.block.items sides.now.schedule.now.ops
+        sides.now.schedule.now.rows terms.now }
     ensures { IfSome result (IsFact sides.now.latencies.now sides.now.block.items sides.now.schedule.now.ops
         sides.now.schedule.now.rows) }
 {
@@ -208,10 +210,13 @@ fn ordered(sides: &Sides, k: usize, other: usize, i: usize, o: usize) -> Option<
     let it = sides.issue(other)?;
     let one = Kind::of(&issue.op);
     let two = Kind::of(&it.op);
-    if (keep_order(one, two) || keep_order(two, one))
+    if other != k
+        && (keep_order(one, two) || keep_order(two, one))
         && has_label(&sides.block, i, &issue.op)
         && has_label(&sides.block, o, &it.op)
         && are_against(i, o, issue.cycle, it.cycle)
+        && at(&terms.block, o) != at(&terms.rows, k)
+        && at(&terms.block, i) != at(&terms.rows, other)
     {
         return Some(Fact::Order { issue, other: it });
     }
@@ -271,7 +276,7 @@ impl Claim {
             What::ReadsBefore { place, late } => brings(sides, k, place, late),
             What::ReadsOver { place, lost } => replaced(sides, k, place, lost),
             What::NeverRead => never_read(sides, read, k),
-            What::Beside { other, i, o } => ordered(sides, k, other, i, o),
+            What::Beside { other, i, o } => ordered(sides, terms, k, other, i, o),
             What::For { op } => stands_for(sides, terms, k, op),
             What::LikeNone => like_none(sides, terms, k),
         }

@@ -5,8 +5,10 @@ mod choice;
 mod claim;
 mod counterpart;
 mod likeness;
+mod origins;
 mod read;
 mod reasons;
 mod terms;
 
+pub use origins::origins_of;
 pub use reasons::reasons_of;

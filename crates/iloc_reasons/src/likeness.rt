@@ -18,7 +18,7 @@ use std::collections::BTreeMap;
 pub(crate) struct Terms {
     pub block: Vec<u64>,
     pub rows: Vec<u64>,
-    /// Those of the block, to look them up.
+    /// The terms of the block, to look them up.
     pub known: BTreeMap<u64, usize>,
 }
 
@@ -46,7 +46,7 @@ pub(crate) fn sources_of(alloc: Global, readings: &[Reading]) -> Result<Vec<Sour
     Ok(sources)
 }
 
-/// The terms of so many operations, to look them up.
+/// The first `count` of `terms`, to look them up.
 fn looked_up(alloc: Global, terms: &[u64], count: usize) -> Result<BTreeMap<u64, usize>, NoMemory>
     ensures { IfOk result (λ found. (i : ℕ) → i < count → get nat_cmp found (slice_index terms.now i) ≢ None) }
 {
@@ -57,8 +57,8 @@ fn looked_up(alloc: Global, terms: &[u64], count: usize) -> Result<BTreeMap<u64,
     Ok(found)
 }
 
-/// The terms of both sides, whose operations are these. Where they couldn't be relied on, which doesn't happen, all operations
-/// have one term.
+/// The terms of both sides, by the data flow of `block` and of `rows`. Where they couldn't be relied on, which doesn't
+/// happen, all operations have one term.
 pub(crate) fn terms_of(
     alloc: Global,
     sides: &Sides,

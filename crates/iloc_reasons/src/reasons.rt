@@ -1,5 +1,5 @@
 //! Why rows aren't issued as their block asks for.
-ghost use Rattle.std.specs.Prelude.{◌≡◌, ◌<◌, ◌≤◌, length, IfOk, All};
+ghost use Rattle.std.specs.Prelude.{◌≡◌, ◌≢◌, ◌<◌, ◌≤◌, length, IfOk, All, AllPairs};
 ghost use Rattle.iloc_rules.specs.Renaming.{without_nops as ops_of};
 ghost use Rattle.iloc_facts.specs.Lawfulness.{AreLeftOut, AreAdded};
 ghost use Rattle.iloc_facts.specs.Facts.{IsFact};
@@ -19,7 +19,7 @@ use iloc_timed::{Latencies, Schedule};
 use std::alloc::Global;
 use std::collections::BTreeMap;
 
-/// The first facts of what is claimed, and how many more there are.
+/// The first facts of what is claimed, each once, and how many more were found.
 fn first_facts(
     alloc: Global,
     sides: &Sides,
@@ -32,13 +32,16 @@ fn first_facts(
     requires noted { AreNoted sides.now.readings.items read.now }
     ensures facts { IfOk result (λ listed. All (IsFact sides.now.latencies.now sides.now.block.items sides.now.schedule.now.ops
         sides.now.schedule.now.rows) listed.0.items) }
+    ensures once { IfOk result (λ listed. AllPairs (λ one other. one ≢ other) listed.0.items) }
     ensures few { IfOk result (λ listed. length listed.0.items ≤ 8) }
     ensures more { IfOk result (λ listed. length listed.0.items < 8 → listed.1 ≡ 0) }
 {
     let mut facts = Vec::new(alloc);
     let mut more: usize = 0;
     for claim in claims {
-        if let Some(fact) = claim.fact(sides, terms, read) {
+        if let Some(fact) = claim.fact(sides, terms, read)
+            && !facts.contains(&fact)
+        {
             if facts.len() < MOST_FACTS {
                 facts.push(fact)?;
             } else {
@@ -59,9 +62,11 @@ fn or_seen(
 ) -> Result<Vec<Fact>, NoMemory>
     requires facts { All (IsFact sides.now.latencies.now sides.now.block.items sides.now.schedule.now.ops
         sides.now.schedule.now.rows) facts.items }
+    requires once { AllPairs (λ one other. one ≢ other) facts.items }
     requires few { length facts.items ≤ 8 }
     ensures facts { IfOk result (λ listed. All (IsFact sides.now.latencies.now sides.now.block.items sides.now.schedule.now.ops
         sides.now.schedule.now.rows) listed.items) }
+    ensures once { IfOk result (λ listed. AllPairs (λ one other. one ≢ other) listed.items) }
     ensures few { IfOk result (λ listed. length listed.items ≤ 8) }
     ensures kept { IfOk result (λ listed. length facts.items ≤ length listed.items) }
 {
@@ -112,6 +117,7 @@ fn found_facts(
     requires noted { AreNoted sides.now.readings.items read.now }
     ensures facts { IfOk result (λ listed. All (IsFact sides.now.latencies.now sides.now.block.items sides.now.schedule.now.ops
         sides.now.schedule.now.rows) listed.0.items) }
+    ensures once { IfOk result (λ listed. AllPairs (λ one other. one ≢ other) listed.0.items) }
     ensures few { IfOk result (λ listed. length listed.0.items ≤ 8) }
     ensures more { IfOk result (λ listed. length listed.0.items < 8 → listed.1 ≡ 0) }
 {
@@ -119,7 +125,7 @@ fn found_facts(
     first_facts(alloc, sides, &terms, read, claims)
 }
 
-/// Why rows aren't issued as their block asks for, whose operations are these.
+/// Why the rows of `sides` aren't issued as their block asks for, by the data flow of `block` and of `rows`.
 fn reasons_among(
     alloc: Global,
     sides: &Sides,
@@ -162,7 +168,7 @@ fn reasons_by(alloc: Global, sides: &Sides) -> Result<Reasons, NoMemory>
 /// of the rows, by row; then which operations stand for others, and last what is less likely to be wrong. Which facts are
 /// listed is a choice that promises nothing; it names the operations at fault.
 ///
-/// Promise: what is said to be left out or added is, and each line is a fact of the rows.
+/// Promise: what is said to be left out or added is, and each line is a fact of the rows, listed once.
 pub fn reasons_of(
     alloc: Global,
     block: &Block,

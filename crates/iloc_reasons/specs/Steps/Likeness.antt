@@ -1,4 +1,4 @@
--- Terms that tell operations of rows from those of a block.
+-- Terms that tell operations of rows from operations of a block.
 use Rattle.std.specs.Prelude.{ℕ, ◌≢◌, ◌<◌, List, length, slice_index, None}
 use Rattle.std.specs.Ordering.{nat_cmp}
 use Rattle.std.specs.BTreeMap.{get}

@@ -21,7 +21,7 @@ AreAllRead Alike (One only) (One other) = AreSources Alike only other
 AreAllRead Alike (Two left right) (Two other another) = AreSources Alike left other × AreSources Alike right another
 AreAllRead Alike _ _ = Unit
 
--- what is read is among these
+-- `source` is among the operations that are `noted`
 abbrev pub IsNoted : BTreeMap ℕ ℕ → Option ℕ → Type 0
 IsNoted noted source = IfSome source (λ j. get nat_cmp noted j ≢ None)
 

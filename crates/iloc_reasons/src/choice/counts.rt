@@ -18,7 +18,7 @@ impl Counts {
         }
     }
 
-    /// These numbers.
+    /// Counts `numbers`.
     pub(crate) fn of(alloc: Global, numbers: &[u64]) -> Result<Counts, NoMemory> {
         let mut counts = Counts::none(alloc);
         for number in numbers {

@@ -16,7 +16,7 @@ pub(crate) struct EffectPlace {
 }
 
 impl EffectPlace {
-    /// That of an operation of a kind behind so many.
+    /// The place of an operation of `kind` after the stores and outputs of `self`.
     fn of(self, kind: Kind) -> EffectPlace {
         match kind {
             Kind::Load | Kind::Store => EffectPlace { outputs: 0, ..self },
@@ -99,7 +99,7 @@ fn issued(alloc: Global, rows: &[Row]) -> Result<Vec<usize>, NoMemory> {
 }
 
 impl<'a> DataFlow<'a> {
-    /// The operations of a block, issued one by one, of which each reads these.
+    /// The data flow of the block `ops`, issued one by one; operation k reads `sources[k]`.
     pub(crate) fn of_block(
         alloc: Global,
         ops: &'a [Op],
@@ -115,7 +115,7 @@ impl<'a> DataFlow<'a> {
         DataFlow::of(alloc, ops, &rows, sources)
     }
 
-    /// The operations of rows, of which each reads these.
+    /// The data flow of `rows`, whose operations are `ops`; operation k reads `sources[k]`.
     pub(crate) fn of(
         alloc: Global,
         ops: &'a [Op],
@@ -150,7 +150,7 @@ impl<'a> DataFlow<'a> {
         self.places.get(k).copied().unwrap_or_default()
     }
 
-    /// By operation its number and those of what it reads.
+    /// By operation a number for its own of `numbers` and for all that it depends on.
     pub(crate) fn forwards(&self, alloc: Global, numbers: &[u64]) -> Result<Vec<u64>, NoMemory> {
         let mut out = vec![in alloc; 0; self.ops.len()]?;
         for k in &self.issued {
@@ -160,7 +160,7 @@ impl<'a> DataFlow<'a> {
         Ok(out)
     }
 
-    /// By operation its number and those of who reads it, and at which use.
+    /// By operation a number for its own of `numbers`, for who reads it, and at which use.
     pub(crate) fn backwards(&self, alloc: Global, numbers: &[u64]) -> Result<Vec<u64>, NoMemory> {
         let mut out = vec![in alloc; 0; self.ops.len()]?;
         let mut heard = vec![in alloc; 0; self.ops.len()]?;
@@ -173,7 +173,7 @@ impl<'a> DataFlow<'a> {
     }
 }
 
-/// Tells those that are read who reads them.
+/// Adds to `heard` of each of `sources` that the operation with `number` reads it.
 fn tell(heard: &mut Vec<u64>, sources: Sources, number: u64) {
     for place in 0..2 {
         if let Some(s) = source_at(sources, place) {

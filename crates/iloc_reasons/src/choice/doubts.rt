@@ -69,7 +69,7 @@ fn replaced(alloc: Global, known: &Known) -> Result<Vec<usize>, NoMemory> {
     let mut arrivals = Vec::with_capacity(alloc, ops.len())?;
     for (k, op) in ops.iter().enumerate() {
         if let Some(register) = defines(op)
-            && let Some((_, due)) = known.sides.cycles(k)
+            && let Some(due) = known.sides.due(k)
         {
             arrivals.push((register.0, due, k))?;
         }
@@ -97,7 +97,7 @@ impl Lives {
         })
     }
 
-    /// Those of rows.
+    /// The lives of the results that the rows of `known` read rightly.
     fn of(alloc: Global, known: &Known) -> Result<Lives, NoMemory> {
         let mut lives = Lives::none(alloc, known)?;
         for k in &known.rows.flow.issued {
@@ -110,7 +110,8 @@ impl Lives {
         Ok(lives)
     }
 
-    /// Operation k reads at a place what it is meant to; those that were noted are issued no later.
+    /// Notes that operation `k` reads at `place` what it is meant to; operations that were noted before are issued no
+    /// later.
     fn note(&mut self, known: &Known, k: usize, place: usize) -> Result<(), NoMemory> {
         if let Some(register) = register_at(known, k, place)
             && let Some(cycle) = known.issued(k)
@@ -148,7 +149,7 @@ impl Lives {
 /// Whether what operation k reads at a place arrives behind a cycle.
 fn is_later(known: &Known, k: usize, place: usize, due: usize) -> bool {
     if let Some(j) = source_at(known.rows.flow.sources(k), place)
-        && let Some((_, arrival)) = known.sides.cycles(j)
+        && let Some(arrival) = known.sides.due(j)
     {
         return due < arrival;
     }
@@ -188,7 +189,7 @@ impl Resolved {
         u: usize,
     ) -> Result<(), NoMemory> {
         let (reader, place) = (doubt.claim, doubt.place);
-        let due = known.sides.cycles(u).map_or(0, |cycles| cycles.1);
+        let due = known.sides.due(u).unwrap_or(0);
         let what = What::NeverRead;
         let unread = Claim { k: u, what };
         if lives.is_read(known, reader.k, place, due) || is_later(known, reader.k, place, due) {

@@ -87,7 +87,7 @@ impl Looking<'_> {
         Ok(guesses)
     }
 
-    /// Those of these that are under way when operation k is issued.
+    /// Pushes the operations of `last` that are under way when operation `k` is issued.
     fn push_later(
         &self,
         guesses: &mut Vec<Guess>,
@@ -95,17 +95,18 @@ impl Looking<'_> {
         k: usize,
         place: usize,
     ) -> Result<(), NoMemory> {
-        let Some((cycle, _)) = self.sides.cycles(k) else {
+        let Some(here) = self.sides.issue(k) else {
             return Ok(());
         };
         let mut count: usize = 0;
         for u in last {
-            if let Some((issued, due)) = self.sides.cycles(*u)
+            if let Some(there) = self.sides.issue(*u)
+                && let Some(due) = self.sides.due(*u)
                 && *u != k
-                && cycle < due
+                && here.cycle < due
                 && count < MOST
             {
-                let cost = if issued < cycle { 1 } else { 2 };
+                let cost = if there.cycle < here.cycle { 1 } else { 2 };
                 guesses.push(self.guess(*u, cost, What::ReadsBefore { place, late: *u }))?;
                 count = count.saturating_add(1);
             }
@@ -113,7 +114,8 @@ impl Looking<'_> {
         Ok(())
     }
 
-    /// Those of these that have arrived when operation k is issued, but for what it reads, the last to arrive first.
+    /// Pushes the operations of `last` that have arrived when operation `k` is issued, but for `read`, which it reads;
+    /// the last to arrive first.
     fn push_older(
         &self,
         alloc: Global,
@@ -123,13 +125,13 @@ impl Looking<'_> {
         place: usize,
         read: Option<usize>,
     ) -> Result<(), NoMemory> {
-        let Some((cycle, _)) = self.sides.cycles(k) else {
+        let Some(here) = self.sides.issue(k) else {
             return Ok(());
         };
         let mut older: Vec<(usize, usize)> = Vec::new(alloc);
         for u in last {
-            if let Some((_, due)) = self.sides.cycles(*u)
-                && due <= cycle
+            if let Some(due) = self.sides.due(*u)
+                && due <= here.cycle
                 && Some(*u) != read
             {
                 older.push((due, *u))?;
@@ -154,7 +156,7 @@ pub(crate) struct Guesses {
     right: Vec<Guess>,
 }
 
-/// What is said where one of these was meant.
+/// What is said of the first of `guesses` that has the value `wanted` and says anything.
 fn what_of(guesses: &[Guess], wanted: u64) -> Option<What> {
     for guess in guesses {
         if guess.what.is_some() && guess.value == wanted {
@@ -233,7 +235,7 @@ impl Looking<'_> {
     }
 }
 
-/// Each of these with each of those.
+/// Pushes each guess of `left` with each of `right`.
 fn push_pairs(picks: &mut Vec<Pick>, left: &[Guess], right: &[Guess]) -> Result<(), NoMemory> {
     for one in left {
         for other in right {

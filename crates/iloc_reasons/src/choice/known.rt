@@ -25,7 +25,7 @@ impl Known<'_> {
 
     /// The cycle in which operation k is issued.
     pub(crate) fn issued(&self, k: usize) -> Option<usize> {
-        Some(self.sides.cycles(k)?.0)
+        Some(self.sides.issue(k)?.cycle)
     }
 
     /// What is claimed if operation k and another one aren't in the block's order.

@@ -18,7 +18,7 @@ pub(crate) struct Lines {
 }
 
 impl Lines {
-    /// Lines for so many operations.
+    /// Empty lines, for `count` operations.
     pub(crate) fn new(alloc: Global, count: usize) -> Result<Lines, NoMemory> {
         Ok(Lines {
             first: BTreeMap::new(alloc),
@@ -38,7 +38,7 @@ impl Lines {
         Ok(())
     }
 
-    /// The first ones, of which so many are looked at.
+    /// The first operations in the line of `key`, at most `LOOKS`.
     pub(crate) fn first_few(&self, alloc: Global, key: u64) -> Result<Vec<usize>, NoMemory> {
         let mut found = Vec::new(alloc);
         let mut here = self.first.get(&key).copied();
@@ -52,7 +52,7 @@ impl Lines {
         Ok(found)
     }
 
-    /// The first one that is free; those before it leave the line.
+    /// The first operation in the line of `key` that is `free`; the ones before it leave the line.
     pub(crate) fn first_free(
         &mut self,
         key: u64,

@@ -33,7 +33,7 @@ pub(crate) struct Missing {
     by_label: Lines,
 }
 
-/// Which of so many operations of a block are counterparts.
+/// Of `count` operations of a block, which are among `counterparts`.
 fn taken(
     alloc: Global,
     count: usize,
@@ -49,7 +49,7 @@ fn taken(
 }
 
 impl Missing {
-    /// None of so many.
+    /// Nothing is missing, of `count` operations.
     fn none(alloc: Global, count: usize, short: Vec<bool>) -> Result<Missing, NoMemory> {
         Ok(Missing {
             free: vec![in alloc; false; count]?,
@@ -61,7 +61,7 @@ impl Missing {
         })
     }
 
-    /// Those of the block that are none of the counterparts of operations of rows.
+    /// The operations of `block` that aren't among `counterparts`, the ones that the rows' operations have.
     pub(crate) fn of(
         alloc: Global,
         block: &Side,
@@ -89,7 +89,7 @@ impl Missing {
         self.by_label.put_first(at(&block.flow.labels, i), i)
     }
 
-    /// The first of a term; one with these readers first.
+    /// The first missing operation with this `term`; before others, one with these `readers`.
     pub(crate) fn of_term(&mut self, term: u64, readers: u64) -> Result<Option<usize>, NoMemory> {
         let key = mix(term, readers);
         match self.by_term_and_readers.first_free(key, &self.free)? {
@@ -98,7 +98,7 @@ impl Missing {
         }
     }
 
-    /// The first of a label that reads these, whatever its place is.
+    /// The first missing operation whose label and terms that it reads make the number `reads`, at any place.
     pub(crate) fn of_reads(&mut self, reads: u64) -> Result<Option<usize>, NoMemory> {
         self.by_reads.first_free(reads, &self.free)
     }
@@ -123,7 +123,8 @@ impl Missing {
         source.is_some_and(|s| has(&self.free, s) && has(&self.short, s))
     }
 
-    /// Whether all is gone that it reads otherwise than these, and something is.
+    /// Whether an operation with `sources` and `theirs` as their values reads otherwise than `these`, and all that it
+    /// reads otherwise is gone.
     fn are_gone(&self, sources: Sources, theirs: Values, these: Values) -> bool {
         match (sources, theirs, these) {
             (Sources::One(only), Values::One(one), Values::One(other)) => {
@@ -153,7 +154,7 @@ impl Missing {
             .saturating_add(readers)
     }
 
-    /// Those of a label, of which so many are looked at.
+    /// The missing operations of `label`, of which at most `LOOKS` are visited.
     pub(crate) fn of_label(&mut self, alloc: Global, label: u64) -> Result<Vec<usize>, NoMemory> {
         self.by_label.first_free(label, &self.free)?;
         let mut found = Vec::new(alloc);
@@ -165,7 +166,8 @@ impl Missing {
         Ok(found)
     }
 
-    /// The nearest of these, if it differs in one thing that it reads at most, or is the only one.
+    /// The nearest of `these` to what is `wanted`, if it differs in at most one thing that it reads, or is the only
+    /// one.
     pub(crate) fn nearest(&self, block: &Side, these: &[usize], wanted: &Wanted) -> Option<usize> {
         let mut found: Option<(u32, usize)> = None;
         for i in these {

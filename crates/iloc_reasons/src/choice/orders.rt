@@ -12,9 +12,9 @@ use std::alloc::Global;
 #[derive(Drop)]
 struct Line {
     issued: Vec<usize>,
-    // Of each and those before it the greatest number in the block, counted from 1; 0 for none.
+    // By place the greatest number in the block up to there, counted from 1; 0 for none.
     greatest: Vec<usize>,
-    // Of each and those behind it the least number in the block.
+    // By place the least number in the block from there on.
     least: Vec<usize>,
 }
 
@@ -29,7 +29,7 @@ fn of_kind(alloc: Global, flow: &DataFlow, kind: Kind) -> Result<Vec<usize>, NoM
     Ok(found)
 }
 
-/// Of each number and those before it the greatest, counted from 1.
+/// By place the greatest of `numbers` up to there, counted from 1; 0 for none.
 fn greatest(alloc: Global, numbers: &[Option<usize>]) -> Result<Vec<usize>, NoMemory> {
     let mut found = Vec::with_capacity(alloc, numbers.len())?;
     let mut most: usize = 0;
@@ -46,7 +46,7 @@ fn greatest(alloc: Global, numbers: &[Option<usize>]) -> Result<Vec<usize>, NoMe
     Ok(found)
 }
 
-/// Of each number and those behind it the least.
+/// By place the least of `numbers` from there on.
 fn least(alloc: Global, numbers: &[Option<usize>]) -> Result<Vec<usize>, NoMemory> {
     let mut found = vec![in alloc; usize::MAX; numbers.len()]?;
     let mut fewest = usize::MAX;
@@ -76,7 +76,7 @@ fn first_above(numbers: &[usize], most: usize) -> usize {
 }
 
 impl Line {
-    /// Those of a kind.
+    /// The operations of `kind` in the rows.
     fn of(alloc: Global, known: &Known, kind: Kind) -> Result<Line, NoMemory> {
         let issued = of_kind(alloc, known.rows.flow, kind)?;
         let mut numbers = Vec::with_capacity(alloc, issued.len())?;

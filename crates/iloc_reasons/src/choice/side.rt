@@ -30,7 +30,7 @@ fn numbers_of(alloc: Global, places: &[EffectPlace]) -> Result<Vec<u64>, NoMemor
     Ok(numbers)
 }
 
-/// A number for each of these with each of those.
+/// Place by place a number for the one of `these` and the one of `those`.
 fn all_mixed(alloc: Global, these: &[u64], those: &[u64]) -> Result<Vec<u64>, NoMemory> {
     let mut mixed = Vec::with_capacity(alloc, these.len())?;
     for (one, other) in these.iter().zip(those.iter()) {
@@ -62,7 +62,7 @@ impl<'a> Side<'a> {
         })
     }
 
-    /// The term of operation k, with a place and where it reads these.
+    /// The term that operation `k` has at `place` where it reads `values`.
     pub(crate) fn term(&self, k: usize, place: u64, values: Values) -> u64 {
         values.behind(mix(at(&self.flow.labels, k), place))
     }
@@ -79,7 +79,7 @@ pub(crate) fn effects(flow: &DataFlow) -> u64 {
     sum
 }
 
-/// Operations in lines by these keys.
+/// Lines of operations: operation k is in the line of `keys[k]`.
 fn lined_up(alloc: Global, keys: &[u64]) -> Result<Lines, NoMemory> {
     let mut lines = Lines::new(alloc, keys.len())?;
     for (i, key) in keys.iter().enumerate().rev() {

@@ -207,8 +207,8 @@ impl Walk<'_> {
 
     /// Whether a store is under way when operation k is issued.
     fn is_under_way(&self, store: usize, k: usize) -> bool {
-        match (self.sides.cycles(store), self.sides.cycles(k)) {
-            (Some((_, due)), Some((cycle, _))) => cycle < due,
+        match (self.sides.due(store), self.sides.issue(k)) {
+            (Some(due), Some(issue)) => issue.cycle < due,
             _ => false,
         }
     }
@@ -241,7 +241,7 @@ impl Walk<'_> {
         self.explain(k, values, own)
     }
 
-    /// The same of one that reads otherwise than any that is missing, of which it has this term.
+    /// Finds what operation `k` is meant to be, whose term `own` no missing operation has, and says why.
     fn explain(&mut self, k: usize, values: Values, own: u64) -> Result<(), NoMemory> {
         if let Some(change) = self.cheapest(k)? {
             self.said.change(k, &change)?;
@@ -278,8 +278,8 @@ impl Walk<'_> {
         }
     }
 
-    /// The missing operation that operation k is if its operands are exchanged, or else the nearest one of its label, or one of
-    /// which the causes are known why k reads otherwise; with these causes.
+    /// The missing operation that operation `k` is if its operands are exchanged; else the nearest one of its label;
+    /// else one for which the causes are known why `k` reads otherwise. With the causes.
     fn counterpart(
         &mut self,
         k: usize,
@@ -298,7 +298,7 @@ impl Walk<'_> {
         Ok(self.by_causes(k, values, &these, &guesses))
     }
 
-    /// The first few of these of which the causes are known, in the place of operation k.
+    /// The first of the first `FEW` of `these` that has the place of operation `k` and known causes.
     fn by_causes(
         &self,
         k: usize,
@@ -385,7 +385,7 @@ impl Walk<'_> {
         Ok(best)
     }
 
-    /// The cheaper one of a change and of those by which operation k reads these.
+    /// `best`, or the change by which operation `k` reads the values of `pick`, if that is cheaper.
     fn cheaper(
         &mut self,
         k: usize,
@@ -450,7 +450,7 @@ impl Walk<'_> {
     fn by_row(&self, all: &[Claim]) -> Result<Vec<Claim>, NoMemory> {
         let mut order = Vec::with_capacity(self.alloc, all.len())?;
         for (place, claim) in all.iter().enumerate() {
-            let cycle = self.sides.cycles(claim.k).map_or(0, |cycles| cycles.0);
+            let cycle = self.sides.issue(claim.k).map_or(0, |issue| issue.cycle);
             let is_for = matches!(claim.what, What::For { .. });
             order.push((is_for, cycle, claim.k, place))?;
         }
@@ -474,7 +474,7 @@ impl Walk<'_> {
         }
     }
 
-    /// Those that name another fault than that an operation stands for one that is spelled alike, or all, if none does.
+    /// The `claims` that say more than that an operation stands for one that is spelled alike; all, if there is none.
     fn telling(&self, claims: Vec<Claim>) -> Result<Vec<Claim>, NoMemory> {
         let mut telling = Vec::new(self.alloc);
         for claim in &claims {
@@ -485,7 +485,7 @@ impl Walk<'_> {
         Ok(if telling.is_empty() { claims } else { telling })
     }
 
-    /// What is claimed; of those that are missing the first that is short is named.
+    /// What is claimed. Of the operations that are left out, the first of which the rows have too few is named.
     pub(crate) fn choice(&self) -> Result<RowClaims, NoMemory> {
         Ok(RowClaims {
             claims: self.all_claims()?,

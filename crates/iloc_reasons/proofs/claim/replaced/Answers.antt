@@ -7,5 +7,5 @@ returns c =
     let source : source_at c.in_ok-reading.reading.sources c.args.place ≡ Some c.in_ok-j.j = sym c.source_at.ensures ∙ c.in_ok-j.was in
     replaced_fact c.args.sides.now.latencies.now c.args.sides.now.block.items c.args.sides.now.schedule.now.ops
     c.args.sides.now.schedule.now.rows c.args.k c.in_ok-j.j c.in_ok-issue.issue c.in_ok-from.from c.in_ok-register.register
-    c.args.place c.in_ok-reading.reading c.in_ok-lost.lost c.in_ok-issue.ensures c.in_ok-from.ensures c.in_ok-register.ensures
-    c.in_ok-reading.ensures source c.in_ok-lost.ensures
+    c.args.place c.in_ok-reading.reading c.in_ok-lost.lost c.in_ok-issue.ensures.is c.in_ok-from.ensures.is c.in_ok-register.ensures
+    c.in_ok-reading.ensures.is source c.in_ok-lost.ensures
