@@ -44,14 +44,12 @@ def reason_of(reason):
         "under_way": "{op} while {other} is under way to row {due}",
         "brings": "{op} reads r{register}, which {other} brings in row {due}",
         "replaced": "{op} reads r{register} of {other}, no longer of {lost}",
-        "never_read": "{op}, whose result is never read", "order": "{op} {order} {other}",
+        "never_read": "{op}, whose result is never read", "order": "{op} {side} {other}",
         "for": "{op} for operation {number}: {wanted}", "like_none": "{op} like none of the block", "see": "see {op}"}
     named = {name: f"row {reason[row]}: {reason[op]}" for name, row, op in (
         ("op", "row", "operation"), ("other", "other_row", "other_operation"), ("lost", "lost_row", "lost_operation"))
              if reason.get(op)}
-    rows = reason.get("row", 0), reason.get("other_row", 0)
-    order = "before" if rows[0] < rows[1] else "after" if rows[0] > rows[1] else "not after"
-    return forms[reason["kind"]].format(**{"lost": "the start", "order": order, **reason, **named})
+    return forms[reason["kind"]].format(**{"lost": "the start", **reason, **named})
 
 
 def are_the_same(texts, *words):
@@ -88,7 +86,8 @@ def undecided_cases():
         yield Run(f"judged/json/{verdict}", ["check", "--json", *words], undecided(), (
             f'{{"block":1,"name":"B1","verdict":"{verdict}","passes":false,"rows":1600,"cycles":1600,"ours":800,'
             '"least":800,"claimed":null,"void":{"kind":"shows_nothing"},"difference":null,"memory":null,'
-            '"left_out":null,"added":null,"reasons":[{"kind":"undecided"}],"more":0}\n').encode(), b"", NOT_SAME)
+            '"left_out":null,"added":null,"reasons":[{"kind":"undecided"}],"more":0,'
+            f'"operations":[{",".join(["[null,null]"] * 1600)}]}}\n').encode(), b"", NOT_SAME)
 
 
 def json_cases():

@@ -10,7 +10,7 @@ use Rattle.iloc_timed.specs.Limits.{MAX_ROWS}
 use Rattle.iloc_timed.specs.Timed.{issued_before, timed_outcome}
 use Rattle.iloc_comparison.specs.declared.difference.Difference.{Difference}
 use Rattle.iloc_comparison.specs.Difference.{IsDifference}
-use Rattle.iloc_verdict.specs.Counted.{IsCounted, CanBeCompared, CanBeListed}
+use Rattle.iloc_verdict.specs.Counted.{CanBeNumbered, CanBeCompared, CanBeListed}
 
 -- at most n words are emitted
 abbrev EmitsAtMost : ℕ → Outcome → Type 0
@@ -56,12 +56,12 @@ apart_within : (xs ys : List ℤ) (i : ℕ) (x y : Option ℤ) → slice_get xs 
 apart_within xs ys i x y first second apart = grind (arith, cases_lt, slice_get_past)
 
 few_counted : (outputs : Bool) (n m : ℕ) (got wanted : Outcome) (difference : Difference) → n + m + 1 < 2 ^ 64 → EmitsAtMost n got
-    → EmitsAtMost m wanted → IsDifference outputs got wanted difference → IsCounted difference
+    → EmitsAtMost m wanted → IsDifference outputs got wanted difference → CanBeNumbered difference
 few_counted outputs n m got wanted difference small few fewer is = grind (arith, apart_within)
 
 difference_counted : (outputs : Bool) (lat : Latencies) (block ops : List Op) (rows : List Row) (memory : List ℤ) (difference : Difference)
     → length block ≤ MAX_OPS → length rows ≤ MAX_ROWS
-    → IsDifference outputs (timed_outcome lat ops rows memory) (outcome block memory) difference → IsCounted difference
+    → IsDifference outputs (timed_outcome lat ops rows memory) (outcome block memory) difference → CanBeNumbered difference
 difference_counted outputs lat block ops rows memory difference short few is =
     few_counted outputs (2 * length rows) (length block) (timed_outcome lat ops rows memory) (outcome block memory) difference
     (omega arith) (rows_emit lat ops rows memory) (block_emits block memory) is

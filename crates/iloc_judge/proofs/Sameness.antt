@@ -1,6 +1,7 @@
 -- Rows that are found to be the same do what the block does, and rows pass only if they may.
-use Rattle.iloc_judge.proofs.Common.{◌≡◌, ℕ, zero, suc, ◌+◌, ◌<◌, ◌≤◌, Bool, true, false, ◌&&◌, ◌⊎◌, List, length, get_or, take, ℤ, ◌==◌, count_by, sym, ap, ◌∙◌, subst, inl, inr, true≢false, arith, eqb-true, le-leb, take-length, and_from, and_parts, cases_lt, get_or-range_with_len, length-range_with_len, range_with_len, Op, by_bool, shown, op_at, Outcome, IsTable, Table, Latencies, Row, without_nops, count_same, counted, no_more, one_more, are_alike, count_like, lacking, lacks_counterpart, IsByTheBook, AgreesOnAll, IsComparison, Comparison, compared_kind, is_passing, kind_of, passes, AreItsOperations, keeps_operations, Checked, Verdict, IsVerdict}
+use Rattle.iloc_judge.proofs.Common.{◌≡◌, ℕ, ◌+◌, ◌<◌, ◌≤◌, Bool, true, false, ◌&&◌, ◌⊎◌, List, ℤ, ◌==◌, sym, ap, ◌∙◌, inl, inr, true≢false, arith, and_from, and_parts, Op, shown, Outcome, IsTable, Table, Latencies, Row, without_nops, IsByTheBook, AgreesOnAll, IsComparison, Comparison, compared_kind, is_passing, kind_of, passes, AreItsOperations, keeps_operations, Checked, Verdict, IsVerdict}
 use Rattle.iloc_rows.specs.declared.proposal.Proposed.{Proposed}
+use Rattle.iloc_facts.proofs.SameCounts.{as_many}
 use Rattle.iloc_validation.proofs.Outcomes.{keeps_the_outcome}
 use Rattle.iloc_terms.specs.Agreement.{AreAlike}
 use Rattle.iloc_verdict.specs.declared.verdict.kind.VerdictKind.{VerdictKind}
@@ -9,49 +10,10 @@ use Rattle.iloc_judge.specs.Checked.{DoEnough, DoTheSame, IsCheck}
 use Rattle.iloc_comparison.specs.declared.task.CheckOptions.{CheckOptions}
 use Rattle.iloc_judge.specs.Laws.{PassedRowsMayPass, SameRowsDoTheSame}
 
--- Operations of which none lacks a counterpart on either side are as many of each label.
-module _ (ops others : List Op) (none : lacking ops others ≡ 0) (op : Op) where
-  has_one : (i : ℕ) → i < length ops → lacks_counterpart ops others i ≡ true → ⊥
-  has_one i within lacks =
-      let numbers : List ℕ = range_with_len 0 (length ops) in
-      let at : get_or numbers i 0 ≡ i = omega (arith, get_or-range_with_len 0 (length ops) i 0 within) in
-      let one = counted (lacks_counterpart ops others) numbers i 0 (omega (arith, length-range_with_len 0 (length ops)))
-      (ap (lacks_counterpart ops others) at ∙ lacks) in
-      let all : count_by (lacks_counterpart ops others) numbers ≡ 0 = none in
-      omega (arith, one, all)
-
-  -- as many of the first operations as come before an operation that has a counterpart have one
-  few_before : (i : ℕ) → i < length ops → are_alike op (op_at ops i) ≡ true → count_like op (take i ops) < count_like op others
-  few_before i within alike =
-      let here = count_same op (op_at ops i) (take i ops) alike in
-      let there = count_same op (op_at ops i) others alike in
-      elim (cases_lt (count_like op (take i ops)) (count_like op others)) [
-        | inl few ↦ few
-        | inr many ↦ absurd (has_one i within
-            (le-leb (count_like (op_at ops i) others) (count_like (op_at ops i) (take i ops)) (omega (arith, here, there, many))))
-      ]
-
-  few_of_first : (n : ℕ) → n ≤ length ops → count_like op (take n ops) ≤ count_like op others
-  few_of_first zero within = omega arith
-  few_of_first (suc n) within =
-      let next : suc n ≡ n + 1 = omega arith in
-      let same : count_like op (take (suc n) ops) ≡ count_like op (take (n + 1) ops) = ap (λ m. count_like op (take m ops)) next in
-      by_bool (are_alike op (op_at ops n))
-      (λ t. omega (arith, same, one_more op ops n (omega arith) t, few_before n (omega arith) t))
-      (λ f. omega (arith, same, no_more op ops n (omega arith) f, few_of_first n (omega arith)))
-
-  few : count_like op ops ≤ count_like op others
-  few = subst (λ (os : List Op). count_like op os ≤ count_like op others) (take-length ops) (few_of_first (length ops) (omega arith))
-
-pub kept : (asked : Bool) (block ops : List Op) → keeps_operations asked block ops ≡ true → asked ≡ true
-    → AreItsOperations block ops
-kept true block ops keeps is op =
-    let left : ℕ = lacking (without_nops block) ops in
-    let added : ℕ = lacking ops (without_nops block) in
-    let none : left ≡ 0 = eqb-true left 0 (and_parts (left == 0) (added == 0) keeps).0 in
-    let none_too : added ≡ 0 = eqb-true added 0 (and_parts (left == 0) (added == 0) keeps).1 in
-    omega (arith, few (without_nops block) ops none op, few ops (without_nops block) none_too op)
-kept false block ops keeps is op = absurd (true≢false (sym is))
+kept : (asked : Bool) (block ops : List Op) → keeps_operations asked block ops ≡ true → asked ≡ true
+    → AreItsOperations (without_nops block) ops
+kept true block ops keeps is = as_many (without_nops block) ops keeps
+kept false block ops keeps is = absurd (true≢false (sym is))
 
 -- equal outcomes are alike, whatever is compared
 alike_of_equal : (outputs : Bool) {got wanted : Outcome} → got ≡ wanted → AreAlike outputs got wanted
@@ -115,7 +77,8 @@ module _ (options : CheckOptions) (lat : Latencies) (memory : List ℤ) (block :
       → PassesAs asked options.outputs_alone lat memory block proposal.ops proposal.rows
   passed_as asked pass = grind (arith, and_parts, passes_as, passing)
 
-  passed_kept : (asked : Bool) → passes asked checked ≡ true → options.operations ≡ true → AreItsOperations block proposal.ops
+  passed_kept : (asked : Bool) → passes asked checked ≡ true → options.operations ≡ true
+      → AreItsOperations (without_nops block) proposal.ops
   passed_kept asked pass is =
       kept options.operations block proposal.ops (and_parts keeps (is_passing asked word) (passing asked pass)).0 is
 

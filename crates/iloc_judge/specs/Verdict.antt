@@ -7,17 +7,17 @@ use Rattle.iloc_timed.specs.Rows.{IsTable}
 use Rattle.iloc_timed.specs.Schedule.{IsFirstBadRow}
 use Rattle.iloc_rules.specs.Renaming.{without_nops}
 use Rattle.iloc_validation.specs.ByTheBook.{IsByTheBook}
+use Rattle.iloc_facts.specs.Counts.{AreItsOperations}
 use Rattle.iloc_facts.specs.Reasons.{AreReasons}
 use Rattle.iloc_verdict.specs.declared.verdict.Verdict.{Verdict}
 use Rattle.iloc_verdict.specs.declared.verdict.Verdict.TheVariants.{Units, Lawful, Unlawful, Undecided}
 use Rattle.iloc_verdict.specs.Changes.{AreChanges}
-use Rattle.iloc_verdict.specs.Kept.{AreItsOperations}
 use Rattle.iloc_comparison.specs.Comparison.{IsComparison}
 
--- The verdict is right, of operations and rows for a block, with this memory handed in: the row is the first that breaks the
--- rules of the units, and these operations are left out or added; the rows are by the book; or they aren't, these facts hold of
--- them, and so they compare, by outcomes or by outputs alone; or neither is decided, nothing is left out or added, and so they
--- compare.
+-- The verdict is right, of operations and rows for a block, with `memory` handed in. Either the row is the first that
+-- breaks the rules of the units, and the operations named are left out or added; or the rows are by the book; or they
+-- aren't, the facts listed hold of them, and the comparison listed holds, by outcomes or by outputs alone; or neither
+-- is decided, nothing is left out or added, and the comparison listed holds.
 abbrev pub IsVerdict : Bool → Latencies → List Op → List Op → List Row → List ℤ → Verdict → Type 0
 IsVerdict outputs lat block ops rows memory (Units c changes) =
     IsFirstBadRow ops rows c × AreChanges (without_nops block) ops rows changes
@@ -26,4 +26,4 @@ IsVerdict outputs lat block ops rows memory (Unlawful reasons found) =
     IsTable ops rows × (IsByTheBook lat block ops rows → ⊥) × AreReasons lat (without_nops block) ops rows reasons
     × IsComparison outputs lat block ops rows memory found
 IsVerdict outputs lat block ops rows memory (Undecided found) =
-    IsTable ops rows × AreItsOperations block ops × IsComparison outputs lat block ops rows memory found
+    IsTable ops rows × AreItsOperations (without_nops block) ops × IsComparison outputs lat block ops rows memory found

@@ -10,7 +10,8 @@ use iloc_comparison::{JudgedBlock, Judging};
 use iloc_ops::NoMemory;
 use iloc_rows::Proposal;
 use iloc_verdict::{
-    Checked, Verdict, VerdictKind, changes_of, found, keeps_operations, kind_of, push_entry,
+    Checked, Judgement, Verdict, VerdictKind, changes_of, found, keeps_operations, kind_of,
+    push_entry,
 };
 use std::alloc::Global;
 
@@ -35,14 +36,17 @@ fn push_units(
     let (ops, rows) = (proposal.ops(), proposal.rows());
     let checked = found(task, proposal, VerdictKind::Units, keeps_operations);
     let changes = changes_of(alloc, task.block, ops, rows)?;
-    let verdict = Verdict::Units(row, changes);
+    let judgement = Judgement {
+        verdict: Verdict::Units(row, changes),
+        origins: Vec::new(alloc),
+    };
     push_entry(
         text,
         judging,
         proposal.claimed(),
         ops,
         rows,
-        &verdict,
+        &judgement,
         checked,
     )?;
     Ok(checked)
@@ -79,11 +83,11 @@ pub fn push_check(
     let found = found(task, &proposal, VerdictKind::Lawful, keeps_operations);
     let theirs = proposal.into_schedule();
     let (ops, rows) = (theirs.ops(), theirs.rows());
-    let verdict = judge(alloc, judging, task, &theirs)?;
+    let judgement = judge(alloc, judging, task, &theirs)?;
     let checked = Checked {
-        kind: kind_of(options.lawful, &verdict),
+        kind: kind_of(options.lawful, &judgement.verdict),
         ..found
     };
-    push_entry(text, judging, claimed, ops, rows, &verdict, checked)?;
+    push_entry(text, judging, claimed, ops, rows, &judgement, checked)?;
     Ok(checked)
 }

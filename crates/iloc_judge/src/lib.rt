@@ -1,5 +1,4 @@
-//! The judge of schedules that others made: whether they are by the book, why not, and how what they do compares with what
-//! their block does.
+//! The judge of others' schedules: whether they are by the book, why not, and how their outcome compares with the block's.
 #![tactic(auto)]
 
 mod checked;

@@ -1,5 +1,5 @@
 -- Where an operation is no pair with any of the rows, no pairing keeps the colours.
-use Rattle.iloc_validation.proofs.Common.{◌≡◌, ℕ, ◌+◌, ◌<◌, List, length, slice_index, Some, None, Option, sym, ap, ◌∙◌, subst, inl, inr, arith, get_or-set_other, get_or-set_same, cases_eq, cases_lt, Op, ArePaired, AreColoured, AreKept, AreKeptByNone, HaveColours, IsNoPair, IsPairColoured, marked, IsDecisionAmong, IsDecisionOf, Coloured, Sides}
+use Rattle.iloc_validation.proofs.Common.{◌≡◌, ℕ, ◌+◌, ◌<◌, ◌≢◌, List, length, slice_index, Some, None, Option, sym, refl, ap, ◌∙◌, subst, inl, inr, arith, get_or-set_other, get_or-set_same, cases_eq, cases_lt, Op, ArePaired, AreColoured, AreKept, AreKeptByNone, HaveColours, IsNoPair, IsPairColoured, marked, IsDecisionAmong, IsDecisionOf, Coloured, Sides}
 use Rattle.iloc_validation.specs.declared.decision.Decision.{Decision}
 use Rattle.iloc_validation.specs.declared.decision.Decision.TheVariants.{Lawful, Unlawful, Undecided}
 
@@ -56,9 +56,9 @@ module _ (sides : Sides) (here there : List ℕ) where
   no_pair i k new are none = λ same origin partner under kept.
       none origin partner under (are.kept origin partner under kept)
 
-  -- where all pairings keep the colours, it is one of all
-  pub among_all : AreKept sides here there → (decision : Decision) → IsDecisionAmong sides here there decision
-      → IsDecisionOf sides decision
-  among_all kept (Lawful pairing) is = is
-  among_all kept Unlawful is = λ origin partner under. is origin partner under (kept origin partner under)
-  among_all kept Undecided is = is
+  -- where all pairings keep the colours, what is decided of those that do is decided of all
+  pub among_all : AreKept sides here there → (decision : Decision) → decision ≢ Undecided
+      → IsDecisionAmong sides here there decision → IsDecisionOf sides decision
+  among_all kept (Lawful pairing) known is = is
+  among_all kept Unlawful known is = λ origin partner under. is origin partner under (kept origin partner under)
+  among_all kept Undecided known is = absurd (known refl)

@@ -12,8 +12,8 @@ use Rattle.iloc_validation.specs.ByTheBook.{IsScheduleUnder}
 abbrev pub renumber : (ℕ → ℕ) → Row → Row
 renumber f row = record { zero = option_map f row.zero; one = option_map f row.one }
 
--- Under some pairing these rows are a schedule of the block by the book. The block's own operations stand, renamed, in the
--- slots of those that are issued for them, and it is known what is issued for each.
+-- By some pairing `rows` are a schedule of `block` by the book. In `own`, the operations of `block` are, renamed, in
+-- the slots of the ones that are issued for them, and `issued` has what is issued for each.
 pub record AreOwnRows (lat : Latencies) (block ops : List Op) (rows : List Row) (own : Table) (issued : List Op)
     : Type 0 where
   pub origin : ℕ → ℕ

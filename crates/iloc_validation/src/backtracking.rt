@@ -31,8 +31,8 @@ pub(crate) enum Found {
     NoPartner(usize),
 }
 
-/// A pairing of the operations of rows with those of a block that have these colours, if one is found in so many steps for
-/// each operation.
+/// A pairing of the operations of the rows with those of the block that keeps `colours`, if one is found in `steps`
+/// steps an operation.
 pub(crate) fn found_pairing(
     alloc: Global,
     sides: &Sides,

@@ -100,8 +100,9 @@ fn by_number(alloc: Global, colours: &[u64], numbers: &[usize]) -> Result<Vec<u6
     Ok(own)
 }
 
-/// Colours that each pairing keeps that keeps these, made of them and of what operations read and what reads them; or
-/// none, where they show that there is no such pairing. A pass reaches through all that is read, or all that reads, at once.
+/// Refines the colours `here` and `there`: each pairing that keeps them keeps the result. A colour is mixed with the
+/// ones of what the operation reads, and of what reads it; a pass reaches through all of it at once. None, where the
+/// colours show that no pairing keeps them.
 pub(crate) fn kept_colours(
     alloc: Global,
     sides: &Sides,

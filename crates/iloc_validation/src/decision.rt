@@ -17,7 +17,7 @@ use self::partners::{Budget, searched};
 use self::under_way::is_under_way;
 use crate::pairing::Pairing;
 use crate::verification::is_schedule_under;
-use iloc_facts::Sides;
+use iloc_facts::{Sides, has_operations};
 use iloc_ops::{Block, NoMemory};
 use iloc_timed::{Latencies, Schedule};
 use std::alloc::Global;
@@ -29,7 +29,7 @@ pub enum Decision {
     Lawful(Pairing),
     /// They aren't, under any pairing.
     Unlawful,
-    /// Neither is known.
+    /// Neither is known; nothing is left out or added.
     Undecided,
 }
 
@@ -73,7 +73,15 @@ fn decided(alloc: Global, sides: &Sides, blocks: usize) -> Result<Decision, NoMe
         None => return Ok(Decision::Unlawful),
     };
     let budget = Budget::on_one_of(blocks, sides.block.len());
-    searched(alloc, sides, &colours, budget)
+    let decision = searched(alloc, sides, &colours, budget)?;
+    if let Decision::Undecided = decision {
+        return if has_operations(alloc, &sides.block, sides.schedule.ops())? {
+            Ok(Decision::Undecided)
+        } else {
+            Ok(Decision::Unlawful)
+        };
+    }
+    Ok(decision)
 }
 
 /// Decides whether rows that somebody made are a schedule of a block by the book: whether their operations can be paired
@@ -83,7 +91,7 @@ fn decided(alloc: Global, sides: &Sides, blocks: usize) -> Result<Decision, NoMe
 ///
 /// Promise: rows that are found to be lawful are a schedule of the block by the book, under the pairing that is handed out;
 /// those that are found to be unlawful are none, under any pairing. What a schedule of ours issues is found to be lawful,
-/// whatever numbers its operations have.
+/// whatever numbers its operations have. Rows that leave operations out or add some are never left undecided.
 ///
 /// Of some rows neither is found: where operations are alike in so many ways that the search gives up, and counting doesn't
 /// exclude each way to pair three of them. `blocks` is how many are decided in all: the more, the sooner each search gives up.

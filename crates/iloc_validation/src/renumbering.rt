@@ -15,7 +15,7 @@ use std::alloc::Global;
 /// Rows by the book in a block's own numbers.
 #[derive(Debug, Drop)]
 pub struct OwnRows {
-    /// The block's operations, renamed, in the slots of those that are issued for them.
+    /// The block's operations, renamed, in the slots of what is issued for them.
     pub schedule: Schedule,
     /// By operation what is issued for it.
     pub issued: Vec<Op>,
@@ -45,7 +45,7 @@ fn renumbered_rows(alloc: Global, numbers: &[usize], rows: &[Row]) -> Result<Vec
     Ok(own)
 }
 
-/// The operations with these numbers.
+/// The operations of `ops` with `numbers`.
 fn ops_with(alloc: Global, ops: &[Op], numbers: &[usize]) -> Result<Vec<Op>, NoMemory>
     ensures { IfOk result (λ found. found.items ≡ map (op_at ops.now) numbers.now) }
 {

@@ -3,6 +3,6 @@ pub use Rattle.std.proofs.Common.{◌≡◌, ℕ, zero, suc, ◌<◌, true, fals
 pub use Rattle.std.specs.Fmt.{decimal}
 pub use Rattle.std.specs.List.{flat_map}
 pub use Rattle.iloc_timed.specs.Rows.{holds, is_some_kind, issue_cycle, kind_in, row_at}
-pub use Rattle.iloc_verdict.specs.Entry.Json.{escaped, fact_value}
+pub use Rattle.iloc_verdict.specs.Entry.Json.{escaped, fact_value, row_value}
 pub use Rattle.iloc_verdict.specs.Entry.Reasons.{fact_told, issue_told, numbered}
 pub use Rattle.iloc_verdict.specs.Unread.{in_one_line, unread_as}

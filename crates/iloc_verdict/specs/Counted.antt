@@ -9,13 +9,13 @@ use Rattle.iloc_verdict.specs.declared.verdict.Verdict.{Verdict}
 use Rattle.iloc_verdict.specs.declared.verdict.Verdict.TheVariants.{Units, Lawful, Unlawful, Undecided}
 
 -- the number of an output fits 64 bits
-abbrev pub IsCounted : Difference → Type 0
-IsCounted (Output index got wanted) = index + 1 < 2 ^ 64
-IsCounted _ = Unit {0}
+abbrev pub CanBeNumbered : Difference → Type 0
+CanBeNumbered (Output index got wanted) = index + 1 < 2 ^ 64
+CanBeNumbered _ = Unit {0}
 
 abbrev pub CanBeCompared : Comparison → Type 0
-CanBeCompared (of.Differs difference) = IsCounted difference
-CanBeCompared (of.DiffersOn probe difference) = IsCounted difference
+CanBeCompared (of.Differs difference) = CanBeNumbered difference
+CanBeCompared (of.DiffersOn probe difference) = CanBeNumbered difference
 CanBeCompared _ = Unit {0}
 
 -- a bad row is one of the rows, and the number of an output fits

@@ -12,8 +12,10 @@ pub mod Json
 pub mod Listing
 pub mod Reasons
 
--- of operations and rows that pass or don't, for which these cycles are claimed: lines, a row of a table, or a line of JSON
-abbrev pub entry_as : (passing : Bool) → Form → Option ℕ → List Op → List Row → Verdict → Checked → List ℕ
-entry_as passing forms.Lines claimed ops rows verdict checked = lines_of claimed ops rows verdict checked
-entry_as passing forms.Table claimed ops rows verdict checked = row_of checked claimed
-entry_as passing forms.Json claimed ops rows verdict checked = json_of passing claimed ops rows verdict checked
+-- What is listed of operations and rows that pass or don't, for which cycles are `claimed`: lines, a row of a table, or
+-- a line of JSON, which has the operation of the block that is noted for each in `origins`.
+abbrev pub entry_as : (passing : Bool) → Form → Option ℕ → List Op → List Row → Verdict → List (Option ℕ) → Checked
+    → List ℕ
+entry_as passing forms.Lines claimed ops rows verdict origins checked = lines_of claimed ops rows verdict checked
+entry_as passing forms.Table claimed ops rows verdict origins checked = row_of checked claimed
+entry_as passing forms.Json claimed ops rows verdict origins checked = json_of passing claimed ops rows verdict origins checked

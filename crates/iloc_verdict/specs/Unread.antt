@@ -43,9 +43,9 @@ unread_as forms.Lines rows changes checked claimed unread words = unread_lines c
 unread_as forms.Table rows changes checked claimed unread words = row_of checked claimed
 unread_as forms.Json rows changes checked claimed unread words = unread_json_of rows changes claimed unread words checked
 
--- This is the first line of what is proposed for a block that can't be read, this is found of it, and this entry listed in this
--- form, with words for what is found at a place of its text. Its cycles, and what it leaves out and adds, are those of its
--- rows, where what can't be read is an empty one.
+-- `unread` is the first line of `proposal` that can't be read, `checked` is what is found of it, and `entry` what is
+-- listed in `form`, with words for what is found at a place of its text. Its cycles, and what it leaves out and adds,
+-- are the ones of its rows, where a line that can't be read is an empty row.
 pub record IsUnread (form : Form) (lat : Latencies) (block : List Op) (proposal : Proposed) (checked : Checked)
     (entry : List ℕ) : Type 0 where
   pub unread : Unread

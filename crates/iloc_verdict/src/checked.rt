@@ -13,8 +13,8 @@ pub(crate) mod unit_rule;
 pub(crate) mod verdict_line;
 
 use crate::json::push_json;
-use crate::verdict::Verdict;
 use crate::verdict::kind::VerdictKind;
+use crate::verdict::{Judgement, Verdict};
 use detail::push_detail;
 use iloc_comparison::{Comparison, Form, JudgedBlock, Judging};
 use iloc_ops::{NoMemory, Op};
@@ -118,25 +118,25 @@ fn push_lines(
     push_detail(text, ops, rows, verdict)
 }
 
-/// Appends what is listed of operations and rows with this verdict, in the form that is asked for.
+/// Appends what is listed of operations and rows that are judged so, in the form that is asked for.
 pub fn push_entry(
     text: &mut Vec<u8>,
     judging: &Judging<'_>,
     claimed: Option<u32>,
     ops: &[Op],
     rows: &[Row],
-    verdict: &Verdict,
+    judgement: &Judgement,
     checked: Checked,
 ) -> Result<(), NoMemory>
-    requires { CanBeListed rows.now verdict.now }
+    requires { CanBeListed rows.now judgement.now.verdict }
     ensures { OnOk result (text.new.items ≡ text.old.items
-        ++ entry_as (passes judging.now.options.lawful checked) judging.now.options.form claimed ops.now rows.now verdict.now
-        checked) }
+        ++ entry_as (passes judging.now.options.lawful checked) judging.now.options.form claimed ops.now rows.now
+        judgement.now.verdict judgement.now.origins.items checked) }
 {
     let passing = checked.passes(judging.options.lawful);
     match judging.options.form {
-        Form::Lines => push_lines(text, claimed, ops, rows, verdict, checked),
+        Form::Lines => push_lines(text, claimed, ops, rows, &judgement.verdict, checked),
         Form::Table => push_table_row(text, checked, claimed),
-        Form::Json => push_json(text, passing, claimed, ops, rows, verdict, checked),
+        Form::Json => push_json(text, passing, claimed, ops, rows, judgement, checked),
     }
 }

@@ -5,18 +5,20 @@ ghost use Rattle.iloc_verdict.specs.Counted.{CanBeListed};
 ghost use Rattle.iloc_verdict.specs.UnitRule.{broken_rule};
 
 mod comparison;
+mod operations;
 mod reason;
 pub mod value;
 
 use crate::checked::Checked;
 use crate::checked::changes::Changes;
 use crate::checked::unit_rule::broken_rule;
-use crate::verdict::Verdict;
+use crate::verdict::{Judgement, Verdict};
 use comparison::{push_comparison, push_no_difference};
 use iloc_ops::{NoMemory, Op};
 use iloc_rows::Unread;
 use iloc_rules::Sought;
 use iloc_timed::{Row, push_row};
+use operations::push_operations;
 use reason::{push_added, push_left_out, push_reasons};
 use value::{
     push_all_escaped, push_literal, push_number_member, push_text_member, push_truth_member,
@@ -166,7 +168,7 @@ fn push_undecided(text: &mut Vec<u8>) -> Result<(), NoMemory>
     push_after(text)
 }
 
-/// Appends what is said of these operations and rows after their verdict.
+/// Appends what is said of the operations `ops` in `rows` after their verdict.
 fn push_detail(
     text: &mut Vec<u8>,
     ops: &[Op],
@@ -191,22 +193,23 @@ fn push_detail(
     }
 }
 
-/// Appends what is listed of operations and rows with this verdict, which pass or don't.
+/// Appends what is listed of operations and rows that are judged so, and pass or don't.
 pub(crate) fn push_json(
     text: &mut Vec<u8>,
     passing: bool,
     claimed: Option<u32>,
     ops: &[Op],
     rows: &[Row],
-    verdict: &Verdict,
+    judgement: &Judgement,
     checked: Checked,
 ) -> Result<(), NoMemory>
-    requires { CanBeListed rows.now verdict.now }
-    ensures { OnOk result
-        (text.new.items ≡ text.old.items ++ json.json_of passing claimed ops.now rows.now verdict.now checked) }
+    requires { CanBeListed rows.now judgement.now.verdict }
+    ensures { OnOk result (text.new.items ≡ text.old.items ++ json.json_of passing claimed ops.now rows.now
+        judgement.now.verdict judgement.now.origins.items checked) }
 {
     push_verdict(text, passing, rows.len(), checked, claimed)?;
-    push_detail(text, ops, rows, verdict)?;
+    push_detail(text, ops, rows, &judgement.verdict)?;
+    push_operations(text, &judgement.origins, rows)?;
     push_literal(text, "}\n")
 }
 
@@ -267,8 +270,8 @@ fn push_unread_members(
     push_after(text)
 }
 
-/// Appends what is listed of so many rows among which this is the first line that can't be read, with words for what is wrong
-/// with it.
+/// Appends what is listed of `rows` rows of which `unread` is the first line that can't be read, with words for what is
+/// wrong with it.
 pub(crate) fn push_unread_json(
     text: &mut Vec<u8>,
     rows: usize,
@@ -283,5 +286,5 @@ pub(crate) fn push_unread_json(
 {
     push_verdict(text, false, rows, checked, claimed)?;
     push_unread_members(text, changes, unread, words)?;
-    push_literal(text, "}\n")
+    push_literal(text, ",\"operations\":null}\n")
 }

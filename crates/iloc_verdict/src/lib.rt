@@ -9,10 +9,10 @@ mod verdict;
 
 pub use checked::changes::{Changes, changes_of};
 pub use checked::detail::push_bad_row;
-pub use checked::kept::{has_operations, keeps_operations};
+pub use checked::kept::keeps_operations;
 pub use checked::reason::push_reasons;
 pub use checked::{Checked, found, kind_of, push_entry};
 pub use json::value::push_quoted;
 pub use unread::{push_unread, push_unread_line};
-pub use verdict::Verdict;
 pub use verdict::kind::VerdictKind;
+pub use verdict::{Judgement, Verdict};

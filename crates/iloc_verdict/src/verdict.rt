@@ -19,3 +19,12 @@ pub enum Verdict {
     /// does.
     Undecided(Comparison),
 }
+
+/// A verdict on somebody's rows, and which operation of the block each of theirs is.
+#[derive(Debug, Drop)]
+pub struct Judgement {
+    /// The verdict.
+    pub verdict: Verdict,
+    /// By operation of the rows the one of the block, `None` where that isn't known. Empty where it isn't listed.
+    pub origins: Vec<Option<usize>>,
+}

@@ -34,7 +34,7 @@ abbrev pub told : (ℕ → ℕ) → Option ℕ → ℕ
 told colour None = 9223372036854775808
 told colour (Some j) = colour j
 
--- a colour with those of what is read, left to right
+-- the colour `c` mixed with the colours of what is read, left to right
 abbrev pub with_told : (ℕ → ℕ) → ℕ → Sources → ℕ
 with_told colour c Nothing = c
 with_told colour c (One only) = mixed c (told colour only)
@@ -66,7 +66,7 @@ abbrev pub AreForwards : List Sources → List ℕ → List ℕ → Type 0
 AreForwards sources old new = (k : ℕ) → k < length sources → IsBelow k (sources_at sources k)
     → slice_index new k ≡ with_told (slice_index new) (slice_index old k) (sources_at sources k)
 
--- each is mixed with the sum of what it hears of those behind it
+-- each colour of `new` is the `old` one mixed with the sum of what it hears of its readers
 abbrev pub AreBackwards : List Sources → List ℕ → List ℕ → Type 0
 AreBackwards sources old new = (k : ℕ) → k < length sources → slice_index new k
     ≡ mixed (slice_index old k) (heard (slice_index new) sources k (k + 1) (length sources - (k + 1)) % 2 ^ 64)
@@ -128,7 +128,7 @@ pub record AreColouredAs (sides : Sides) (here there : List ℕ) (new : Coloured
       → HaveColours (length sides.schedule.now.ops) origin here there
       → HaveColours (length sides.schedule.now.ops) origin new.here.items new.there.items
 
--- no pairing keeps these colours
+-- no pairing keeps the colours `here` and `there`
 abbrev pub AreKeptByNone : Sides → List ℕ → List ℕ → Type 0
 AreKeptByNone sides here there = (origin partner : ℕ → ℕ) → IsUnder sides origin partner
     → HaveColours (length sides.schedule.now.ops) origin here there → ⊥
@@ -142,7 +142,7 @@ AreColoured sides here there (Some new) = AreColouredAs sides here there new
 abbrev pub marked : List ℕ → ℕ → List ℕ
 marked colours k = slice_set colours k 9223372036854775808
 
--- where operations i and k have one colour, no pairing keeps those in which they have another of their own
+-- if operations `i` and `k` have one colour, no pairing keeps the colours in which the two have another of their own
 abbrev pub IsNoPair : Sides → List ℕ → List ℕ → ℕ → ℕ → Type 0
 IsNoPair sides here there i k = slice_index there k ≡ slice_index here i
     → AreKeptByNone sides (marked here i) (marked there k)

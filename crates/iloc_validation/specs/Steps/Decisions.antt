@@ -5,6 +5,7 @@ use Rattle.iloc_validation.specs.declared.backtracking.Found.TheVariants.{Paired
 use Rattle.iloc_validation.specs.declared.colours.Coloured.{Coloured}
 use Rattle.iloc_validation.specs.declared.decision.Decision.{Decision}
 use Rattle.iloc_validation.specs.declared.pairing.Pairing.{Pairing}
+use Rattle.iloc_facts.specs.Counts.{AreItsOperations}
 use Rattle.iloc_facts.specs.declared.sides.Sides.{Sides}
 use Rattle.iloc_validation.specs.declared.decision.Decision.TheVariants.{Lawful, Unlawful, Undecided}
 use Rattle.iloc_validation.specs.Decision.{IsScheduleBy}
@@ -19,11 +20,11 @@ IsPairing sides = IsScheduleBy sides.latencies.now sides.block.items sides.sched
 abbrev pub IsExcluded : Sides → Type 0
 IsExcluded sides = (origin partner : ℕ → ℕ) → IsUnder sides origin partner → ⊥
 
--- this pairing makes the rows a schedule; none does; or nothing is said
+-- this pairing makes the rows a schedule; none does; or neither is known, and nothing is left out or added
 abbrev pub IsDecisionOf : Sides → Decision → Type 0
 IsDecisionOf sides (Lawful pairing) = IsPairing sides pairing
 IsDecisionOf sides Unlawful = IsExcluded sides
-IsDecisionOf sides Undecided = Unit
+IsDecisionOf sides Undecided = AreItsOperations sides.block.items sides.schedule.now.ops
 
 -- colours that every pairing keeps, as many as there are operations
 pub record KeptColours (sides : Sides) (colours : Coloured) : Type 0 where
@@ -47,7 +48,8 @@ IsFoundDecision sides (Lawful pairing) = IsPairing sides pairing
 IsFoundDecision sides Unlawful = ⊥
 IsFoundDecision sides Undecided = Unit
 
--- this pairing makes the rows a schedule; none does that keeps these colours; or nothing is said
+-- a pairing is named and makes the rows a schedule; or no pairing that keeps the colours `here` and `there` does; or
+-- nothing is said
 abbrev pub IsDecisionAmong : Sides → List ℕ → List ℕ → Decision → Type 0
 IsDecisionAmong sides here there (Lawful pairing) = IsPairing sides pairing
 IsDecisionAmong sides here there Unlawful = AreKeptByNone sides here there

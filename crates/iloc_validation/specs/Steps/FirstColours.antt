@@ -17,14 +17,14 @@ use Rattle.iloc_facts.specs.ByLabel.{number_like}
 abbrev pub label_colour : ByLabel → Op → ℕ
 label_colour labels op = unwrap_or (number_like labels op) 18446744073709551615
 
--- a colour with so many stores and outputs before it, of a kind that keeps its place among them
+-- `colour` with the number of `stores` and `outputs` before an operation, as far as its kind keeps its place among them
 abbrev pub with_place : Kind → ℕ → ℕ → ℕ → ℕ
 with_place K.Load colour stores outputs = mixed colour stores
 with_place K.Store colour stores outputs = mixed colour stores
 with_place K.Output colour stores outputs = mixed (mixed colour stores) outputs
 with_place _ colour stores outputs = colour
 
--- the colour of an operation behind so many stores and outputs
+-- the colour of an operation after `stores` stores and `outputs` outputs
 abbrev pub first_colour : ByLabel → ℕ → ℕ → Op → ℕ
 first_colour labels stores outputs op = with_place (kind op) (label_colour labels op) stores outputs
 
@@ -46,16 +46,16 @@ abbrev pub with_slot : List Op → Option ℕ → Places → Places
 with_slot ops None places = places
 with_slot ops (Some k) places = with_op (op_at ops k) places
 
--- how many of these operations pass
+-- how many of the operations `ks` have a kind that passes `test`
 abbrev pub count_of : (Kind → Bool) → List Op → List ℕ → ℕ
 count_of test ops ks = count_by (λ k. test (kind (op_at ops k))) ks
 
--- so many stores and outputs are among these operations
+-- `places` has the numbers of stores and outputs among the operations `ks`
 pub record ArePlaces (ops : List Op) (ks : List ℕ) (places : Places) : Type 0 where
   pub stores : places.stores ≡ count_of is_store ops ks % 2 ^ 64
   pub outputs : places.outputs ≡ count_of is_output ops ks % 2 ^ 64
 
--- the colour of operation k behind these
+-- the colour of operation `k` after the operations `ks`
 abbrev pub colour_behind : ByLabel → List Op → List ℕ → ℕ → ℕ
 colour_behind labels ops ks k =
     first_colour labels (count_of is_store ops ks % 2 ^ 64) (count_of is_output ops ks % 2 ^ 64) (op_at ops k)
@@ -65,7 +65,7 @@ abbrev pub numbers_below : ℕ → List ℕ
 numbers_below zero = []
 numbers_below (suc n) = numbers_below n ++ (n ∷ [])
 
--- the first colours of a block's operations, and of those of rows
+-- the first colours of a block's operations, and of the rows' operations
 abbrev pub first_here : ByLabel → List Op → ℕ → ℕ
 first_here labels block i = colour_behind labels block (numbers_below i) i
 

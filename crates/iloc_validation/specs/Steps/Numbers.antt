@@ -12,7 +12,7 @@ is_in (Some j) k = j == k
 abbrev pub in_slot : Row → Row → ℕ → ℕ
 in_slot other row k = if is_in row.zero k then unwrap_or other.zero 0 else unwrap_or other.one 0
 
--- the number of the operation that the other rows issue where these issue k
+-- the number of the operation that `others` issue where `rows` issue operation `k`
 abbrev pub number_in : List Row → List Row → ℕ → ℕ
 number_in others rows k = in_slot (row_at others (issue_cycle rows k)) (row_at rows (issue_cycle rows k)) k
 
@@ -21,7 +21,7 @@ abbrev pub with_number : List ℕ → Option ℕ → ℕ → List ℕ
 with_number numbers None number = numbers
 with_number numbers (Some k) number = slice_set numbers k number
 
--- of each of so many operations that the rows before cycle c hold its value is noted
+-- of `count` operations, each that `rows` hold before cycle `c` has its `value` in `noted`
 pub record AreNotedBefore (count : ℕ) (value : ℕ → ℕ) (rows : List Row) (c : ℕ) (noted : List ℕ) : Type 0 where
   pub size : length noted ≡ count
   pub each : (k : ℕ) → k < count → issue_cycle rows k < c → slice_index noted k ≡ value k

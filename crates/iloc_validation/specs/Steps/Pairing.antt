@@ -16,7 +16,8 @@ LeadsBack there back = (k : ℕ) → k < length there
 abbrev pub IsUnder : Sides → (ℕ → ℕ) → (ℕ → ℕ) → Type 0
 IsUnder sides = IsScheduleUnder sides.latencies.now sides.block.items sides.schedule.now.ops sides.schedule.now.rows
 
--- operation k of the rows has the label of its origin, reads what that reads, and isn't issued before these waits are over
+-- operation `k` of the rows has the label of its origin, reads what the origin reads, and isn't issued before `waits`
+-- are over
 pub record IsKept (sides : Sides) (waits origin : List ℕ) (k : ℕ) : Type 0 where
   pub label : label (op_at sides.schedule.now.ops k) ≡ label (op_at sides.block.items (slice_index origin k))
   pub reads : by_numbers (slice_index origin) (reading_at sides.readings.items k).sources

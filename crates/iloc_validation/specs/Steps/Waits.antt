@@ -14,7 +14,8 @@ use Rattle.iloc_validation.specs.declared.verification.waits.Waits.{Waits}
 abbrev pub memory_by : Latencies → Kind → Kind → List ℕ
 memory_by lat a b = when (reads_stored a b) (latency_of lat a) ++ when (keeps_order a b) 1
 
--- from which cycle on the first j operations of a block, issued at these cycles, let one of a kind be issued
+-- the first cycle at which the first `j` operations of `block`, each issued at its `cycle`, let one of kind `k` be
+-- issued
 abbrev pub earliest : Latencies → List Op → (ℕ → ℕ) → ℕ → Kind → ℕ
 earliest lat block cycle zero k = 0
 earliest lat block cycle (suc j) k =

@@ -14,7 +14,7 @@ pub(crate) struct Pairs {
 }
 
 impl Pairs {
-    /// No pair between so many operations of a block and of rows.
+    /// No pair, of `block` operations of a block and `rows` operations of rows.
     pub(crate) fn none(alloc: Global, block: usize, rows: usize) -> Result<Pairs, NoMemory> {
         Ok(Pairs {
             pairing: Pairing {
@@ -53,7 +53,7 @@ impl Pairs {
         Ok(())
     }
 
-    /// Takes back all but so many.
+    /// Takes back all pairs but the first `kept`.
     pub(crate) fn take_back(&mut self, kept: usize) {
         for _ in kept..self.paired.len() {
             if let Some(i) = self.paired.pop() {

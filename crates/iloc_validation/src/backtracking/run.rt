@@ -178,7 +178,7 @@ impl<'a> Search<'a> {
         Ok(Step::Follow)
     }
 
-    /// The next candidate of a choice: those at the reader's place and above it, then those below.
+    /// The next candidate of `choice`: first the ones at the reader's place and above it, then the ones below.
     fn candidate(&self, choice: &mut PartnerChoice) -> Option<usize> {
         if let Some(k) = self.rows.like(choice.wanted, choice.above) {
             choice.above = choice.above.saturating_add(1);
@@ -188,7 +188,7 @@ impl<'a> Search<'a> {
         self.rows.like(choice.wanted, choice.below)
     }
 
-    /// Pairs all operations, if that is done in so many steps.
+    /// Pairs all operations; answers whether `steps` steps were enough.
     pub(crate) fn run(&mut self, steps: usize) -> Result<bool, NoMemory> {
         let mut step = Step::Look;
         for _ in 0..steps {

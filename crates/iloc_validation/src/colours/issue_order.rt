@@ -88,7 +88,7 @@ fn is_below(sources: Sources, place: usize) -> bool
     }
 }
 
-/// Whether these are the sources of operations in this order, each of them earlier.
+/// Whether `sources` are what `readings` say of the operations `ops`, and each of them is earlier.
 fn are_read(ops: &[usize], sources: &[Sources], readings: &[Reading]) -> bool
     requires known { (p : ℕ) → p < length ops.now → slice_index ops.now p < length readings.now }
     requires sized { length sources.now ≡ length ops.now }

@@ -18,8 +18,8 @@ fn stirred(number: u64) -> u64
     product.wrapping_mul(HALF).wrapping_add(product / HALF)
 }
 
-/// The colour that is made of two; its parts can't be exchanged, and it isn't linear, so sums of colours tell more than
-/// those of their parts.
+/// The colour that is made of `one` and `other`, which can't be exchanged. It isn't linear, so a sum of colours tells
+/// more than sums of their parts.
 pub(crate) fn mix(one: u64, other: u64) -> u64
     ensures { result ≡ mixed one other }
 {
@@ -39,7 +39,7 @@ fn told(colours: &[u64], source: Option<usize>) -> u64
     }
 }
 
-/// A colour with those of what is read, left to right.
+/// `colour` mixed with the `colours` of its `sources`, left to right.
 pub(crate) fn with_told(colour: u64, colours: &[u64], sources: Sources) -> u64
     ensures { result ≡ with_told (slice_index colours.now) colour sources }
 {
@@ -50,7 +50,7 @@ pub(crate) fn with_told(colour: u64, colours: &[u64], sources: Sources) -> u64
     }
 }
 
-/// The sum of these colours, each mixed once more, modulo 2⁶⁴.
+/// The sum of `colours`, each mixed once more, modulo 2⁶⁴.
 pub(crate) fn total(colours: &[u64]) -> u64
     ensures { result ≡ sum_by (λ c. mixed c 1) colours.now % 2 ^ 64 }
 {

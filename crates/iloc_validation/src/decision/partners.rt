@@ -41,8 +41,8 @@ fn marked(alloc: Global, colours: &[u64], place: usize) -> Result<Vec<u64>, NoMe
     Ok(new)
 }
 
-/// Colours kept by the pairings of operation i of the block with operation k of the rows that keep these colours; or none,
-/// where these two have different ones, or passes show that there is no such pairing.
+/// Colours kept by each pairing that keeps `colours` and pairs operation `i` of the block with operation `k` of the
+/// rows. None, where the two have different colours, or passes show that there is no such pairing.
 fn paired_colours(
     alloc: Global,
     sides: &Sides,
@@ -89,8 +89,8 @@ pub(crate) struct Budget {
 }
 
 impl Budget {
-    /// For one of so many blocks, with so many operations: the more of both, the less for each operation. It depends on
-    /// nothing else, so it is the same in whatever order the blocks are judged.
+    /// The budget of one of `blocks` blocks that has `operations` operations: the more of both, the less for an
+    /// operation. It depends on nothing else, so it is the same in whatever order blocks are judged.
     pub(crate) fn on_one_of(blocks: usize, operations: usize) -> Budget {
         let all = blocks.saturating_mul(operations).max(1);
         Budget {
@@ -113,8 +113,8 @@ fn left(budget: Budget, colours: &[u64], colour: u64) -> Budget
     }
 }
 
-/// What is decided of pairings that keep these colours. Where a search finds none, the operation at which it ended is paired
-/// with each of its colour, and they have one of their own from then on.
+/// What is decided of the pairings that keep `colours`. Where a search finds none, the operation at which it ended is
+/// paired in turn with each of its colour, and the two have a colour of their own from then on.
 pub(crate) fn searched(
     alloc: Global,
     sides: &Sides,

@@ -1,5 +1,5 @@
 -- What is listed of a block's rows as a line of JSON, after the block's number and name.
-use Rattle.std.specs.Prelude.{ℕ, ℤ, ◌+◌, ◌/◌, ◌%◌, ◌==◌, ◌&&◌, nat_lt, not, if◌then◌else◌, Bool, false, length, take, List, [], ◌∷◌, ◌++◌, Option, Some, None, codes}
+use Rattle.std.specs.Prelude.{ℕ, ℤ, ◌+◌, ◌/◌, ◌%◌, ◌==◌, ◌&&◌, nat_lt, not, if◌then◌else◌, Bool, false, length, take, slice_index_or, List, [], ◌∷◌, ◌++◌, Option, Some, None, codes}
 use Rattle.std.specs.List.{flat_map}
 use Rattle.std.specs.Fmt.{decimal, signed_decimal}
 use Rattle.iloc_ops.specs.Spelling.{spelling}
@@ -29,6 +29,7 @@ use Rattle.iloc_comparison.specs.declared.void.Void.{Void}
 use Rattle.iloc_comparison.specs.declared.void.Void.TheVariants.{Faults, ShowsNothing}
 use Rattle.iloc_verdict.specs.declared.checked.unit_rule.UnitRule.{UnitRule}
 use Rattle.iloc_verdict.specs.Entry.Listing.{kind_word}
+use Rattle.iloc_verdict.specs.Entry.Reasons.{side}
 use Rattle.iloc_verdict.specs.UnitRule.{broken_rule, rule_words}
 
 -- Strings
@@ -78,7 +79,7 @@ word_or_null (Some word) = signed_decimal word
 abbrev pub word_member : List ℕ → Option ℤ → List ℕ
 word_member name word = key name ++ word_or_null word
 
--- an operation in the rows, by the names of these two members
+-- an operation in the rows: two members, with the names `row` and `operation`
 abbrev pub issue_members : List ℕ → List ℕ → Issue → List ℕ
 issue_members row operation issue = number_member row issue.cycle ++ op_member operation issue.op
 
@@ -193,7 +194,8 @@ abbrev pub replaced_members : Issue → Reg → Issue → Option Issue → List 
 replaced_members issue register from lost = reads_members (codes "replaced") issue register ++ results_members from lost
 
 abbrev pub order_members : Issue → Issue → List ℕ
-order_members issue other = reason_head (codes "order") issue ++ other_members other
+order_members issue other =
+    reason_head (codes "order") issue ++ text_member (codes "side") (side issue other) ++ other_members other
 
 abbrev pub for_members : Issue → ℕ → Op → List ℕ
 for_members issue number op =
@@ -247,7 +249,7 @@ changes_members it = left_out_member it.left_out ++ added_member it.added
 abbrev pub before : List ℕ
 before = codes ",\"left_out\":null,\"added\":null,\"reasons\":["
 
--- and where these are
+-- what stands before and after the reasons
 abbrev pub before_of : Changes → List ℕ
 before_of changes = changes_members changes ++ codes ",\"reasons\":["
 
@@ -285,9 +287,35 @@ detail_members ops rows Lawful = lawful_members
 detail_members ops rows (Unlawful reasons found) = comparison_members found ++ reasons_members reasons
 detail_members ops rows (Undecided found) = comparison_members found ++ undecided_members
 
-abbrev pub json_of : (passing : Bool) → Option ℕ → List Op → List Row → Verdict → Checked → List ℕ
-json_of passing claimed ops rows verdict checked =
-    verdict_members passing (length rows) checked claimed ++ detail_members ops rows verdict ++ codes "}\n"
+-- Which operation of the block each is
+
+abbrev pub number_or_null : Option ℕ → List ℕ
+number_or_null None = codes "null"
+number_or_null (Some n) = decimal n
+
+-- the number that is noted for the operation in a slot, null where none is, or where none is there
+abbrev pub slot_value : List (Option ℕ) → Option ℕ → List ℕ
+slot_value origins None = codes "null"
+slot_value origins (Some k) = number_or_null (slice_index_or origins k None)
+
+-- the values of the two slots of a row
+abbrev pub row_value : List (Option ℕ) → Row → List ℕ
+row_value origins row = codes "[" ++ slot_value origins row.zero ++ codes "," ++ slot_value origins row.one ++ codes "]"
+
+-- rows with commas between them
+abbrev pub rows_values : List (Option ℕ) → List Row → List ℕ
+rows_values origins [] = []
+rows_values origins (row ∷ rest) = row_value origins row ++ flat_map (λ r. codes "," ++ row_value origins r) rest
+
+abbrev pub operations_member : List (Option ℕ) → List Row → List ℕ
+operations_member origins rows = codes ",\"operations\":[" ++ rows_values origins rows ++ codes "]"
+
+-- All of it
+
+abbrev pub json_of : (passing : Bool) → Option ℕ → List Op → List Row → Verdict → List (Option ℕ) → Checked → List ℕ
+json_of passing claimed ops rows verdict origins checked =
+    verdict_members passing (length rows) checked claimed ++ detail_members ops rows verdict
+    ++ operations_member origins rows ++ codes "}\n"
 
 -- Rows among which a line can't be read
 
@@ -312,7 +340,7 @@ unread_value unread words =
 abbrev pub unread_members : Changes → Unread → List ℕ → List ℕ
 unread_members changes unread words = no_difference ++ before_of changes ++ unread_value unread words ++ after
 
--- of so many rows, which don't pass
+-- the line of `rows` rows, which don't pass
 abbrev pub unread_json_of : ℕ → Changes → Option ℕ → Unread → List ℕ → Checked → List ℕ
 unread_json_of rows changes claimed unread words checked =
-    verdict_members false rows checked claimed ++ unread_members changes unread words ++ codes "}\n"
+    verdict_members false rows checked claimed ++ unread_members changes unread words ++ codes ",\"operations\":null}\n"

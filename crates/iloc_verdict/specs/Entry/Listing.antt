@@ -134,13 +134,14 @@ no_rows_told (row ∷ rows) = []
 abbrev pub undecided_told : List ℕ
 undecided_told = codes "  undecided\n"
 
--- What is said of these operations and rows below the line of the verdict: where it comes from, and why they aren't lawful.
+-- What is said of the operations `ops` in `rows` below the line of the verdict: where it comes from, and why they
+-- aren't lawful.
 abbrev pub detail : List Op → List Row → Verdict → List ℕ
 detail ops rows (Units c changes) = bad_row ops rows c
 detail ops rows Lawful = []
 detail ops rows (Unlawful reasons found) = no_rows_told rows ++ comparison_told found ++ reasons_told reasons
 detail ops rows (Undecided found) = no_rows_told rows ++ comparison_told found ++ undecided_told
 
--- the line of the verdict, for which these cycles are claimed, with what is said below it
+-- the line of the verdict, for which cycles are `claimed`, with what is said below it
 abbrev pub lines_of : Option ℕ → List Op → List Row → Verdict → Checked → List ℕ
 lines_of claimed ops rows verdict checked = line_of checked claimed ++ detail ops rows verdict

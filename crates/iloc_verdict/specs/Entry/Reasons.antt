@@ -51,9 +51,13 @@ abbrev pub replaced_told : Issue → Reg → Issue → Option Issue → List ℕ
 replaced_told issue register from lost =
     reads_told issue register ++ codes " of " ++ issue_told from ++ codes ", no longer " ++ lost_told lost
 
-abbrev pub before_or_after : Issue → Issue → List ℕ
-before_or_after issue other = if nat_lt issue.cycle other.cycle then codes " before "
-    else if nat_lt other.cycle issue.cycle then codes " after " else codes " not after "
+-- on which side of `other` the rows have `issue`, which has to be on the other side; in one row it has to come after
+abbrev pub side : Issue → Issue → List ℕ
+side issue other = if nat_lt issue.cycle other.cycle then codes "before"
+    else if nat_lt other.cycle issue.cycle then codes "after" else codes "not after"
+
+abbrev pub order_told : Issue → Issue → List ℕ
+order_told issue other = issue_told issue ++ codes " " ++ side issue other ++ codes " " ++ issue_told other
 
 abbrev pub for_told : Issue → ℕ → Op → List ℕ
 for_told issue number op = issue_told issue ++ numbered (codes " for operation ") number ++ spelling op
@@ -64,7 +68,7 @@ fact_words (UnderWay issue store due) = under_way_told issue store due
 fact_words (Brings issue register late due) = brings_told issue register late due
 fact_words (Replaced issue register from lost) = replaced_told issue register from lost
 fact_words (NeverRead issue) = issue_told issue ++ codes ", whose result is never read"
-fact_words (Order issue other) = issue_told issue ++ before_or_after issue other ++ issue_told other
+fact_words (Order issue other) = order_told issue other
 fact_words (For issue number op) = for_told issue number op
 fact_words (LikeNone issue) = issue_told issue ++ codes " like none of the block"
 fact_words (See issue) = codes "see " ++ issue_told issue

@@ -3,7 +3,7 @@ ghost use Rattle.std.specs.Prelude.{◌≡◌, ◌+◌, ◌<◌, ◌++◌, lengt
 ghost use Rattle.std.specs.List.{flat_map};
 ghost use Rattle.std.specs.Fmt.{decimal};
 ghost use Rattle.iloc_verdict.specs.Entry.Listing as listed;
-ghost use Rattle.iloc_verdict.specs.Counted.{IsCounted, CanBeCompared, CanBeListed};
+ghost use Rattle.iloc_verdict.specs.Counted.{CanBeNumbered, CanBeCompared, CanBeListed};
 
 use super::reason::push_reasons;
 use super::unit_rule::push_broken_rule;
@@ -33,7 +33,7 @@ fn push_both(text: &mut Vec<u8>, got: Option<i32>, wanted: Option<i32>) -> Resul
 
 /// Appends where two outcomes differ.
 fn push_difference(text: &mut Vec<u8>, difference: &Difference) -> Result<(), NoMemory>
-    requires { IsCounted difference.now }
+    requires { CanBeNumbered difference.now }
     ensures { OnOk result (text.new.items ≡ text.old.items ++ listed.difference_told difference.now) }
 {
     match *difference {
@@ -144,7 +144,7 @@ fn push_undecided(text: &mut Vec<u8>) -> Result<(), NoMemory>
     Ok(text.extend_from_slice(b"  undecided\n")?)
 }
 
-/// Appends what is said of these operations and rows below the line of their verdict.
+/// Appends what is said of the operations `ops` in `rows` below the line of their verdict.
 pub(crate) fn push_detail(
     text: &mut Vec<u8>,
     ops: &[Op],

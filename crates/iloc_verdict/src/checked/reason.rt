@@ -119,17 +119,28 @@ fn push_replaced(
     push_lost(text, lost)
 }
 
-/// Whether an operation is issued before another one, or not after it, in words.
-fn before_or_after(issue: Issue, other: Issue) -> &'static [u8]
-    ensures { result.now ≡ told.before_or_after issue other }
+/// On which side of another operation one is issued that has to be on the other side, in words.
+pub(crate) fn side_of(issue: Issue, other: Issue) -> &'static str
+    ensures { result.now ≡ told.side issue other }
 {
     if issue.cycle < other.cycle {
-        b" before "
+        "before"
     } else if other.cycle < issue.cycle {
-        b" after "
+        "after"
     } else {
-        b" not after "
+        "not after"
     }
+}
+
+/// Appends that two operations aren't in the block's order.
+fn push_order(text: &mut Vec<u8>, issue: Issue, other: Issue) -> Result<(), NoMemory>
+    ensures { OnOk result (text.new.items ≡ text.old.items ++ told.order_told issue other) }
+{
+    push_issue(text, issue)?;
+    text.extend_from_slice(b" ")?;
+    text.extend_from_slice(side_of(issue, other).as_bytes())?;
+    text.extend_from_slice(b" ")?;
+    push_issue(text, other)
 }
 
 /// Appends that an operation stands for this one of the block.
@@ -163,11 +174,7 @@ fn push_fact_words(text: &mut Vec<u8>, fact: &Fact) -> Result<(), NoMemory>
             push_issue(text, issue)?;
             Ok(text.extend_from_slice(b", whose result is never read")?)
         }
-        Fact::Order { issue, other } => {
-            push_issue(text, issue)?;
-            text.extend_from_slice(before_or_after(issue, other))?;
-            push_issue(text, other)
-        }
+        Fact::Order { issue, other } => push_order(text, issue, other),
         Fact::For { issue, number, op } => push_for(text, issue, number, op),
         Fact::LikeNone { issue } => {
             push_issue(text, issue)?;

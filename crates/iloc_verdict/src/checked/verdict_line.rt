@@ -81,7 +81,7 @@ fn push_claim(text: &mut Vec<u8>, claimed: Option<u32>) -> Result<(), NoMemory>
     }
 }
 
-/// Appends these as values of a table.
+/// Appends what was `checked` as values of a table.
 fn push_values(text: &mut Vec<u8>, checked: Checked) -> Result<(), NoMemory>
     ensures { OnOk result (text.new.items ≡ text.old.items ++ listed.values_of checked) }
 {

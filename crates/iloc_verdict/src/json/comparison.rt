@@ -3,7 +3,7 @@ ghost use Rattle.std.specs.Prelude.{◌≡◌, ◌++◌, OnOk, codes};
 ghost use Rattle.std.specs.List.{flat_map};
 ghost use Rattle.std.specs.Fmt.{decimal};
 ghost use Rattle.iloc_verdict.specs.Entry.Json as json;
-ghost use Rattle.iloc_verdict.specs.Counted.{CanBeCompared, IsCounted};
+ghost use Rattle.iloc_verdict.specs.Counted.{CanBeCompared, CanBeNumbered};
 
 use super::value::{push_literal, push_number_member, push_op_member, push_word_member};
 use iloc_comparison::{Comparison, Difference, Probe, Void};
@@ -62,7 +62,7 @@ fn push_stored(
 
 /// Appends where two outcomes differ.
 fn push_difference(text: &mut Vec<u8>, difference: &Difference) -> Result<(), NoMemory>
-    requires { IsCounted difference.now }
+    requires { CanBeNumbered difference.now }
     ensures { OnOk result (text.new.items ≡ text.old.items ++ json.difference_value difference.now) }
 {
     match *difference {
@@ -132,7 +132,7 @@ fn push_void_member(text: &mut Vec<u8>, why: &Void) -> Result<(), NoMemory>
 
 /// Appends where rows differ from their block.
 fn push_difference_member(text: &mut Vec<u8>, difference: &Difference) -> Result<(), NoMemory>
-    requires { IsCounted difference.now }
+    requires { CanBeNumbered difference.now }
     ensures { OnOk result (text.new.items ≡ text.old.items ++ json.difference_member difference.now) }
 {
     push_literal(text, ",\"void\":null,\"difference\":")?;

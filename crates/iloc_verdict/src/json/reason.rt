@@ -3,7 +3,10 @@ ghost use Rattle.std.specs.Prelude.{◌≡◌, ◌++◌, OnOk, codes};
 ghost use Rattle.std.specs.List.{flat_map};
 ghost use Rattle.iloc_verdict.specs.Entry.Json as json;
 
-use super::value::{push_issue_members, push_literal, push_number_member, push_op_member};
+use super::value::{
+    push_issue_members, push_literal, push_number_member, push_op_member, push_text_member,
+};
+use crate::checked::reason::side_of;
 use iloc_facts::{Added, Fact, Issue, LeftOut, Reasons};
 use iloc_ops::{NoMemory, Op, Reg, push_number};
 
@@ -101,6 +104,7 @@ fn push_order(text: &mut Vec<u8>, issue: Issue, other: Issue) -> Result<(), NoMe
     ensures { OnOk result (text.new.items ≡ text.old.items ++ json.order_members issue other) }
 {
     push_reason_head(text, "order", issue)?;
+    push_text_member(text, "side", side_of(issue, other).as_bytes())?;
     push_other(text, other)
 }
 

@@ -139,7 +139,7 @@ pub(crate) fn push_word_member(
     push_word(text, word)
 }
 
-/// Appends the row of an operation and the operation, by the names of these members.
+/// Appends the row of `issue` and its operation, as members with the names `row` and `operation`.
 pub(crate) fn push_issue_members(
     text: &mut Vec<u8>,
     row: &str,

@@ -7,8 +7,8 @@ push_entry-requires c =
     let task = c.args.task.now in
     rw c.rows-rows.ensures.rows
     (verdict_listed c.args.judging.now.options.outputs_alone task.latencies.now c.args.judging.now.memory.now task.block.now.ops
-    c.into_schedule-theirs.result.ops c.into_schedule-theirs.result.rows c.in_ok-verdict.verdict task.few c.rows-rows.ensures.few
-    c.in_ok-verdict.ensures.right)
+    c.into_schedule-theirs.result.ops c.into_schedule-theirs.result.rows c.in_ok-judgement.judgement.verdict task.few c.rows-rows.ensures.few
+    c.in_ok-judgement.ensures.right)
 
 pub returns-clause-entry : goal.returns-clause-entry
 returns-clause-entry c =
@@ -16,12 +16,15 @@ returns-clause-entry c =
     let options = c.args.judging.now.options in
     let ops = c.into_schedule-theirs.ensures.ops in
     let rows = c.into_schedule-theirs.ensures.rows in
+    let judgement = c.in_ok-judgement.judgement in
     let checked : Checked = record c.found-found.result { kind = c.kind_of.result } in (
-      entry_as (passes options.lawful checked) options.form p.claimed p.ops p.rows c.in_ok-verdict.verdict checked,
+      entry_as (passes options.lawful checked) options.form p.claimed p.ops p.rows judgement.verdict judgement.origins.items checked,
       record {
-        verdict = c.in_ok-verdict.verdict;
-        right = rw (ops, rows) at c.in_ok-verdict.ensures.right;
-        own = rw (ops, rows) at c.in_ok-verdict.ensures.own;
+        verdict = judgement.verdict;
+        right = rw (ops, rows) at c.in_ok-judgement.ensures.right;
+        own = rw (ops, rows) at c.in_ok-judgement.ensures.own;
+        origins = judgement.origins.items;
+        are_origins = rw (ops, rows) at c.in_ok-judgement.ensures.origins;
         is_found = rw (c.kind_of.ensures, c.found-found.ensures, c.in_ok-keeps_operations.ensures, c.ops.ensures) refl;
         listed = refl;
       },

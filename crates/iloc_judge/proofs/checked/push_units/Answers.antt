@@ -9,12 +9,14 @@ returns-clause-entry c =
     let task = c.args.task.now in
     let options = c.args.judging.now.options in (
       entry_as (passes options.lawful c.found-checked.result) options.form p.claimed p.ops p.rows
-          (Units c.args.row c.in_ok-changes.changes) c.found-checked.result,
+          (Units c.args.row c.in_ok-changes.changes) c.new.result.items c.found-checked.result,
       record {
         verdict = Units c.args.row c.in_ok-changes.changes;
         right = (c.requires.bad, rw (c.ops-ops.ensures, c.rows-rows.ensures.rows) at c.in_ok-changes.ensures);
         own = λ same. absurd (own_rows_keep_units task.latencies.now task.block.now.ops task.ours.now.ops p.ops
             task.ours.now.rows p.rows c.args.row task.lawful c.rows-rows.ensures.in_range c.rows-rows.ensures.once same c.requires.bad);
+        origins = c.new.result.items;
+        are_origins = λ json. rw c.new.ensures.items refl;
         is_found = rw (c.found-checked.ensures, c.requires.keeps) refl;
         listed = refl;
       },

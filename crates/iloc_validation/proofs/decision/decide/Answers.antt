@@ -1,6 +1,17 @@
-use Rattle.iloc_validation.proofs.Common.{refl, IfOk-weaker}
+use Rattle.iloc_validation.proofs.Common.{◌≡◌, List, refl, IfOk-weaker, Op, Table, Latencies, without_nops, IsDecisionOf, Sides}
+use Rattle.iloc_validation.specs.Decision.{IsDecision}
+use Rattle.iloc_validation.specs.declared.decision.Decision.{Decision}
+use Rattle.iloc_validation.specs.declared.decision.Decision.TheVariants.{Lawful, Unlawful, Undecided}
 use Rattle.iloc_validation.proofs.InOrder.{lawful_count, lawful_in_order}
 use Rattle.iloc_validation.proofs.decision.decide.Goals as goal
+
+-- what is decided of both sides is decided of the block and the rows
+of_sides : (sides : Sides) (lat : Latencies) (block : List Op) (theirs : Table) → sides.block.items ≡ without_nops block
+    → sides.schedule.now ≡ theirs → sides.latencies.now ≡ lat → (decision : Decision) → IsDecisionOf sides decision
+    → IsDecision lat block theirs.ops theirs.rows decision
+of_sides sides lat block theirs own rows lats (Lawful pairing) is = rw (own, rows, lats) at is
+of_sides sides lat block theirs own rows lats Unlawful is = λ book. is book.0 book.1 (rw (own, rows, lats) book.2)
+of_sides sides lat block theirs own rows lats Undecided is = λ op. rw (own, rows) at (is op)
 
 pub returns-then-issue_the_same-clause-right : goal.returns-then-issue_the_same-clause-right
 returns-then-issue_the_same-clause-right c =
@@ -27,3 +38,9 @@ returns-clause-lawful c = IfOk-weaker c.decided.result _ _ (λ decision is lawfu
     absurd (rw c.in-None.is at (c.in_ok-pairing.ensures.own
     (rw (same.block, same.rows, same.latencies) under) (rw (same.block, same.rows) count))))
     c.decided.ensures
+
+pub returns-clause-right : goal.returns-clause-right
+returns-clause-right c =
+    let same = c.in_ok-sides.ensures in
+    IfOk-weaker c.decided.result _ _ (of_sides c.in_ok-sides.sides c.args.latencies.now c.args.block.now.ops c.args.theirs.now
+    same.block same.rows same.latencies) c.decided.ensures
