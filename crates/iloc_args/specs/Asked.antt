@@ -1,4 +1,4 @@
--- What the words of a command line ask for, as a function of these words.
+-- What a command line asks for, as a function of its words.
 use Rattle.std.specs.Prelude.{ℕ, Bool, false, if◌then◌else◌, List, [], map, Option, None, find, codes, option_and_then, option_map, unwrap_or}
 use Rattle.std.specs.Option.{option_map_or}
 use Rattle.std.specs.Str.{bytes_eq}
@@ -90,7 +90,7 @@ asked_as task rows = record {
   flags = flag_in rows;
 }
 
--- the task of the first of these commands that has this name
+-- the task of the first of `commands` that has `name`
 abbrev pub task_among : List Subcommand → Text → Option Task
 task_among commands name = option_map (λ e. e.task) (find (λ e. bytes_eq e.name name) commands)
 

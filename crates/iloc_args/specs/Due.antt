@@ -1,5 +1,5 @@
 -- What a command line comes to: a request, or one of the faults.
-use Rattle.std.specs.Prelude.{◌≡◌, ◌≢◌, ◌⊎◌, ◌<◌, ◌≤◌, ◌+◌, ◌*◌, ◌%◌, true, is_some, ℕ, List, [], Some, length}
+use Rattle.std.specs.Prelude.{◌≡◌, ◌≢◌, ◌⊎◌, ◌<◌, ◌≤◌, ◌+◌, ◌*◌, ◌%◌, is_some, ℕ, List, [], Some, length}
 use Rattle.clap.specs.Kinds.{IsAmong, Kinds}
 use Rattle.clap.specs.Words.{Text, fault_of}
 use Rattle.clap.specs.declared.error.kind.ErrorKind.{ErrorKind}
@@ -9,7 +9,7 @@ use Rattle.iloc_args.specs.Asked.{Asked, asked}
 use Rattle.iloc_args.specs.Command.{farm_app}
 use Rattle.iloc_args.specs.Priority.{IsNoPriority}
 use Rattle.iloc_args.specs.declared.fault.Exclusion.{Exclusion}
-use Rattle.iloc_args.specs.Exclusions.{excludes}
+use Rattle.iloc_args.specs.Exclusions.{first_excluded}
 use Rattle.iloc_args.specs.declared.fault.LineFault.{LineFault}
 use Rattle.iloc_args.specs.declared.fault.LineFault.TheVariants.{Help, Refused, BadStart, TooManyWords, NoSuchPriority, Excluded, NoMemory}
 
@@ -39,11 +39,12 @@ pub record RanksByNone (a : Asked) : Type 0 where
   pub fits : a.at + 4 * length a.words ≤ 4 * WORDS
   pub none : IsNoPriority a.priority
 
--- the words fit into the memory, and options are given that exclude each other
+-- the words fit into the memory, the priority is one, and `exclusion` names the first options that exclude each other
 pub record AsksForBoth (exclusion : Exclusion) (a : Asked) : Type 0 where
   pub aligned : a.at % 4 ≡ 0
   pub fits : a.at + 4 * length a.words ≤ 4 * WORDS
-  pub both : excludes a.task a.flags (is_some a.priorities_file) (is_some a.task_file) exclusion ≡ true
+  pub known : IsNoPriority a.priority → ⊥
+  pub first : first_excluded a.task a.flags (is_some a.priorities_file) (is_some a.task_file) ≡ Some exclusion
 
 -- an error of this kind is a text that was asked for
 abbrev pub IsAskedFor : ErrorKind → Type 0

@@ -3,7 +3,7 @@ use Rattle.std.specs.Prelude.{ℕ, List, ◌++◌, codes}
 use Rattle.std.specs.List.{join_by}
 use Rattle.std.specs.String.{string_bytes}
 use Rattle.iloc_args.specs.declared.fault.Exclusion.{Exclusion}
-use Rattle.iloc_args.specs.declared.fault.Exclusion.TheVariants.{CsvAndJson, PrioritiesAndTask, LawfulAndDisambiguate, TaskAndDisambiguate}
+use Rattle.iloc_args.specs.declared.fault.Exclusion.TheVariants.{CsvAndJson, PrioritiesAndTask, LawfulAndDisambiguate, TaskAndDisambiguate, TaskAndCycles}
 use Rattle.iloc_args.specs.declared.fault.LineFault.{LineFault}
 use Rattle.iloc_args.specs.declared.fault.LineFault.TheVariants.{Help, Refused, BadStart, TooManyWords, NoSuchPriority, Excluded, NoMemory}
 use Rattle.iloc_args.specs.Priority.{priority_word}
@@ -15,8 +15,9 @@ excluded_text CsvAndJson = codes "--csv and --json exclude each other"
 excluded_text PrioritiesAndTask = codes "--priorities and --task exclude each other"
 excluded_text LawfulAndDisambiguate = codes "--lawful and --disambiguate exclude each other"
 excluded_text TaskAndDisambiguate = codes "--task and --disambiguate exclude each other"
+excluded_text TaskAndCycles = codes "--task and --cycles exclude each other"
 
--- what is said of a fault: the parser's own text, or one of these
+-- what is said of a fault: the parser's own text, or one of the texts below
 abbrev pub line_text : LineFault → List ℕ
 line_text (Help text) = string_bytes text
 line_text (Refused text) = string_bytes text

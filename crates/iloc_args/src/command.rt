@@ -451,7 +451,7 @@ fn top_command<'a>(alloc: Global) -> Result<Command<'a>, AllocError>
     )
 }
 
-/// The program with these commands.
+/// The program with `commands`.
 fn with_commands<'a>(alloc: Global, entries: &[Entry]) -> Result<Command<'a>, AllocError>
     ensures { IfOk result (HasApp (app_with entries.now)) }
 {
@@ -469,14 +469,14 @@ pub(crate) fn farm_command<'a>(alloc: Global) -> Result<Command<'a>, AllocError>
     with_commands(alloc, &COMMANDS)
 }
 
-/// The first of these commands that has this name.
+/// The first of the commands that has `name`.
 fn entry_named(entries: &[Entry], name: &str) -> Option<Entry>
     ensures { result ≡ find (λ (e : entry_value). bytes_eq e.name.now name.now) entries.now }
 {
     entries.iter().copied().find(|entry| entry.name == name)
 }
 
-/// The task of the first of these commands that has this name.
+/// The task of the first of the commands that has `name`.
 fn task_in(entries: &[Entry], name: &str) -> Option<Task>
     ensures { result ≡ task_among (map subcommand_for entries.now) name.now }
 {

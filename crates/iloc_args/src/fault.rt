@@ -23,6 +23,8 @@ pub enum Exclusion {
     LawfulAndDisambiguate,
     /// Rows that others made are explained, which is done by the book, and blocks are scheduled by address.
     TaskAndDisambiguate,
+    /// Rows that others made are explained, which lists no cycles, and cycles are listed.
+    TaskAndCycles,
 }
 
 /// Why a command line gives no request. Its `Display` is the text for the user.
@@ -54,6 +56,7 @@ impl Exclusion {
             Exclusion::PrioritiesAndTask => "--priorities and --task exclude each other",
             Exclusion::LawfulAndDisambiguate => "--lawful and --disambiguate exclude each other",
             Exclusion::TaskAndDisambiguate => "--task and --disambiguate exclude each other",
+            Exclusion::TaskAndCycles => "--task and --cycles exclude each other",
         }
     }
 }

@@ -1,5 +1,5 @@
 //! Reading a command line.
-ghost use Rattle.std.specs.Prelude.{◌≡◌, ◌≤◌, IfErr, IfOk, MatchOption, OnOk, [], codes, false, map, option_map, true};
+ghost use Rattle.std.specs.Prelude.{◌≡◌, ◌≤◌, IfErr, IfNone, IfOk, MatchOption, OnOk, [], codes, false, map, option_map, true};
 ghost use Rattle.std.specs.Option.{ForSome};
 ghost use Rattle.std.specs.String.{string_bytes};
 ghost use Rattle.clap.specs.Words.{first_of, found_of, has_subcommand, rows_of, subcommand_of};
@@ -7,7 +7,7 @@ ghost use Rattle.clap.specs.Words.{subcommand_rows_of};
 ghost use Rattle.iloc_args.specs.Asked.{asked_as, asked_in, number_if, number_or, numbers_in, priorities_in, text_or};
 ghost use Rattle.iloc_args.specs.Command.{farm_app};
 ghost use Rattle.iloc_args.specs.Due.{Asks, IsDue, faults_in};
-ghost use Rattle.iloc_args.specs.Exclusions.{excludes};
+ghost use Rattle.iloc_args.specs.Exclusions.{excludes, first_excluded};
 ghost use Rattle.iloc_args.specs.Flags.{has};
 ghost use Rattle.iloc_args.specs.Priority.{IsNoPriority, priority_word};
 ghost use Rattle.iloc_args.specs.Ranking.{ranks_by_own};
@@ -117,11 +117,12 @@ fn request_in(alloc: Global, task: Task, given: &ArgMatches<'_>) -> Result<Reque
     })
 }
 
-/// What a command is given of options that exclude each other, by its flags, and whether it has `--priorities` and `--task`.
+/// The first options that exclude each other of which a command is given both, by its flags, and whether it has
+/// `--priorities` and `--task`.
 fn excluded(task: Task, flags: Flags, ranked: bool, apart: bool) -> Option<Exclusion>
-    ensures { MatchOption result
-        ((exclusion : exclusion_value) → excludes task (has flags) ranked apart exclusion ≡ false)
-        (λ exclusion. excludes task (has flags) ranked apart exclusion ≡ true) }
+    ensures first { result ≡ first_excluded task (has flags) ranked apart }
+    ensures none { IfNone result ((exclusion : exclusion_value)
+        → excludes task (has flags) ranked apart exclusion ≡ false) }
 {
     let by_address = flags.has(Flag::Disambiguate);
     if flags.has(Flag::Csv) && flags.has(Flag::Json) {
@@ -132,6 +133,8 @@ fn excluded(task: Task, flags: Flags, ranked: bool, apart: bool) -> Option<Exclu
         Some(Exclusion::LawfulAndDisambiguate)
     } else if task == Task::Explain && apart && by_address {
         Some(Exclusion::TaskAndDisambiguate)
+    } else if task == Task::Explain && apart && flags.has(Flag::Cycles) {
+        Some(Exclusion::TaskAndCycles)
     } else {
         None
     }

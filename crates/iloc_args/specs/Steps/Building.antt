@@ -53,7 +53,7 @@ rule_for (FlagSaying flag help) = flag_rule flag
 abbrev pub subcommand_for : Entry → Subcommand
 subcommand_for e = record { name = e.name.now; task = e.task; rules = map rule_for e.arguments.now }
 
--- a command of this name with these arguments
+-- a command with a name and arguments
 abbrev pub with_arguments : Text → List Argument → App
 with_arguments name arguments = alone (record (new_shape name) { rules = map rule_for arguments })
 
@@ -61,6 +61,6 @@ with_arguments name arguments = alone (record (new_shape name) { rules = map rul
 abbrev pub app_for : Entry → App
 app_for e = with_arguments e.name.now e.arguments.now
 
--- the program with these commands
+-- the program with commands
 abbrev pub app_with : List Entry → App
 app_with entries = fold (λ a e. with_subcommand a (app_for e).top) (alone top_shape) entries

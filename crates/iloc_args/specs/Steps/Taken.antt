@@ -6,7 +6,7 @@ use Rattle.iloc_meaning.specs.Address.{LAST_ADDRESS}
 use Rattle.iloc_timed.specs.Limits.{LONGEST_LATENCY}
 use Rattle.iloc_args.specs.Asked.{number_of}
 
--- the text writes a number within these bounds
+-- `text` writes a number from `low` to `high`
 pub record IsNumberIn (low high : ℕ) (text : Text) : Type 0 where
   pub numeral : IsNumeral 10 (without_leading_plus text)
   pub at_least : low ≤ number_of text
@@ -17,7 +17,7 @@ abbrev pub AreNumbersIn : ℕ → ℕ → List Text → Type 0
 AreNumbersIn low high [] = Unit {0}
 AreNumbersIn low high (text ∷ rest) = IsNumberIn low high text × AreNumbersIn low high rest
 
--- the matches have nothing for this option, or a number within these bounds
+-- the matches have nothing for an option, or a number within its bounds
 abbrev pub HoldsIn : ℕ → ℕ → Text → List Row → Type 0
 HoldsIn low high id rows = IfSome (one_of id rows) (IsNumberIn low high)
 
