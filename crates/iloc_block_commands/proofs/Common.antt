@@ -11,7 +11,8 @@ pub use Rattle.iloc_timed.specs.Schedule.{Table}
 pub use Rattle.iloc_timed.specs.Timed.{timed_outcome}
 pub use Rattle.iloc_timed.specs.declared.latencies.Latencies.{Latencies}
 pub use Rattle.iloc_rules.specs.Heuristics.Listed.{heuristics}
-pub use Rattle.iloc_rules.specs.Rule.{counts_by, priorities_under}
+pub use Rattle.iloc_rules.specs.Rule.{counts_by}
+pub use Rattle.iloc_rules.specs.Heuristics.{priorities_under}
 pub use Rattle.iloc_rules.specs.declared.heuristic.Heuristic.{Heuristic}
 pub use Rattle.iloc_rules.specs.declared.heuristic.Heuristic.TheVariants.{Chain}
 pub use Rattle.iloc_rules.specs.declared.memory_rule.MemoryRule.{MemoryRule}
@@ -23,12 +24,12 @@ pub use Rattle.iloc_args.specs.Rule.{memory_rule}
 pub use Rattle.iloc_args.specs.declared.flag.Flag.TheVariants.{Csv, Where}
 pub use Rattle.iloc_listing.proofs.Schedules.{cycles_few_where, the_greedy_under}
 pub use Rattle.iloc_listing.specs.Limits.{most_cycles}
-pub use Rattle.iloc_listing.specs.Listing.{bound_comment, count_line, cycles_of, entries, opening_as, outcome_entry, schedule_entry, shown_entry, total_of_all, words_or_fault}
+pub use Rattle.iloc_listing.specs.Listing.{bound_comment, count_ending, count_header, count_line, cycles_of, entries, listing_of_counts, opening_as, outcome_entry, schedule_entry, shown_entry, total_of_all, words_or_fault}
 pub use Rattle.iloc_listing.specs.Schedules.{IsCountUnder, ranks_under}
 pub use Rattle.iloc_driver.proofs.Entries.{if_ok, lined_listing, made_listing}
 pub use Rattle.iloc_driver.specs.Priorities.{Own, own_of}
 pub use Rattle.iloc_block_commands.specs.Compare.{AreCounts, IsCompareEntry, IsCompareListing, IsComparedCycles, IsOwnCount, column, columns, compare_ending, compare_line, counted_by, cycles_by, ending_for, fewest, opening_for, optimal, place, sums_line, tally_line}
-pub use Rattle.iloc_block_commands.specs.Counts.{IsCountEntry, IsCountListing, count_ending, count_header, listing_of_counts}
+pub use Rattle.iloc_block_commands.specs.Counts.{IsCountEntry, IsCountListing}
 pub use Rattle.iloc_block_commands.specs.Optimize.{IsOptimizeEntry}
 pub use Rattle.iloc_block_commands.specs.Schedule.{IsScheduleEntry}
 pub use Rattle.iloc_block_commands.specs.Steps.Tallies.{added, counted}

@@ -12,7 +12,7 @@ use Rattle.iloc_driver.specs.Work.{by_own}
 use Rattle.iloc_rules.specs.Greedy.{IsGreedyWhere}
 use Rattle.iloc_rules.specs.Renaming.{numbering, renamed, without_nops}
 use Rattle.iloc_rules.proofs.Renamed.MentionedSources.{length-renamed_by}
-use Rattle.iloc_driver.specs.Entries.{AreListed, Adds}
+use Rattle.iloc_driver.specs.Entries.{AreListed, AppendsEntry}
 
 -- the words, or that there is a fault, are what is shown, unless the place of the fault is asked for
 pub shown_plainly : (asked : Bool) (ops : List Op) (memory : List ℤ) (came : Outcome) (words : Option (List ℤ))
@@ -29,14 +29,14 @@ one_shown asked ops memory came text text' is is' = grind (arith, one_place)
 module _ (request : Request) (k : ℕ) (b : Block) (text more : List ℕ) (name : Option (List ℕ)) (named : name ≡ b.name) where
   pub run_listed : (words : Option (List ℤ)) → words ≡ shown (outcome b.ops (initial_memory request))
       → (has request.flags Where && is_none words) ≡ false → more ≡ text ++ shown_entry k name words
-      → Adds (IsRunEntry request k b) text more tt
+      → AppendsEntry (IsRunEntry request k b) text more tt
   run_listed words are plain added = grind (arith, shown_plainly)
 
   module _ (s : Table) (greedy : IsGreedyWhere (counts_by (memory_rule request) s.ops)
       (priorities_under (memory_rule request) request.priority request.latencies s.ops) request.latencies b.ops s.ops s.rows) where
     pub simulate_listed : (words : Option (List ℤ))
         → words ≡ shown (timed_outcome request.latencies s.ops s.rows (initial_memory request))
-        → more ≡ text ++ shown_entry k name words → Adds (IsSimulateEntry request k b) text more tt
+        → more ≡ text ++ shown_entry k name words → AppendsEntry (IsSimulateEntry request k b) text more tt
     simulate_listed words are added = record {
       entry = outcome_entry k b.name (timed_outcome request.latencies s.ops s.rows (initial_memory request));
       right = record {

@@ -8,7 +8,7 @@ use Rattle.std.specs.Fmt.{decimal}
 use Rattle.iloc_ops.specs.declared.file.Block.{Block}
 use Rattle.iloc_timed.specs.declared.latencies.Latencies.{Latencies}
 use Rattle.iloc_rules.specs.declared.memory_rule.MemoryRule.{MemoryRule}
-use Rattle.iloc_rules.specs.Rule.{priorities_under}
+use Rattle.iloc_rules.specs.Heuristics.{priorities_under}
 use Rattle.iloc_bound.specs.Bound.{least_under}
 use Rattle.iloc_rules.specs.declared.heuristic.Heuristic.{Heuristic}
 use Rattle.iloc_rules.specs.declared.heuristic.Heuristic.TheVariants.{Chain}
@@ -46,8 +46,8 @@ abbrev pub IsOwnCount : MemoryRule → Latencies → Option (List ℕ) → Block
 IsOwnCount rule lat None b count = count ≡ None
 IsOwnCount rule lat (Some numbers) b count = MatchOption count ⊥ (IsCountUnder rule (λ _. numbers) lat b)
 
--- by a rule of memory the bound on the block's cycles, what is found of them where the request has nodes, and those of its
--- schedules, also by these priorities of its own if it has some
+-- by `rule` the bound on the cycles of the block `b`, what is found of them if the request has `nodes`, and the cycles
+-- of its schedules, also by `numbers`, priorities of its own, if it has some
 pub record IsComparedCycles (rule : MemoryRule) (lat : Latencies) (nodes : Option ℕ) (numbers : Option (List ℕ)) (b : Block)
     (c : ComparedCycles) : Type 0 where
   pub bound : c.least ≡ least_under rule lat b.ops
@@ -67,7 +67,7 @@ best_of c = option_map_or (λ s. s.best) c.sought 0
 abbrev pub is_fewest : ℕ → ComparedCycles → Bool
 is_fewest cycles c = list_all (nat_le cycles) c.cycles && option_map_or (nat_le cycles) c.own true
 
--- 1 for a block where one of so many cycles has the fewest
+-- 1 for a block where one of the `cycles` has the fewest
 abbrev pub fewest : ℕ → ComparedCycles → ℕ
 fewest cycles c = if is_fewest cycles c then 1 else 0
 
@@ -87,7 +87,7 @@ counted_own counted c = option_map_or (λ cycles. counted cycles c) c.own 0
 abbrev pub column : Bool → Heuristic → ℕ → List ℕ
 column csv heuristic number = field csv (priority_word heuristic) number
 
--- a number for each of these heuristics
+-- the `number` of each heuristic of `each`
 abbrev pub columns : Bool → (Heuristic → ℕ) → List Heuristic → List ℕ
 columns csv number each = flat_map (λ heuristic. column csv heuristic (number heuristic)) each
 
@@ -169,7 +169,7 @@ abbrev pub compare_totals : Option ℕ → Bool → List ComparedCycles → List
 compare_totals nodes own found =
     sums_line nodes own found ++ tally_line (codes "fewest") own fewest found ++ tally_line (codes "optimal") own optimal found
 
--- these, which a table has not
+-- the totals, which a table has not
 abbrev pub compare_ending : Bool → Option ℕ → Bool → List ComparedCycles → List ℕ
 compare_ending true nodes own found = []
 compare_ending false nodes own found = compare_totals nodes own found
@@ -181,7 +181,7 @@ opening_for request = opening_as (has request.flags Csv) (compare_header request
 abbrev pub ending_for : Request → List ComparedCycles → List ℕ
 ending_for request found = compare_ending (has request.flags Csv) request.nodes (is_some request.priorities_file) found
 
--- the listing of these blocks for the request, with their own priorities if there are some
+-- `text` is the listing of `blocks` for `request`, with their own priorities if there are some
 abbrev pub IsCompareListing : Request → Own → List Block → List ℕ → Type 0
 IsCompareListing request own blocks text =
     IsListingAfter (λ k. IsCompareEntry request (own_of own k) k) (opening_for request) (ending_for request) blocks text

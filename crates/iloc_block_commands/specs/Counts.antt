@@ -1,5 +1,5 @@
 -- `counts` lists how many cycles each block's schedule takes.
-use Rattle.std.specs.Prelude.{◌≡◌, ◌++◌, ℕ, Bool, true, false, List, [], Option, codes}
+use Rattle.std.specs.Prelude.{◌≡◌, ℕ, List, Option}
 use Rattle.iloc_ops.specs.declared.file.Block.{Block}
 use Rattle.iloc_timed.specs.Schedule.{Table}
 use Rattle.iloc_args.specs.Flags.{has}
@@ -7,7 +7,7 @@ use Rattle.iloc_args.specs.declared.flag.Flag.TheVariants.{Csv}
 use Rattle.iloc_args.specs.declared.request.Request.{Request}
 use Rattle.iloc_args.specs.Rule.{memory_rule}
 use Rattle.iloc_driver.specs.Entries.{IsListingAfter}
-use Rattle.iloc_listing.specs.Listing.{count_line, cycles_of, entries, opening_as, total_of_all}
+use Rattle.iloc_listing.specs.Listing.{count_ending, count_header, count_line, cycles_of, listing_of_counts, opening_as}
 use Rattle.iloc_listing.specs.Schedules.{IsCountUnder, IsTheGreedyUnder, ranks_under}
 use Rattle.iloc_driver.specs.Command.{Command, shared_by}
 use Rattle.iloc_driver.specs.Priorities.{Own, own_of}
@@ -22,25 +22,11 @@ pub record IsCountEntry (request : Request) (own : Option (List ℕ)) (k : ℕ) 
   pub listed : entry ≡ count_line (has request.flags Csv) k b.name (cycles_of request.latencies schedule)
   pub counted : cycles ≡ cycles_of request.latencies schedule
 
--- what a table begins with
-abbrev pub count_header : List ℕ
-count_header = codes "block,name,cycles\n"
-
--- `total C`, which a table has not
-abbrev pub count_ending : Bool → List ℕ → List ℕ
-count_ending true cycles = []
-count_ending false cycles = total_of_all cycles
-
--- the listing of these blocks for the request, with their own priorities if there are some
+-- `text` is the listing of `blocks` for `request`, with their own priorities if there are some
 abbrev pub IsCountListing : Request → Own → List Block → List ℕ → Type 0
 IsCountListing request own blocks text =
     IsListingAfter (λ k. IsCountEntry request (own_of own k) k) (opening_as (has request.flags Csv) count_header)
     (count_ending (has request.flags Csv)) blocks text
-
--- that of blocks of which these are the cycles
-abbrev pub listing_of_counts : Bool → List Block → List ℕ → List ℕ
-listing_of_counts csv blocks cycles =
-    (opening_as csv count_header ++ entries (count_line csv) 1 blocks cycles) ++ count_ending csv cycles
 
 -- workers hand back the cycles
 abbrev pub counts_command : Command

@@ -21,7 +21,7 @@ pub record IsOptimizeEntry (rule : MemoryRule) (lat : Latencies) (k : ℕ) (b : 
   pub listed : entry ≡ schedule_entry lat k b.name best.schedule ++ bound_comment (Some best.bound) cycles
   pub counted : cycles ≡ cycles_of lat best.schedule
 
--- the listing of these blocks for the request
+-- `text` is the listing of `blocks` for `request`
 abbrev pub IsOptimizeListing : Request → Own → List Block → List ℕ → Type 0
 IsOptimizeListing request own blocks text =
     IsListingOf (IsOptimizeEntry (memory_rule request) request.latencies) total_of_all blocks text

@@ -21,7 +21,7 @@ pub record IsScheduleEntry (request : Request) (own : Option (List ℕ)) (k : �
   pub listed : entry ≡ schedule_entry request.latencies k b.name schedule
   pub counted : cycles ≡ cycles_of request.latencies schedule
 
--- the listing of these blocks for the request, with their own priorities if there are some
+-- `text` is the listing of `blocks` for `request`, with their own priorities if there are some
 abbrev pub IsScheduleListing : Request → Own → List Block → List ℕ → Type 0
 IsScheduleListing request own blocks text = IsListingOf (λ k. IsScheduleEntry request (own_of own k) k) total_of_all blocks text
 

@@ -4,7 +4,7 @@ use Rattle.iloc_ops.specs.declared.file.Block.{Block}
 use Rattle.iloc_meaning.specs.Outcome.{outcome}
 use Rattle.iloc_timed.specs.Schedule.{Table}
 use Rattle.iloc_timed.specs.Timed.{timed_outcome}
-use Rattle.iloc_rules.specs.Rule.{priorities_under}
+use Rattle.iloc_rules.specs.Heuristics.{priorities_under}
 use Rattle.iloc_args.specs.declared.request.Request.{Request}
 use Rattle.iloc_args.specs.Rule.{memory_rule}
 use Rattle.iloc_driver.specs.Command.{initial_memory, Command, of_files}

@@ -87,7 +87,7 @@ enum Tally {
 }
 
 impl Tally {
-    /// What one block adds for a schedule of so many cycles.
+    /// What the block of `comparison` adds to the tally for a schedule of `cycles` cycles.
     fn of(self, cycles: u32, comparison: &ComparedCycles) -> u32
         ensures { result ≡ counted self cycles comparison.now }
     {
@@ -410,7 +410,7 @@ pub struct CompareLister {
     optimizer: Optimizer,
 }
 
-/// How many cycles the schedule of this graph's block by these numbers takes.
+/// How many cycles the schedule of the block of `graph` takes that is greedy by `numbers`.
 fn count_by(scheduler: &mut Scheduler, graph: &Graph, numbers: &[u32]) -> Result<u32, NoMemory>
     requires { length numbers.now ≡ length graph.now.ops }
     ensures { IfOk result (λ cycles. (rule : rule_value) (lat : latencies_value) (block : block_value)

@@ -1,7 +1,7 @@
 //! `counts`: how many cycles blocks' schedules take.
 ghost use Rattle.std.specs.Prelude.{◌≡◌, ◌≤◌, ◌<◌, ◌++◌, length, IfOk, OnOk};
 ghost use Rattle.iloc_ops.specs.Limits.{MAX_BLOCKS};
-ghost use Rattle.iloc_block_commands.specs.Counts.{count_ending};
+ghost use Rattle.iloc_listing.specs.Listing.{count_ending};
 
 use crate::schedule::lend;
 use iloc_args::{Flag, Request};
@@ -14,7 +14,7 @@ use std::alloc::Global;
 /// What a table begins with.
 const HEADER: &[u8] = b"block,name,cycles\n";
 
-/// Appends the line of these cycles together, but in a table.
+/// Appends the line with the sum of `cycles`, but not in a table.
 fn push_ending(text: &mut Vec<u8>, csv: bool, cycles: &[u32]) -> Result<(), NoMemory>
     requires { length cycles.now ≤ MAX_BLOCKS }
     ensures { OnOk result (text.new.items ≡ text.old.items ++ count_ending csv cycles.now) }
@@ -35,10 +35,11 @@ pub struct CountLister {
 impl FarmedLister for CountLister {
     ghost use Rattle.iloc_args.specs.Flags.{has};
     ghost use Rattle.iloc_args.specs.declared.flag.Flag.TheVariants.{Csv};
-    ghost use Rattle.iloc_block_commands.specs.Counts.{IsCountListing, listing_of_counts};
+    ghost use Rattle.iloc_block_commands.specs.Counts.{IsCountListing};
     ghost use Rattle.iloc_driver.specs.Entries.{AreListed};
     ghost use Rattle.iloc_driver.specs.Priorities.{Own};
     ghost use Rattle.iloc_args.specs.Rule.{memory_rule};
+    ghost use Rattle.iloc_listing.specs.Listing.{listing_of_counts};
     ghost use Rattle.iloc_listing.specs.Schedules.{IsCountUnder, ranks_under};
     ghost use Rattle.iloc_driver.specs.Work.{by_own};
 

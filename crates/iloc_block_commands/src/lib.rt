@@ -9,7 +9,7 @@ mod run;
 mod schedule;
 mod simulate;
 
-pub use compare::CompareLister;
+pub use compare::{CompareLister, ComparedCycles};
 pub use counts::CountLister;
 pub use lint::linted;
 pub use optimize::OptimizeLister;

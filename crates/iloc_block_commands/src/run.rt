@@ -84,7 +84,7 @@ fn push_faulting(
     push_place(text, block, place)
 }
 
-/// Whether it is listed where a block faults that emitted these words, or none.
+/// Whether it is listed where a block faults that emitted `words`, or faulted where there are none.
 fn is_placed(request: &Request, words: Option<&[i32]>) -> bool
     ensures { result ≡ (has request.now.flags Where && is_none (option_copied words.entry)) }
 {

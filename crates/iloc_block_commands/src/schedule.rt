@@ -17,8 +17,8 @@ use iloc_sched::{Graph, Scheduler};
 use iloc_timed::Schedule;
 use std::alloc::Global;
 
-/// The schedule of this graph's block by its rule of memory that is greedy by these numbers, if it has some of its own, or else
-/// by this heuristic.
+/// The schedule of the block of `graph`, by its rule of memory, that is greedy by its `own` numbers if it has some,
+/// else by `heuristic`.
 pub(crate) fn lend(
     scheduler: &mut Scheduler,
     graph: &Graph,

@@ -9,10 +9,11 @@ pub use Rattle.iloc_ops.specs.declared.file.Block.{Block}
 pub use Rattle.iloc_board.specs.Views.{state}
 pub use Rattle.iloc_board.specs.Working.{IsDone}
 pub use Rattle.iloc_driver.specs.Command.{Command, initial_memory}
-pub use Rattle.iloc_driver.specs.Entries.{Adds, AreEntries, AreListed, IsListingAfter, IsListingOf, ListsRead, OfBlock}
+pub use Rattle.iloc_driver.specs.Entries.{AppendsEntry, AreEntries, AreListed, IsListingAfter, IsListingOf, ListsRead, OfBlock}
 pub use Rattle.iloc_driver.specs.Fault.{fault_of_numbers, fault_of_stream, file_status, finding_of, numbers_status, numbers_text, priorities_status, rows_status, task_status, text_status}
 pub use Rattle.iloc_driver.specs.Priorities.{AreFor, AreIn, after_word, first_and, is_space, none_of, number_after, number_of, numbers_from, priorities_from, priorities_in, without}
-pub use Rattle.iloc_driver.specs.Program.{Args, AskFor, IsHelp, IsStopped, MakeNone, Says, named_line, status_of}
+pub use Rattle.iloc_driver.specs.Program.{IsHelp, IsStopped, MakeNone, Says, named_line, status_of}
+pub use Rattle.iloc_driver.specs.Words.{Args, AskFor}
 pub use Rattle.iloc_driver.specs.Run.Apart.{Held, Holds, ReadsApart, ReadsTask}
 pub use Rattle.iloc_driver.specs.Run.Causes.{HasNoneFor, IsCaused, ReadsFile, Refuses, of_file, of_ranked_file, of_shared_file}
 pub use Rattle.iloc_driver.specs.Steps.Listed.{AreListedTo, Grows, ToList}

@@ -1,5 +1,5 @@
 -- What is proposed for blocks, listed block by block.
-use Rattle.iloc_driver.proofs.Common.{◌≡◌, ℕ, ◌+◌, Bool, List, [], ◌∷◌, ◌++◌, length, All, zip, sym, refl, ap, ◌∙◌, subst, append_assoc, append-nil, arith, length-append, All-push, list_all, Block, Adds, finding_of, AreListedTo}
+use Rattle.iloc_driver.proofs.Common.{◌≡◌, ℕ, ◌+◌, Bool, List, [], ◌∷◌, ◌++◌, length, All, zip, sym, refl, ap, ◌∙◌, subst, append_assoc, append-nil, arith, length-append, All-push, list_all, Block, AppendsEntry, finding_of, AreListedTo}
 use Rattle.iloc_rows.specs.declared.proposal.Proposed.{Proposed}
 use Rattle.iloc_driver.specs.Rows.{ListsRows}
 use Rattle.iloc_driver.specs.declared.commands.Finding.{Finding}
@@ -37,7 +37,7 @@ module _ {X F : Type 0} (lists : ℕ → X → List ℕ → F → Type 0) (fits 
 
   -- one more
   pub one_listed : (left rest : List X) (x : X) (text more : List ℕ) (found now : List F) (f : F) (n : ℕ) → left ≡ x ∷ rest
-      → AreListedTo lists fits opening all left text found → n ≡ length found + 1 → Adds (lists n x) text more f → fits f
+      → AreListedTo lists fits opening all left text found → n ≡ length found + 1 → AppendsEntry (lists n x) text more f → fits f
       → now ≡ found ++ f ∷ [] → AreListedTo lists fits opening all rest more now
   one_listed left rest x text more found now f n next so_far number adds small kept = record {
     done = so_far.done ++ x ∷ [];

@@ -31,11 +31,6 @@ pub data Listers : Type 1 where
   Shared : (A : Type 0) → (Request → Option (List ℕ) → ℕ → Block → A → Type 0) → (A → ℕ)
       → (Request → List Block → List A → List ℕ) → Listers
 
--- who lists what a command reads: of rows one thread
-abbrev pub listers_of : Listers → Input → Listers
-listers_of listers OfFile = listers
-listers_of listers _ = Alone
-
 -- the file of priorities that is read for a request: where workers list the blocks
 abbrev pub priorities_file : Listers → Request → Option (String Global)
 priorities_file Alone request = None

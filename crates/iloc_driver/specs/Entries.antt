@@ -8,7 +8,7 @@ use Rattle.iloc_driver.specs.Priorities.{Own}
 -- `lists k b entry f` says that this is the entry of the block b, or of what else is listed, with the number k, of which f is
 -- found
 module _ {X F : Type 0} (lists : ℕ → X → List ℕ → F → Type 0) where
-  -- the text is the entries of these, numbered from k on, of which this is found
+  -- `text` is the entries of the blocks, numbered from `k` on, and the other list has what is found of each
   abbrev pub AreEntries : ℕ → List X → List F → List ℕ → Type 0
   AreEntries k [] [] text = text ≡ []
   AreEntries k [] (f ∷ found) text = ⊥
@@ -17,7 +17,8 @@ module _ {X F : Type 0} (lists : ℕ → X → List ℕ → F → Type 0) where
       (entry : List ℕ) × (rest : List ℕ) × lists k b entry f × AreEntries (k + 1) blocks found rest
       × (text ≡ entry ++ rest)
 
-  -- the text is this opening, the entries of these, numbered from 1 on, and the ending that follows from what is found of them
+  -- `text` is `opening`, the entries of `blocks`, numbered from 1 on, and the `ending` that follows from what is found
+  -- of them
   pub record IsListingAfter (opening : List ℕ) (ending : List F → List ℕ) (blocks : List X) (text : List ℕ)
       : Type 0 where
     pub found : List F
@@ -30,7 +31,7 @@ module _ {X F : Type 0} (lists : ℕ → X → List ℕ → F → Type 0) where
   IsListingOf ending blocks text = IsListingAfter [] ending blocks text
 
 -- an entry joined the text, of which this holds with what was found
-pub record Adds {F : Type 0} (is : List ℕ → F → Type 0) (text more : List ℕ) (found : F) : Type 0 where
+pub record AppendsEntry {F : Type 0} (is : List ℕ → F → Type 0) (text more : List ℕ) (found : F) : Type 0 where
   pub entry : List ℕ
   pub right : is entry found
   pub added : more ≡ text ++ entry
@@ -39,7 +40,8 @@ pub record Adds {F : Type 0} (is : List ℕ → F → Type 0) (text more : List 
 abbrev pub no_ending : List (Unit {0}) → List ℕ
 no_ending found = []
 
--- the bytes that were read denote a file, of whose blocks the text is the listing, with these priorities of their own
+-- the bytes that were read denote a file, and `text` is the listing of its blocks, with priorities of their own that
+-- `are_own`
 pub record ListsRead (is_listing : Own → List Block → List ℕ → Type 0) (are_own : List Block → Own → Type 0)
     (old new : Option (List ℕ)) (text : List ℕ) : Type 0 where
   pub input : List ℕ
@@ -56,7 +58,7 @@ module _ {A : Type 0} (lists : ℕ → Block → A → Type 0) where
   abbrev pub OfBlock : List Block → ℕ → A → Type 0
   OfBlock blocks i x = MatchOption (slice_get blocks i) ⊥ (λ (b : Block). lists (i + 1) b x)
 
-  -- each of these is listed of its block
+  -- `all` has what is listed of each of `blocks`
   pub record AreListed (blocks : List Block) (all : List A) : Type 0 where
     pub many : length all ≡ length blocks
     pub each : (i : ℕ) (x : A) → slice_get all i ≡ Some x → OfBlock blocks i x

@@ -178,10 +178,10 @@ fault_of_numbers (numbers.NotANumber k j) = Priorities (of_priorities.Text (numb
 fault_of_numbers (numbers.NoOperation k j) = Priorities (of_priorities.Text (numbers.NoOperation k j))
 fault_of_numbers numbers.NoMemory = no_memory
 
--- What holds where so many workers were to do the jobs of a board, for which so many passes were made and these journals
--- gathered, and it ended with this fault. No thread is started before all passes are made, and one that can't be started is
--- answered before any pass is gathered, so before memory that was refused to a worker. Contracts know nothing of what there
--- is, so it can't be said that a thread was refused, or memory, nor that no thread is left.
+-- What holds if `workers` workers were to do the jobs of a board, `made` passes were made, the journals `gathered` were
+-- gathered, and it ended with the fault. No thread is started before all passes are made, and one that can't be started
+-- is answered before any pass is gathered, so before memory that was refused to a worker. Contracts know nothing of
+-- what there is, so it can't be said that a thread was refused, or memory, nor that no thread is left.
 abbrev pub EndsWork : ℕ → ℕ → List JournalView → FarmFault → Type 0
 EndsWork workers made gathered farm.NoThread = (made ≡ workers) × (gathered ≡ [])
 EndsWork workers made gathered farm.NoMemory = Unit {0}

@@ -7,4 +7,5 @@ pub mod Program
 pub mod Rows
 pub mod Run
 pub mod Steps
+pub mod Words
 pub mod Work

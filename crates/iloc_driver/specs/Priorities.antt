@@ -18,7 +18,7 @@ use Rattle.iloc_driver.specs.declared.fault.NumbersFault.TheVariants.{TooLong, N
 abbrev pub if_small : ℕ → Option ℕ
 if_small n = if nat_lt n (2 ^ 32) then Some n else None
 
--- the number that digits write after those of n, up to a blank or the end of the line, if it is so small
+-- the number that digits write after the digits of `n`, up to a blank or the end of the line, if it is small enough
 abbrev pub number_after : ℕ → List ℕ → Option ℕ
 number_after n [] = if_small n
 number_after n (c ∷ cs) =
@@ -34,7 +34,7 @@ abbrev pub after_word : List ℕ → List ℕ
 after_word [] = []
 after_word (c ∷ cs) = if is_blank c then cs else after_word cs
 
--- a text from the first byte on that isn't such a one
+-- a text from its first byte on of which `p` doesn't hold
 abbrev pub without : (ℕ → Bool) → List ℕ → List ℕ
 without p [] = []
 without p (c ∷ cs) = if p c then without p cs else c ∷ cs
@@ -59,7 +59,7 @@ numbers_from k j (suc n) line =
 abbrev pub is_space : ℕ → Bool
 is_space c = is_blank c || is_line_end c
 
--- the numbers of these blocks in the rest of the text, the first of which is block k; a line that is missing is empty
+-- the numbers of the blocks in the rest of the text, the first of which is block `k`; a line that is missing is empty
 abbrev pub priorities_from : ℕ → List Block → List ℕ → Result (List (List ℕ)) NumbersFault
 priorities_from k [] text = none_of k 0 (without is_space text)
 priorities_from k (b ∷ blocks) text =
@@ -74,7 +74,7 @@ priorities_in text blocks = if nat_lt MAX_INPUT (length text) then Err TooLong e
 abbrev pub Own : Type 0
 Own = Option (List (List ℕ))
 
--- those of block k, counted from 1
+-- the numbers of block `k`, counted from 1
 abbrev pub own_of : Own → ℕ → Option (List ℕ)
 own_of own k = option_and_then (λ all. slice_get all (k - 1)) own
 
@@ -83,7 +83,7 @@ abbrev pub AreFor : Own → List Block → Type 0
 AreFor own blocks = (i : ℕ) (b : Block) → slice_get blocks i ≡ Some b
     → IfSome (own_of own (i + 1)) (λ numbers. length numbers ≡ length (without_nops b.ops))
 
--- a text of which this is known was read, and has these numbers of the blocks
+-- a text was read of which `known` says what is known, and `own` has its numbers of `blocks`
 pub record HasPriorities (known : Option (List ℕ)) (blocks : List Block) (own : Own) : Type 0 where
   pub text : List ℕ
   pub held : Holds known text
@@ -91,7 +91,7 @@ pub record HasPriorities (known : Option (List ℕ)) (blocks : List Block) (own 
   pub read : priorities_in text blocks ≡ Ok numbers
   pub is : own ≡ Some numbers
 
--- the numbers of the blocks are those in the file that is named, and there are none where no file is
+-- `own` has the numbers of the blocks from the file that is named, or none where no file is
 abbrev pub AreIn : Option (String Global) → Held → List Block → Own → Type 0
 AreIn None held blocks own = own ≡ None
 AreIn (Some name) held blocks own = HasPriorities (held (string_bytes name)) blocks own

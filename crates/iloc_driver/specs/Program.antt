@@ -1,16 +1,14 @@
 -- What the program does with its words, its input and its two writers.
-use Rattle.std.specs.Prelude.{◌≡◌, ◌≢◌, ◌⊎◌, ℕ, List, ◌++◌, Option, Result, Ok, Err, MatchResult, codes, drop, map}
+use Rattle.std.specs.Prelude.{◌≡◌, ◌≢◌, ◌⊎◌, ℕ, List, ◌++◌, Option, Result, Ok, Err, MatchResult, codes}
 use Rattle.std.specs.Io.KnownBytes.{Appends, Keeps}
 use Rattle.std.specs.IoError.{error_kind}
 use Rattle.std.specs.String.{string_bytes}
-use Rattle.std.specs.Vec.Iter.{into_iter_items}
 use Rattle.std.specs.declared.alloc.Global.{Global}
 use Rattle.std.specs.declared.io.Error.{Error}
 use Rattle.std.specs.declared.io.ErrorKind.TheVariants.{OutOfMemory}
 use Rattle.std.specs.declared.string.String.{String}
-use Rattle.std.specs.declared.vec.IntoIter.{IntoIter}
-use Rattle.iloc_args.specs.Asked.{Asked, asked_in}
-use Rattle.iloc_args.specs.Due.{Asks, IsDue}
+use Rattle.iloc_args.specs.Asked.{asked_in}
+use Rattle.iloc_args.specs.Due.{IsDue}
 use Rattle.iloc_args.specs.Fault.{line_text, status_of as line_status_of}
 use Rattle.iloc_args.specs.declared.fault.LineFault.{LineFault}
 use Rattle.iloc_args.specs.declared.fault.LineFault.TheVariants.{Help, Refused, BadStart, TooManyWords, NoSuchPriority, Excluded, NoMemory}
@@ -21,6 +19,7 @@ use Rattle.iloc_driver.specs.Run.Apart.{Held}
 use Rattle.iloc_listing.specs.Device.{WritesFront}
 use Rattle.iloc_driver.specs.Fault.{run_status_of, run_text, status_of_finding}
 use Rattle.iloc_driver.specs.Run.{EndsRun, ListsFrom}
+use Rattle.iloc_driver.specs.Words.{Args, AskFor, words_after}
 use Rattle.iloc_listing.specs.declared.writing.WriteFailed.{WriteFailed}
 use Rattle.iloc_driver.specs.declared.program.Fault.{Fault}
 use Rattle.iloc_driver.specs.declared.program.Fault.TheVariants.{Line, Run}
@@ -31,19 +30,6 @@ use Rattle.iloc_driver.specs.declared.commands.Finding.{Finding}
 use Rattle.iloc_driver.specs.declared.commands.Finding.TheVariants.{Passed}
 
 -- ---- the words
-
--- the words that the environment gives, the program's name first
-abbrev pub Args : Type 0
-Args = IntoIter (String Global) Global
-
--- the words behind the program's name
-abbrev pub words_behind : Args → List (List ℕ)
-words_behind args = map string_bytes (drop 1 (into_iter_items args))
-
--- the words ask for this
-abbrev pub AskFor : Result Args Error → Asked → Type 0
-AskFor (Ok args) asked = Asks (words_behind args) asked
-AskFor (Err error) asked = ⊥
 
 -- what is said of words that are no text
 abbrev pub no_text : List ℕ
@@ -61,7 +47,7 @@ IsWordless error NoMemory = Unit {0}
 
 -- the words make no request, by this fault, where help counts as one
 abbrev pub MakeNone : Result Args Error → LineFault → Type 0
-MakeNone (Ok args) fault = IsDue (words_behind args) fault
+MakeNone (Ok args) fault = IsDue (words_after args) fault
 MakeNone (Err error) fault = IsWordless error fault
 
 -- help is no fault that stops the program
@@ -91,7 +77,7 @@ module _ (command_of : Task → Command) (held : Held) (words : Result Args Erro
 
   module _ (written_old written_new : Option (List ℕ)) where
     -- the text that the words ask for is written, with this finding
-    pub record IsDone (finding : Finding) : Type 0 where
+    pub record IsWritten (finding : Finding) : Type 0 where
       pub text : List ℕ
       pub asked : IsAskedFor finding text
       pub written : Appends written_old written_new text
@@ -150,7 +136,7 @@ module _ (command_of : Task → Command) (held : Held) (words : Result Args Erro
   -- the program does what the words ask for: the status tells the finding, 0 or 5, and nothing is said
   pub record EndsWell (ending : Ending) : Type 0 where
     pub finding : Finding
-    pub done : IsDone command_of held words read_old read_new written_old written_new finding
+    pub done : IsWritten command_of held words read_old read_new written_old written_new finding
     pub status : ending.status ≡ status_of_finding finding
     pub told : ending.told ≡ Ok tt
     pub unsaid : Keeps said_old said_new

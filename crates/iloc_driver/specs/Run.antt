@@ -51,7 +51,7 @@ pub record ListsApart (says : List Block → List Proposed → Finding → List 
   pub read : ReadsApart known old new blocks proposals
   pub said : says blocks proposals finding text
 
--- the priorities are those that the command has for the request
+-- `own` are the priorities that `command` has for `request`
 abbrev pub AreOwn : Command → Held → Request → List Block → Own → Type 0
 AreOwn command held request blocks own = AreIn (priorities_file command.listers request) held blocks own
 
@@ -67,9 +67,9 @@ ListsBy command OfRows (Some name) held request old new finding text =
     ListsApart (command.says request) (held (string_bytes name)) old new finding text
 ListsBy command OfText file held request old new finding text = Lists command.reports old new finding text
 
--- where these are the commands
+-- where `command_of` has the commands
 module _ (command_of : Task → Command) where
-  -- the text is what a request with this task lists of a file's blocks, with these priorities of their own
+  -- `text` is what a request with task `t` lists of `blocks`, with their own priorities `own`
   abbrev pub IsListingFor : Task → Request → Own → List Block → List ℕ → Type 0
   IsListingFor t request own blocks text = (command_of t).lists request own blocks text
 

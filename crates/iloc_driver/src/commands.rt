@@ -8,6 +8,7 @@ ghost use Rattle.iloc_driver.specs.Entries.{IsListingOf};
 ghost use Rattle.iloc_driver.specs.Fault.{finding_of, finding_of_text, status_of_finding};
 ghost use Rattle.iloc_driver.specs.Rows.{ListsProposed};
 ghost use Rattle.iloc_driver.specs.Coming.{ComesTo};
+ghost use Rattle.iloc_driver.specs.Work.{ReceiptOf};
 
 use crate::farmed::{FarmedLister, listed_by_workers};
 use crate::fault::RunFault;
@@ -89,30 +90,36 @@ impl Listed {
 
 /// All commands of a program.
 pub trait Commands {
+    /// The receipt for the work of the workers who made a listing's entries.
+    type Receipt: Drop;
+
     // what each task asks for
     ghost command_of: { task_value → command_value };
 
-    /// What the request lists of what the reader gives and, where it names a file of blocks, of that text; and the receipt for
-    /// the work of those who made its entries, if they were workers.
+    // the receipt for what workers listed for a task keeps this
+    ghost is_receipt: { (t : task_value) → ReceiptOf (command_of t).listers → Self.Receipt → Type 0 };
+
+    /// What `request` lists of what `reader` gives and, where it names a file of blocks, of that text; and the receipt
+    /// for the work of the workers who made its entries, if workers did.
     fn list<H: Threads + Wait + Sync, T: Texts, R: Read>(
         rt: &H,
         alloc: Global,
         texts: &T,
         reader: &mut R,
         request: &Request,
-    ) -> Result<(Listed, Option<Receipt>), RunFault>
+    ) -> Result<(Listed, Option<Self::Receipt>), RunFault>
         requires { IsSync H.row }
-        ensures { ComesTo (command_of request.now.task) (T.held texts.now) request.now
+        ensures { ComesTo (command_of request.now.task) (is_receipt request.now.task) (T.held texts.now) request.now
             (R.remaining reader.old) (R.remaining reader.new) result };
 }
 
 /// What a command that shares no block lists of the file that the reader gives.
-pub fn alone<L: Lister, R: Read>(
+pub fn alone<L: Lister, R: Read, K>(
     alloc: Global,
     reader: &mut R,
     request: &Request,
-) -> Result<(Listed, Option<Receipt>), RunFault>
-    ensures { (held : Held) → ComesTo (of_files (λ asked. IsListingOf (L.lists asked) L.ending)) held request.now
+) -> Result<(Listed, Option<K>), RunFault>
+    ensures { (held : Held) → ComesTo (of_files (λ asked. IsListingOf (L.lists asked) L.ending)) (λ _ _. ⊥) held request.now
         (R.remaining reader.old) (R.remaining reader.new) result }
 {
     let text = listed_as_read::<L, R>(alloc, reader, request)?;
@@ -121,30 +128,36 @@ pub fn alone<L: Lister, R: Read>(
 
 /// What a command whose blocks workers share lists of the file that the reader gives, with the priorities in the file that the
 /// request may name, and the receipt for their work.
-pub fn shared<L: FarmedLister + Send + Sync, H: Threads + Wait + Sync, T: Texts, R: Read>(
+pub fn shared<
+    L: FarmedLister + Send + Sync,
+    H: Threads + Wait + Sync,
+    T: Texts,
+    R: Read,
+    K: From<Receipt<L::Answer>>,
+>(
     rt: &H,
     alloc: Global,
     texts: &T,
     reader: &mut R,
     request: &Request,
-) -> Result<(Listed, Option<Receipt>), RunFault>
+) -> Result<(Listed, Option<K>), RunFault>
 where
     L::Answer: Send,
-    ensures { ComesTo (shared_by L.answers L.cycles_in L.made_of L.lists) (T.held texts.now) request.now
+    ensures { ComesTo (shared_by L.answers L.cycles_in L.made_of L.lists) K.from_gives (T.held texts.now) request.now
         (R.remaining reader.old) (R.remaining reader.new) result }
 {
     let (text, receipt) = listed_by_workers::<L, H, T, R>(rt, alloc, texts, reader, request)?;
-    Ok((Listed::of_file(text), Some(receipt)))
+    Ok((Listed::of_file(text), Some(K::from(receipt))))
 }
 
 /// What a command lists of the reader's rows: for their own blocks or, where the request names a file, for that file's.
-pub fn of_rows<L: RowLister, T: Texts, R: Read>(
+pub fn of_rows<L: RowLister, T: Texts, R: Read, K>(
     alloc: Global,
     texts: &T,
     reader: &mut R,
     request: &Request,
-) -> Result<(Listed, Option<Receipt>), RunFault>
-    ensures { ComesTo (of_rows (ListsProposed L.lists L.opening L.ending L.passes)) (T.held texts.now) request.now
+) -> Result<(Listed, Option<K>), RunFault>
+    ensures { ComesTo (of_rows (ListsProposed L.lists L.opening L.ending L.passes)) (λ _ _. ⊥) (T.held texts.now) request.now
         (R.remaining reader.old) (R.remaining reader.new) result }
 {
     match &request.task_file {
@@ -157,20 +170,20 @@ pub fn of_rows<L: RowLister, T: Texts, R: Read>(
 }
 
 /// What a command lists of the reader's file or, where the request names a file, of rows for that file's blocks.
-pub fn of_file_or_rows<F: Lister, L: RowLister, T: Texts, R: Read>(
+pub fn of_file_or_rows<F: Lister, L: RowLister, T: Texts, R: Read, K>(
     alloc: Global,
     texts: &T,
     reader: &mut R,
     request: &Request,
-) -> Result<(Listed, Option<Receipt>), RunFault>
+) -> Result<(Listed, Option<K>), RunFault>
     ensures { ComesTo (of_files_or_rows (of_files (λ asked. IsListingOf (F.lists asked) F.ending))
-        (ListsProposed L.lists L.opening L.ending L.passes)) (T.held texts.now) request.now
+        (ListsProposed L.lists L.opening L.ending L.passes)) (λ _ _. ⊥) (T.held texts.now) request.now
         (R.remaining reader.old) (R.remaining reader.new) result }
 {
     if request.task_file.is_some() {
-        of_rows::<L, T, R>(alloc, texts, reader, request)
+        of_rows::<L, T, R, K>(alloc, texts, reader, request)
     } else {
-        alone::<F, R>(alloc, reader, request)
+        alone::<F, R, K>(alloc, reader, request)
     }
 }
 
@@ -182,21 +195,22 @@ pub fn shared_or_rows<
     H: Threads + Wait + Sync,
     T: Texts,
     R: Read,
+    K: From<Receipt<F::Answer>>,
 >(
     rt: &H,
     alloc: Global,
     texts: &T,
     reader: &mut R,
     request: &Request,
-) -> Result<(Listed, Option<Receipt>), RunFault>
+) -> Result<(Listed, Option<K>), RunFault>
 where
     F::Answer: Send,
     ensures { ComesTo (of_files_or_rows (shared_by F.answers F.cycles_in F.made_of F.lists)
-        (ListsProposed L.lists L.opening L.ending L.passes)) (T.held texts.now) request.now
+        (ListsProposed L.lists L.opening L.ending L.passes)) K.from_gives (T.held texts.now) request.now
         (R.remaining reader.old) (R.remaining reader.new) result }
 {
     match &request.task_file {
-        None => shared::<F, H, T, R>(rt, alloc, texts, reader, request),
-        Some(_) => of_rows::<L, T, R>(alloc, texts, reader, request),
+        None => shared::<F, H, T, R, K>(rt, alloc, texts, reader, request),
+        Some(_) => of_rows::<L, T, R, K>(alloc, texts, reader, request),
     }
 }

@@ -46,7 +46,8 @@ pub trait FarmedLister: Drop {
     /// A lister.
     fn new(alloc: Global) -> Self;
 
-    /// The answer for the block with this number, counted from 1, whose operations these numbers rank if it has some of its own.
+    /// The answer for `block`, which is block `number`, counted from 1; its `own` numbers rank its operations if it has
+    /// some.
     fn answer(
         &mut self,
         alloc: Global,
@@ -65,7 +66,7 @@ pub trait FarmedLister: Drop {
     fn cycles(answer: &Self::Answer) -> u32
         ensures { result ≡ cycles_in answer.now };
 
-    /// The listing of these blocks, for which these are the answers.
+    /// The listing of `blocks`, for which the answers are `found`.
     fn listing(
         alloc: Global,
         request: &Request,
@@ -110,7 +111,7 @@ impl<'f, L: FarmedLister> Model for ListedJobs<'f, L> {
 }
 
 impl<'f, L: FarmedLister> ListedJobs<'f, L> {
-    /// These blocks, for this request.
+    /// The jobs of `blocks` for `request`, with their own `priorities` if there are some.
     fn new(
         blocks: &'f [Block],
         request: &'f Request,
@@ -184,13 +185,14 @@ fn answers_of<H: Threads + Wait + Sync, L: FarmedLister + Send + Sync>(
     blocks: &[Block],
     request: &Request,
     priorities: &Priorities,
-) -> Result<(Vec<L::Answer>, Receipt), FarmFault>
+) -> Result<(Vec<L::Answer>, Receipt<L::Answer>), FarmFault>
 where
     L::Answer: Send,
     requires few { AreWithinLimits blocks.now }
     requires each { AreFor priorities.now blocks.now }
-    ensures { IfOk result (λ done. AreFarmed (length blocks.now)
-        (OfBlock (by_own (L.answers request.now) priorities.now) blocks.now) L.cycles_in request.now.workers done.1 done.0.items) }
+    ensures kept { IfOk result (λ done. done.0.items ≡ done.1.answers) }
+    ensures farmed { IfOk result (λ done. AreFarmed (length blocks.now)
+        (OfBlock (by_own (L.answers request.now) priorities.now) blocks.now) L.cycles_in request.now.workers done.1) }
 {
     let jobs = ListedJobs::<L>::new(blocks, request, priorities);
     let desks = desks::<L>(alloc, request)?;
@@ -212,7 +214,7 @@ pub(crate) fn listed_by_workers<
     texts: &T,
     reader: &mut R,
     request: &Request,
-) -> Result<(Listing, Receipt), RunFault>
+) -> Result<(Listing, Receipt<L::Answer>), RunFault>
 where
     L::Answer: Send,
     ensures ok { IfOk result (λ listed.

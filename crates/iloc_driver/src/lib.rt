@@ -18,7 +18,7 @@ pub use fault::{
     FarmFault, FileFault, NumbersFault, PrioritiesFault, RunFault, TaskFault, run_status,
 };
 pub use lister::{Lister, initial_memory};
-pub use program::{Ending, run_program, run_with_receipt};
+pub use program::{Ending, run_request, run_words};
 pub use reading::texts::Texts;
 pub use rows::RowLister;
 pub use workers::{farm_out, work_all};

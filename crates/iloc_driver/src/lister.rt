@@ -4,7 +4,7 @@ ghost use Rattle.iloc_ops.specs.Limits.{MAX_BLOCKS, MAX_OPS};
 ghost use Rattle.iloc_ops.specs.declared.file.Block.{Block as block_value};
 ghost use Rattle.iloc_args.specs.declared.request.Request.{Request as request_value};
 ghost use Rattle.iloc_driver.specs.Command.{initial_memory};
-ghost use Rattle.iloc_driver.specs.Entries.{IsListingOf, ListsRead, Adds};
+ghost use Rattle.iloc_driver.specs.Entries.{IsListingOf, ListsRead, AppendsEntry};
 ghost use Rattle.iloc_driver.specs.Run.Causes.{IsCaused, of_file};
 
 use crate::fault::RunFault;
@@ -49,7 +49,7 @@ pub trait Lister: Drop {
         requires short { length block.now.ops ≤ MAX_OPS }
         requires number { number < 2 ^ 63 }
         ensures starts { memory request.now self.new ≡ initial_memory request.now }
-        ensures listed { IfOk result (Adds (lists request.now number block.now) text.old.items text.new.items) };
+        ensures listed { IfOk result (AppendsEntry (lists request.now number block.now) text.old.items text.new.items) };
 
     /// Appends the ending.
     fn push_ending(text: &mut Vec<u8>, found: &[Self::Found]) -> Result<(), NoMemory>

@@ -3,7 +3,8 @@ ghost use Rattle.std.specs.Prelude.{◌≡◌, IfErr, IfOk, IfSome, List, drop, 
 ghost use Rattle.std.specs.Io.KnownBytes.{Appends};
 ghost use Rattle.std.specs.Vec.Iter.{into_iter_items};
 ghost use Rattle.iloc_args.specs.Asked.{asked_in};
-ghost use Rattle.iloc_driver.specs.Program.{AskFor, Ends, IsDone, IsStopped, MakeNone, Says, named_line, words_line};
+ghost use Rattle.iloc_driver.specs.Program.{Ends, IsWritten, IsStopped, MakeNone, Says, named_line, words_line};
+ghost use Rattle.iloc_driver.specs.Words.{AskFor};
 ghost use Rattle.iloc_driver.specs.Work.{HasReceipt};
 ghost use Rattle.iloc_driver.specs.Run.{EndsRun, ListsFrom};
 
@@ -12,7 +13,6 @@ use crate::fault::{RunFault, run_status};
 use crate::reading::texts::Texts;
 use arrayvec::ArrayString;
 use iloc_args::{LineFault, Request, line_status, parse_line};
-use iloc_board::Receipt;
 use iloc_listing::{WriteFailed, write_text};
 use std::alloc::{AllocError, Global};
 use std::env::Args;
@@ -95,7 +95,7 @@ impl From<WriteFailed> for Fault {
 ///
 /// Promise: the program does what its words ask for and ends with the status of what was found. Or a fault stops it: then it says
 /// which on one line of `faults`, or in the parser's own words, and ends with that fault's status.
-pub fn run_program<C: Commands, H: Threads + Wait + Sync, T: Texts, R: Read, W: Write, F: Write>(
+pub fn run_words<C: Commands, H: Threads + Wait + Sync, T: Texts, R: Read, W: Write, F: Write>(
     rt: &H,
     alloc: Global,
     words: io::Result<Args>,
@@ -125,17 +125,17 @@ pub fn run_program<C: Commands, H: Threads + Wait + Sync, T: Texts, R: Read, W: 
 ///
 /// Promise: at `Ok` the listing of just this input was written, whole, and the receipt is the one for what it lists. After
 /// `WriteFailed` a prefix of the listing was written, and after any other fault nothing.
-pub fn run_with_receipt<C: Commands, H: Threads + Wait + Sync, T: Texts, R: Read, W: Write>(
+pub fn run_request<C: Commands, H: Threads + Wait + Sync, T: Texts, R: Read, W: Write>(
     rt: &H,
     alloc: Global,
     texts: &T,
     reader: &mut R,
     writer: &mut W,
     request: &Request,
-) -> Result<(Finding, Option<Receipt>), RunFault>
+) -> Result<(Finding, Option<C::Receipt>), RunFault>
     ensures ok { IfOk result (λ done. (text : List ℕ) ×
         ListsFrom C.command_of (T.held texts.now) request.now (R.remaining reader.old) (R.remaining reader.new) done.0 text ×
-        HasReceipt C.command_of request.now.task (T.held texts.now) request.now (R.remaining reader.old) (R.remaining reader.new) text done.1 ×
+        HasReceipt (C.command_of request.now.task) (C.is_receipt request.now.task) (T.held texts.now) request.now (R.remaining reader.old) (R.remaining reader.new) text done.1 ×
         Appends (W.contents writer.old) (W.contents writer.new) text) }
     ensures err { IfErr result (EndsRun C.command_of (T.held texts.now) request.now
         (R.remaining reader.old) (R.remaining reader.new)
@@ -155,14 +155,14 @@ fn serve<C: Commands, H: Threads + Wait + Sync, T: Texts, R: Read, W: Write>(
     reader: &mut R,
     writer: &mut W,
 ) -> Result<Finding, Fault>
-    ensures ok { IfOk result (IsDone C.command_of (T.held texts.now) words (R.remaining reader.old) (R.remaining reader.new)
+    ensures ok { IfOk result (IsWritten C.command_of (T.held texts.now) words (R.remaining reader.old) (R.remaining reader.new)
         (W.contents writer.old) (W.contents writer.new)) }
     ensures err { IfErr result (IsStopped C.command_of (T.held texts.now) words (R.remaining reader.old) (R.remaining reader.new)
         (W.contents writer.old) (W.contents writer.new)) }
 {
     match request_of(alloc, words) {
         Ok(request) => {
-            let (finding, _) = run_with_receipt::<C, H, T, R, W>(
+            let (finding, _) = run_request::<C, H, T, R, W>(
                 rt, alloc, texts, reader, writer, &request,
             )?;
             Ok(finding)

@@ -14,7 +14,7 @@ ghost use Rattle.iloc_driver.specs.Command.{initial_memory};
 ghost use Rattle.iloc_driver.specs.Fault.{finding_of};
 ghost use Rattle.iloc_driver.specs.Rows.{ListsProposed};
 ghost use Rattle.iloc_driver.specs.Run.{Lists, ListsApart, ListsSubmission};
-ghost use Rattle.iloc_driver.specs.Entries.{Adds};
+ghost use Rattle.iloc_driver.specs.Entries.{AppendsEntry};
 
 use crate::commands::{Finding, Listed};
 use crate::fault::RunFault;
@@ -77,7 +77,7 @@ pub trait RowLister: Drop {
         requires short { length block.now.ops ≤ MAX_OPS }
         requires number { number < 2 ^ 63 }
         ensures starts { memory request.now self.new ≡ initial_memory request.now }
-        ensures listed { IfOk result (Adds (lists request.now number (block.now, proposal)) text.old.items text.new.items) }
+        ensures listed { IfOk result (AppendsEntry (lists request.now number (block.now, proposal)) text.old.items text.new.items) }
         ensures small { IfOk result fits };
 
     /// Appends the ending.

@@ -76,7 +76,7 @@ where
     requires few { length desks.items < 2 ^ 32 }
     ensures jobs { IfOk result (λ done. done.jobs ≡ jobs.now) }
     ensures headline { IfOk result (λ done. AreFarmed (J.number jobs.now) (J.fits jobs.now) (J.price jobs.now)
-        (length desks.items) done.receipt done.answers) }
+        (length desks.items) done.receipt) }
 {
     let (board, mut root) = Board::new(alloc, jobs, desks.len() as u32)?;
     work_all(rt, alloc, &board, &mut root, desks, gate)?;
@@ -120,7 +120,7 @@ where
     Ok(gather_all(board, root, worked)?)
 }
 
-/// A shift at each of these desks, for each pass that the root may make.
+/// A shift at each of `desks`, for each pass that `root` may make.
 fn shifts<'s, 'a, J: AtDesk<D>, D: Drop, G: Gate>(
     alloc: Global,
     board: &'s Board<'a, J>,

@@ -1,11 +1,12 @@
 -- What is said of proposals.
-use Rattle.iloc_row_commands.proofs.Common.{◌≡◌, ℕ, ◌+◌, ◌≤◌, List, ◌++◌, length, ℤ, Some, None, Option, refl, ap, ◌∙◌, subst, append_assoc, arith, Block, Op, cycles, MAX_ROWS, Table, Latencies, Proposed, IsGreedy, IsGreedyWhere, least_under, IsSoughtIf, cycles_few_where, cycles_within, the_greedy, the_greedy_under, most_cycles, cycles_of, Adds, IsCheckEntry, IsSaid, IsSmall, check_head}
+use Rattle.iloc_row_commands.proofs.Common.{◌≡◌, ℕ, ◌+◌, ◌≤◌, List, ◌++◌, length, ℤ, Some, None, Option, refl, ap, ◌∙◌, subst, append_assoc, arith, Block, Op, cycles, MAX_ROWS, Table, Latencies, Proposed, IsGreedy, IsGreedyWhere, least_under, IsSoughtIf, cycles_few_where, cycles_within, the_greedy, the_greedy_under, most_cycles, cycles_of, AppendsEntry, IsCheckEntry, IsSaid, IsSmall, check_head}
 use Rattle.iloc_ops.specs.Limits.{MAX_OPS}
 use Rattle.iloc_rows.specs.declared.proposal.unread.Unread.{Unread}
 use Rattle.iloc_rules.specs.declared.heuristic.Heuristic.TheVariants.{Chain}
 use Rattle.iloc_rules.specs.declared.delay_pairs.TheConstants.{LONGEST_DELAY}
 use Rattle.iloc_rules.specs.declared.memory_rule.MemoryRule.{MemoryRule}
-use Rattle.iloc_rules.specs.Rule.{counts_by, priorities_under}
+use Rattle.iloc_rules.specs.Rule.{counts_by}
+use Rattle.iloc_rules.specs.Heuristics.{priorities_under}
 use Rattle.iloc_bound.proofs.LeastBound.{ruled_least_bound}
 use Rattle.iloc_verdict.specs.declared.checked.Checked.{Checked}
 use Rattle.iloc_comparison.specs.declared.task.CheckOptions.{CheckOptions}
@@ -47,7 +48,7 @@ pub check_listed : (options : CheckOptions) (nodes : Option ℕ) (rule : MemoryR
     → IsSoughtIf nodes rule lat b.ops c.sought → c.least ≡ least_under rule lat b.ops
     → memory ≡ start → name ≡ b.name → headed ≡ text ++ check_head options.form k name
     → IsSaid p.unread options lat memory b.ops s p c said → more ≡ headed ++ said
-    → Adds (IsCheckEntry options nodes rule lat start k (b, p)) text more c
+    → AppendsEntry (IsCheckEntry options nodes rule lat start k (b, p)) text more c
 check_listed options nodes rule lat memory start k b s ruled p c text headed more said name greedy by_rule counted sought least
     starts named opened is added =
     let P : List ℤ → Type 0 = λ m. IsSaid p.unread options lat m b.ops s p c said in

@@ -21,7 +21,7 @@ pub use Rattle.iloc_listing.proofs.Schedules.{cycles_few_where, cycles_within, t
 pub use Rattle.iloc_listing.specs.Limits.{most_cycles, most_proposed_cycles}
 pub use Rattle.iloc_listing.specs.Listing.{block_head, cycles_of}
 pub use Rattle.iloc_driver.proofs.Entries.{parts_joined}
-pub use Rattle.iloc_driver.specs.Entries.{Adds}
+pub use Rattle.iloc_driver.specs.Entries.{AppendsEntry}
 pub use Rattle.iloc_driver.specs.Fault.{finding_of}
 pub use Rattle.iloc_row_commands.specs.Check.{IsCheckEntry, IsSaid, IsSmall, check_head, options_of}
 pub use Rattle.iloc_row_commands.specs.Explain.Departure.{choice_at, departure, leaves_choice, take_the_same}

@@ -10,7 +10,7 @@ use Rattle.iloc_rows.specs.declared.proposal.Proposed.{Proposed}
 use Rattle.iloc_rows.specs.declared.proposal.unread.Unread.{Unread}
 use Rattle.iloc_rules.specs.declared.heuristic.Heuristic.TheVariants.{Chain}
 use Rattle.iloc_rules.specs.declared.memory_rule.MemoryRule.{MemoryRule}
-use Rattle.iloc_rules.specs.Rule.{priorities_under}
+use Rattle.iloc_rules.specs.Heuristics.{priorities_under}
 use Rattle.iloc_bound.specs.Bound.{least_under}
 use Rattle.iloc_verdict.specs.declared.checked.Checked.{Checked}
 use Rattle.iloc_comparison.specs.declared.task.CheckOptions.{CheckOptions}

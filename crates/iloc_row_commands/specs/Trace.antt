@@ -21,7 +21,7 @@ use Rattle.iloc_listing.specs.Listing.{block_head}
 use Rattle.iloc_driver.specs.Rows.{ListsRows}
 use Rattle.iloc_driver.specs.declared.commands.Finding.{Finding}
 
--- the lines are those of what a schedule does on this memory
+-- `text` has the lines of what a schedule does on `memory`
 pub record AreTraced (lat : Latencies) (memory : List ℤ) (ops : List Op) (rows : List Row) (text : List ℕ) : Type 0 where
   pub table : IsTable ops rows
   pub listed : text ≡ trace_lines (events lat memory ops rows)

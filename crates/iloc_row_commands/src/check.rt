@@ -7,7 +7,8 @@ ghost use Rattle.iloc_row_commands.specs.Check.{IsSaid, form_of, options_of, IsS
 ghost use Rattle.iloc_ops.specs.Limits.{MAX_BLOCKS, MAX_OPS};
 ghost use Rattle.iloc_rules.specs.declared.heuristic.Heuristic.TheVariants.{Chain};
 ghost use Rattle.iloc_rules.specs.Greedy.{IsGreedy, IsGreedyWhere};
-ghost use Rattle.iloc_rules.specs.Rule.{counts_by, priorities_under};
+ghost use Rattle.iloc_rules.specs.Rule.{counts_by};
+ghost use Rattle.iloc_rules.specs.Heuristics.{priorities_under};
 ghost use Rattle.iloc_verdict.specs.Checked.{IsBeside};
 
 use crate::json::push_json_head;

@@ -27,7 +27,7 @@ pub struct RowsExplainer {
     blocks: usize,
 }
 
-/// The cycles of these together.
+/// The sum of the cycles of `found`.
 fn cycles_of_all(found: &[ExplainedRows]) -> u64
     requires few { length found.now ≤ MAX_BLOCKS }
     requires small { All (λ (one : explained_rows). one.cycles ≤ most_proposed_cycles) found.now }

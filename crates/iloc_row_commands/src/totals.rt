@@ -45,7 +45,7 @@ fn bound_of(checked: &Checked) -> u32
 }
 
 impl Totals {
-    /// Those of what was found of each proposal.
+    /// The totals of `found`, what was found of each proposal.
     pub(crate) fn of(found: &[Checked]) -> Totals
         requires few { length found.now ≤ MAX_BLOCKS }
         requires small { All IsSmall found.now }

@@ -4,7 +4,8 @@ pub use Rattle.std.proofs.lemmas.Result.{IfOk-weaker, on_ok_weaker}
 pub use Rattle.iloc_ops.specs.declared.op.Op.{Op}
 pub use Rattle.iloc_timed.specs.declared.latencies.Latencies.{Latencies}
 pub use Rattle.iloc_rules.proofs.PriorityValues.Named.{length-priorities_by_where, ruled_priorities}
-pub use Rattle.iloc_rules.specs.Rule.{counts_by, priorities_under}
+pub use Rattle.iloc_rules.specs.Rule.{counts_by}
+pub use Rattle.iloc_rules.specs.Heuristics.{priorities_under}
 pub use Rattle.iloc_rules.specs.declared.memory_rule.MemoryRule.{MemoryRule}
 pub use Rattle.iloc_sched.specs.Graph.GraphOf.{GraphOf, of_block}
 pub use Rattle.iloc_bound.specs.Bound.{least_of_under, least_under}

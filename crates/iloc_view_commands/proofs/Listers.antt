@@ -17,21 +17,21 @@ use Rattle.iloc_view_commands.specs.Graph.{IsGraphEntry, opening_at}
 use Rattle.iloc_driver.specs.Command.{initial_memory}
 use Rattle.iloc_view_commands.specs.Trace.{IsTraceEntry}
 use Rattle.iloc_listing.specs.Schedules.{IsGreedyAs, ranks_under}
-use Rattle.iloc_driver.specs.Entries.{Adds}
+use Rattle.iloc_driver.specs.Entries.{AppendsEntry}
 use Rattle.iloc_listing.proofs.Schedules.{the_greedy, the_greedy_under}
 
 -- what a call has appended is the entry, by the name and the words or cycles that it was handed
 
 module _ (request : Request) (k : ℕ) (b : Block) (text more : List ℕ) (name : Option (List ℕ)) (named : name ≡ b.name) where
   pub graph_listed : (cluster : List ℕ) → IsCluster (memory_rule request) request.latencies k b.name b.ops cluster
-      → more ≡ (text ++ opening_at k) ++ cluster → Adds (IsGraphEntry request k b) text more tt
+      → more ≡ (text ++ opening_at k) ++ cluster → AppendsEntry (IsGraphEntry request k b) text more tt
   graph_listed cluster draws added = grind (arith, append_assoc)
 
   module _ (s : Table) (greedy : IsGreedyAs request.priority request.latencies b.ops s) where
     pub trace_listed : (head lined : List ℕ) (memory : List ℤ) → head ≡ text ++ block_head k name
         → lined ≡ head ++ codes "\n" → memory ≡ initial_memory request
         → more ≡ lined ++ trace_lines (events request.latencies memory s.ops s.rows)
-        → Adds (IsTraceEntry request k b) text more tt
+        → AppendsEntry (IsTraceEntry request k b) text more tt
     trace_listed head lined memory opened ended starts added =
         let lines : List ℕ = trace_lines (events request.latencies (initial_memory request) s.ops s.rows) in
         record {

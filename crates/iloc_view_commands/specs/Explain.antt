@@ -19,8 +19,8 @@ use Rattle.iloc_driver.specs.Priorities.{Own, own_of}
 use Rattle.iloc_listing.specs.Schedules.{IsTheGreedyUnder, ranks_under}
 use Rattle.iloc_listing.specs.declared.text.ScheduleEntry.{ScheduleEntry}
 
--- what is said of a schedule of a block by a rule of memory that these priorities rank, with a lower bound of its cycles: its
--- ready list if it is asked for, else what explains it
+-- `text` is what is said of a schedule of `block` by `rule` that the priorities `prios` rank, with a lower `bound` of
+-- its cycles: its ready list if it is asked for, else what explains it
 abbrev pub IsSaid : Bool → List ℕ → MemoryRule → Latencies → ℕ → List Op → Table → List ℕ → Type 0
 IsSaid true prios rule lat bound block s text = text ≡ ready_listing prios rule lat bound s.ops s.rows
 IsSaid false prios rule lat bound block s text = IsExplanation prios rule lat bound block s.ops s.rows s.ops text
@@ -39,7 +39,7 @@ pub record IsExplainEntry (request : Request) (own : Option (List ℕ)) (k : ℕ
   pub listed : entry ≡ block_head k b.name ++ codes "\n" ++ text
   pub counted : cycles ≡ cycles_of request.latencies schedule
 
--- the listing of these blocks for the request, with their own priorities if there are some
+-- `text` is the listing of `blocks` for `request`, with their own priorities if there are some
 abbrev pub IsExplainListing : Request → Own → List Block → List ℕ → Type 0
 IsExplainListing request own blocks text = IsListingOf (λ k. IsExplainEntry request (own_of own k) k) total_of_all blocks text
 

@@ -2,7 +2,7 @@
 ghost use Rattle.std.specs.Prelude.{ℕ, ◌≡◌, ◌≤◌, ◌++◌, List, length, option_copied, IfOk, OnOk};
 ghost use Rattle.iloc_ops.specs.Limits.{MAX_BLOCKS};
 ghost use Rattle.iloc_rules.specs.Renaming.{renamed};
-ghost use Rattle.iloc_rules.specs.Rule.{priorities_under};
+ghost use Rattle.iloc_rules.specs.Heuristics.{priorities_under};
 ghost use Rattle.iloc_bound.specs.Bound.{least_of_under, least_under};
 ghost use Rattle.iloc_explain.specs.Listing.{IsExplanation};
 ghost use Rattle.iloc_explain.specs.Measures.{AreMeasures, ImplyAll};
@@ -21,7 +21,8 @@ use iloc_sched::{Graph, Scheduler};
 use iloc_timed::{Latencies, Schedule};
 use std::alloc::Global;
 
-/// The numbers that rank the operations of a graph: these, if it has some of its own, or else those of a heuristic by its rule.
+/// The numbers that rank the operations of `graph`: its `own`, if it has some, else the ones of `heuristic` by its
+/// rule.
 fn ranks_of(
     alloc: Global,
     graph: &Graph,
@@ -54,7 +55,7 @@ fn kept_pairs(alloc: Global, graph: &Graph) -> Result<Vec<Pair>, NoMemory>
     Ok(pairs)
 }
 
-/// What an explanation needs to know of the operations of a graph, which are ranked by these numbers.
+/// What an explanation needs to know of the operations of `graph`, which are ranked by `ranks`.
 fn measure(alloc: Global, graph: &Graph, ranks: Vec<u32>) -> Result<Measures, NoMemory>
     requires { length ranks.items ≡ length graph.now.ops }
     ensures ranks { IfOk result (λ measures. measures.ranks.items ≡ ranks.items) }

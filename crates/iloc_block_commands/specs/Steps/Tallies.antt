@@ -7,7 +7,7 @@ use Rattle.iloc_block_commands.specs.declared.compare.Total.{Total}
 use Rattle.iloc_block_commands.specs.declared.compare.Total.TheVariants as total
 use Rattle.iloc_block_commands.specs.Compare.{best_of, bound_of, counted_own, fewest, optimal}
 
--- what one block adds for a schedule of so many cycles
+-- what one block adds to a tally for a schedule of `cycles` cycles
 abbrev pub counted : Tally → ℕ → ComparedCycles → ℕ
 counted tally.Cycles cycles c = cycles
 counted tally.Fewest cycles c = fewest cycles c

@@ -12,7 +12,7 @@ use Rattle.iloc_driver.specs.declared.fault.TaskFault.TheVariants as of_task
 abbrev pub Held : Type 0
 Held = List ℕ → Option (List ℕ)
 
--- a text of which this is known was read, from its first byte, and these are its bytes
+-- a text was read from its first byte of which `known` says what is known, and its bytes are `input`
 pub record Holds (known : Option (List ℕ)) (input : List ℕ) : Type 0 where
   pub left : Option (List ℕ)
   pub read : ReadsText known left input
@@ -23,8 +23,8 @@ pub record ReadsTask (known : Option (List ℕ)) (blocks : List Block) : Type 0 
   pub held : Holds known input
   pub task : IsTask input blocks
 
--- The task that was read from one text, and the rows that were read from another, denote these blocks and what is
--- proposed for them.
+-- The task that was read from one text denotes `blocks`, and the rows that were read from another denote `proposals`
+-- for them.
 pub record ReadsApart (known old new : Option (List ℕ)) (blocks : List Block) (proposals : List Proposed)
     : Type 0 where
   pub task : List ℕ

@@ -6,14 +6,14 @@ use Rattle.iloc_args.specs.declared.request.Request.{Request}
 use Rattle.iloc_driver.specs.Entries.{AreEntries}
 use Rattle.iloc_driver.specs.Priorities.{Own}
 
--- the blocks are listed for this request, with these priorities of their own
+-- blocks to be listed, with the request and their own priorities
 pub record ToList : Type 0 where
   pub blocks : List Block
   pub request : Request
   pub own : Own
 
 module _ {X F : Type 0} (lists : ℕ → X → List ℕ → F → Type 0) where
-  -- the entries of these joined the text, and what was found of them joined what was found before
+  -- the entries of `blocks` joined `text`, and what was found of them joined `found`
   pub record Grows (blocks : List X) (text more : List ℕ) (found all : List F) : Type 0 where
     pub entries : List ℕ
     pub next : List F
@@ -21,7 +21,8 @@ module _ {X F : Type 0} (lists : ℕ → X → List ℕ → F → Type 0) where
     pub added : more ≡ text ++ entries
     pub kept : all ≡ found ++ next
 
-  -- some of these are left, and the others were listed below an opening, of which this was found
+  -- of `all` blocks `left` are left; the others were listed in `text` after `opening`, and `found` has what was found
+  -- of them
   pub record AreListedTo (fits : F → Type 0) (opening : List ℕ) (all left : List X) (text : List ℕ) (found : List F)
       : Type 0 where
     pub done : List X

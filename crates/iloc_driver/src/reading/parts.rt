@@ -73,7 +73,7 @@ impl<'h, H: Threads> Drop for PartThreads<'h, H> {
     }
 }
 
-/// The file that a stream gives. At most so many threads read parts of it while the rest comes; all have ended then.
+/// The file that `stream` gives. At most `most` threads read parts of it while the rest comes; all have ended then.
 pub(crate) fn read_by_threads<H: Threads, R: Read>(
     rt: &H,
     alloc: Global,

@@ -39,7 +39,7 @@ impl Priorities {
         Priorities(None)
     }
 
-    /// Those that the text has for these blocks.
+    /// The priorities that `text` has for `blocks`.
     #[tactic(auto, using(crate::proofs::Priorities::are_for))]
     pub(crate) fn read(
         alloc: Global,
@@ -58,7 +58,7 @@ impl Priorities {
         Ok(Priorities(Some(numbers_of_all(alloc, text, blocks)?)))
     }
 
-    /// Those of the block with this number, counted from 1.
+    /// The priorities of block `number`, counted from 1.
     pub(crate) fn of(&self, number: usize) -> Option<&[u32]>
         requires { 1 ≤ number }
         ensures { option_copied result ≡ own_of self.now number }
@@ -73,7 +73,7 @@ impl Priorities {
     }
 }
 
-/// The numbers of these blocks.
+/// The numbers that `text` has for `blocks`.
 fn numbers_of_all(
     alloc: Global,
     text: &[u8],
@@ -97,7 +97,7 @@ fn numbers_of_all(
     Ok(all)
 }
 
-/// The numbers of a block with so many operations, which are all that its line has.
+/// The numbers of `line`, which are one for each of the `operations` operations of `block`, and no more.
 #[tactic(auto, using(crate::proofs::Priorities::next_number, crate::proofs::Priorities::no_number, crate::proofs::Priorities::all_numbers, crate::proofs::Priorities::too_many))]
 fn numbers_of(
     alloc: Global,

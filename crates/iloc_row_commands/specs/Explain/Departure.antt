@@ -16,7 +16,7 @@ abbrev pub take_the_same : Row → Row → Bool
 take_the_same row other = list_all (holds other) (slots row) && list_all (holds row) (slots other)
 
 module _ (prios : List ℕ) (lat : Latencies) (ops : List Op) (rows : List Row) where
-  -- what the choice would take in cycle c, from what is ready in these rows
+  -- what the choice would take in cycle `c`, from what is ready in the rows
   abbrev pub choice_at : ℕ → Row
   choice_at c = chosen ops prios (ready lat ops rows c)
 

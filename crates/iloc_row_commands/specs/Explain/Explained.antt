@@ -16,6 +16,7 @@ use Rattle.iloc_rules.specs.Renaming.{without_nops}
 use Rattle.iloc_validation.specs.ByTheBook.{IsByTheBook, IssueTheSame}
 use Rattle.iloc_validation.specs.OwnRows.{AreOwnRows}
 use Rattle.iloc_explain.specs.Listing.{IsExplanation}
+use Rattle.iloc_facts.specs.Counts.{AreItsOperations}
 use Rattle.iloc_facts.specs.declared.fact.Reasons.{Reasons}
 use Rattle.iloc_facts.specs.Reasons.{AreReasons}
 use Rattle.iloc_row_commands.specs.declared.explain.explained.ExplainedRows.{ExplainedRows}
@@ -55,16 +56,17 @@ pub record AreUnlawful (lat : Latencies) (block ops : List Op) (rows : List Row)
   pub hold : AreReasons lat (without_nops block) ops rows reasons
   pub listed : text ≡ not_lawful (reasons_told reasons)
 
--- this is said of others of which neither is decided
-pub record AreUndecided (ops : List Op) (rows : List Row) (text : List ℕ) : Type 0 where
+-- this is said of others of which neither is decided; nothing is left out or added
+pub record AreUndecided (block ops : List Op) (rows : List Row) (text : List ℕ) : Type 0 where
   pub table : IsTable ops rows
+  pub kept : AreItsOperations (without_nops block) ops
   pub listed : text ≡ codes "  undecided\n"
 
 -- what is said of rows: by the book, or not known to be
 abbrev pub IsSaidOf : Bool → Heuristic → Latencies → List Op → List Op → List Row → List ℕ → Type 0
 IsSaidOf true heuristic lat block ops rows text = AreExplainedBy heuristic lat block ops rows text
 IsSaidOf false heuristic lat block ops rows text =
-    BreakUnits ops rows text ⊎ (AreUnlawful lat block ops rows text ⊎ AreUndecided ops rows text)
+    BreakUnits ops rows text ⊎ (AreUnlawful lat block ops rows text ⊎ AreUndecided block ops rows text)
 
 -- this is said of rows among which this line can't be read
 pub record HaveUnread (unread : Unread) (text : List ℕ) : Type 0 where

@@ -5,7 +5,7 @@ use Rattle.iloc_verdict.specs.declared.checked.Checked.{Checked}
 use Rattle.iloc_row_commands.specs.declared.totals.Totals.{Totals}
 use Rattle.iloc_row_commands.specs.Check.{best_of, bound_of}
 
--- what was found of these together
+-- what was `found`, added up
 abbrev pub totals_of : List Checked → Totals
 totals_of found = record {
   cycles = sum_by (λ c. c.cycles) found;
@@ -15,7 +15,7 @@ totals_of found = record {
   least = sum_by (λ c. c.least) found;
 }
 
--- of these what was sought, where the request has nodes
+-- of the totals `t` what was sought, where the request has nodes
 abbrev pub sought_text : Option ℕ → Totals → List ℕ
 sought_text None t = []
 sought_text (Some nodes) t = codes " best " ++ decimal t.best ++ codes " bound " ++ decimal t.bound

@@ -43,7 +43,7 @@ fn take_the_same(row: Row, other: Row) -> bool
         && takes(row, other.zero)
 }
 
-/// The first of these rows that takes something else than the other rows do in its cycle.
+/// The first of `rows` that takes something else than `others` do in its cycle.
 fn first_unlike(rows: &[Row], others: &[Row]) -> Option<usize>
     ensures { result ≡ find (λ c. not (listed.take_the_same (row_of_cycle rows.now c) (row_of_cycle others.now c)))
         (range_with_len 0 (length rows.now)) }

@@ -1,4 +1,4 @@
-use Rattle.iloc_row_commands.proofs.Common.{◌≡◌, ℕ, ◌≤◌, List, ◌++◌, length, codes, Option, refl, ap, ◌∙◌, arith, Block, Op, MAX_ROWS, Table, Latencies, Proposed, cycles_within, the_greedy, most_proposed_cycles, block_head, parts_joined, Adds, IsRowsExplanation, ExplainedRows}
+use Rattle.iloc_row_commands.proofs.Common.{◌≡◌, ℕ, ◌≤◌, List, ◌++◌, length, codes, Option, refl, ap, ◌∙◌, arith, Block, Op, MAX_ROWS, Table, Latencies, Proposed, cycles_within, the_greedy, most_proposed_cycles, block_head, parts_joined, AppendsEntry, IsRowsExplanation, ExplainedRows}
 use Rattle.iloc_rules.specs.declared.heuristic.Heuristic.{Heuristic}
 use Rattle.iloc_row_commands.specs.Explain.{IsRowsEntry}
 use Rattle.iloc_listing.specs.Schedules.{IsGreedyAs}
@@ -16,7 +16,7 @@ rows_listed : (heuristic : Heuristic) (lat : Latencies) (k : ℕ) (b : Block) (s
     (text headed lined more said : List ℕ) (name : Option (List ℕ)) → IsGreedyAs heuristic lat b.ops s → name ≡ b.name
     → headed ≡ text ++ block_head k name → lined ≡ headed ++ codes "\n"
     → IsRowsExplanation heuristic lat b.ops s p one said → more ≡ lined ++ said
-    → Adds (IsRowsEntry heuristic lat k (b, p)) text more one
+    → AppendsEntry (IsRowsEntry heuristic lat k (b, p)) text more one
 rows_listed heuristic lat k b s p one text headed lined more said name greedy named opened ended is added = record {
   entry = block_head k b.name ++ codes "\n" ++ said;
   right = record {

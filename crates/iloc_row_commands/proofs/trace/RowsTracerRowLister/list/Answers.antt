@@ -1,4 +1,4 @@
-use Rattle.iloc_row_commands.proofs.Common.{◌≡◌, ℕ, Bool, List, ◌++◌, ℤ, codes, Option, arith, Block, Latencies, Proposed, block_head, parts_joined, Adds}
+use Rattle.iloc_row_commands.proofs.Common.{◌≡◌, ℕ, Bool, List, ◌++◌, ℤ, codes, Option, arith, Block, Latencies, Proposed, block_head, parts_joined, AppendsEntry}
 use Rattle.iloc_timed.proofs.WholeRuns.{if_ok}
 use Rattle.iloc_row_commands.specs.Trace.{IsRowsTraceEntry, IsTraceOf}
 use Rattle.iloc_row_commands.proofs.trace.RowsTracerRowLister.list.Goals as goal
@@ -10,7 +10,7 @@ traced_listed : (lat : Latencies) (memory start : List ℤ) (k : ℕ) (b : Block
     (text headed lined more said : List ℕ) (name : Option (List ℕ)) → memory ≡ start → name ≡ b.name
     → headed ≡ text ++ block_head k name → lined ≡ headed ++ codes "\n"
     → IsTraceOf p.unread traced lat memory p.ops p.rows said → more ≡ lined ++ said
-    → Adds (IsRowsTraceEntry lat start k (b, p)) text more traced
+    → AppendsEntry (IsRowsTraceEntry lat start k (b, p)) text more traced
 traced_listed lat memory start k b p traced text headed lined more said name starts named opened ended is added = grind (arith, parts_joined)
 
 pub returns-clause-listed : goal.returns-clause-listed
