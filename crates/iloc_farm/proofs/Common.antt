@@ -38,4 +38,4 @@ pub use Rattle.iloc_block_commands.specs.Compare.{IsCompareEntry, IsCompareListi
 pub use Rattle.iloc_block_commands.specs.declared.compare.ComparedCycles.{ComparedCycles}
 pub use Rattle.iloc_row_commands.specs.Check.{Checks, IsCheckEntry, ListsChecked, options_by, options_of}
 pub use Rattle.iloc_farm.specs.Commands.{command_of}
-pub use Rattle.iloc_farm.specs.Laws.{AskAlike, ChecksIgnoreWorkers, CountedOptimaAreOptimal, GreedySchedulesCanBeListed, HandInsDontChangeTheTask, ListedOptimaAreOptimal, ListingsIgnoreWorkers, OptimaIgnoreWorkers, PassedChecksKeepOutcomes, PassedChecksMayPass, ReadsRows, ReadsTheSame, SimulatingListsRuns, Status0MeansTheSame, searches}
+pub use Rattle.iloc_farm.specs.Laws.{AskAlike, ChecksIgnoreWorkers, CountedOptimaAreOptimal, GreedySchedulesCanBeListed, HandInsDontChangeTheTask, ListingsIgnoreWorkers, OptimaIgnoreWorkers, PassedChecksKeepOutcomes, PassedChecksMayPass, SimulatingListsRuns, searches}

@@ -1,10 +1,12 @@
 pub mod Common
 pub mod Checks
+pub mod Chosen
+pub mod Kept
+pub mod Compared
 pub mod Status
 pub mod Tasks
 pub mod Headline
 pub mod Listings
 pub mod Receipts
-pub mod Comparisons
 pub mod Listers
 pub mod TheLeast

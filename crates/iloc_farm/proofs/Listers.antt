@@ -5,7 +5,8 @@ use Rattle.iloc_graph.specs.Listing.{IsCluster}
 use Rattle.iloc_graph.proofs.OneText.{one_cluster}
 use Rattle.iloc_meaning.specs.Outcome.{outcome, shown}
 use Rattle.iloc_args.specs.declared.request.Task.TheVariants as task
-use Rattle.iloc_block_commands.specs.Counts.{IsCountEntry, count_ending, count_header}
+use Rattle.iloc_block_commands.specs.Counts.{IsCountEntry}
+use Rattle.iloc_listing.specs.Listing.{count_ending, count_header}
 use Rattle.iloc_view_commands.specs.Explain.{IsExplainEntry, IsSaid}
 use Rattle.iloc_view_commands.specs.Graph.{IsGraphEntry, drawing_end, opening_at}
 use Rattle.iloc_block_commands.specs.Run.{IsRunEntry}

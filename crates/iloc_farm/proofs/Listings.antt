@@ -1,5 +1,5 @@
 -- What is listed of one input does not depend on the workers, and greedy schedules can be listed.
-use Rattle.iloc_farm.proofs.Common.{◌≡◌, ℕ, List, is_some, IsTrue, Option, sym, arith, transport, Global, String, Block, one_answer, placed, has, Csv, EitherSlot, Request, Task, greedy_long, total_small, opening_as, total_of_all, listing_after_also, IsListingAfter, IsListingOf, Own, own_of, IsListingFor, ListsAs, takes_rows, Held, Finding, IsCompareEntry, IsCompareListing, compare_ending, compare_header, ending_for, opening_for, ComparedCycles, Checks, ListsChecked, options_by, command_of, AskAlike, ChecksIgnoreWorkers, GreedySchedulesCanBeListed, ListedOptimaAreOptimal, ListingsIgnoreWorkers, OptimaIgnoreWorkers}
+use Rattle.iloc_farm.proofs.Common.{◌≡◌, ℕ, List, is_some, IsTrue, Option, sym, arith, transport, Global, String, Block, one_answer, placed, has, Csv, EitherSlot, Request, Task, greedy_long, total_small, opening_as, total_of_all, listing_after_also, IsListingAfter, IsListingOf, Own, own_of, IsListingFor, ListsAs, takes_rows, Held, Finding, IsCompareEntry, IsCompareListing, compare_ending, compare_header, ending_for, opening_for, ComparedCycles, Checks, ListsChecked, options_by, command_of, AskAlike, ChecksIgnoreWorkers, GreedySchedulesCanBeListed, ListingsIgnoreWorkers, OptimaIgnoreWorkers}
 use Rattle.iloc_args.specs.declared.request.Task.TheVariants as task
 use Rattle.iloc_row_commands.specs.Explain.{Explains, ExplainsRows}
 use Rattle.iloc_row_commands.specs.Trace.{Traces, TracesRows}
@@ -41,9 +41,6 @@ optima_ignore_workers r q alike task.Explain seeks own blocks text lists = absur
 optima_ignore_workers r q alike task.Check seeks own blocks text lists = absurd cc
 optima_ignore_workers r q alike task.Graph seeks own blocks text lists = absurd cc
 optima_ignore_workers r q alike task.Lint seeks own blocks text lists = absurd cc
-
-pub listed_optima : ListedOptimaAreOptimal
-listed_optima = grind arith
 
 -- one check is what both requests ask for
 one_check : (r q : Request) → AskAlike r q → Checks r ≡ Checks q

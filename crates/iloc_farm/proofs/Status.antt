@@ -1,13 +1,24 @@
--- What a status of 0 tells, where the words ask for a check.
-use Rattle.iloc_farm.proofs.Common.{◌≡◌, ℕ, List, Some, Ok, Err, Option, Result, option_map, sym, refl, ap, ◌∙◌, subst, inl, inr, arith, AllZip, Global, String, Block, words_from, placed, Proposed, DoTheSame, MayPass, has, memory_rule, EitherSlot, Outputs, Request, Task, initial_memory, status_of_finding, ListsAs, Held, Finding, Passed, Checks, options_by, options_of, command_of, ReadsRows, ReadsTheSame, Status0MeansTheSame}
+-- What a status of 0 tells.
+use Rattle.iloc_farm.proofs.Common.{◌≡◌, ℕ, List, Some, None, Ok, Err, Option, Result, option_map, sym, refl, ap, ◌∙◌, subst, inl, inr, arith, Global, String, Block, placed, Proposed, has, memory_rule, Cycles, EitherSlot, Request, Task, initial_memory, status_of_finding, ListsAs, Held, Finding, Passed, Checks, options_of, command_of}
+use Rattle.std.specs.Io.KnownBytes.{Appends}
 use Rattle.std.specs.String.{string_bytes}
 use Rattle.std.specs.declared.io.Error.{Error}
 use Rattle.iloc_args.specs.Asked.{Asked, asked_in}
 use Rattle.iloc_args.specs.declared.fault.LineFault.TheVariants as line
 use Rattle.iloc_args.specs.declared.request.Task.TheVariants as task
 use Rattle.iloc_driver.proofs.AboveZero.{above_0}
-use Rattle.iloc_driver.specs.Program.{Args, AskFor, IsListed, MakeNone}
+use Rattle.iloc_driver.specs.Program.{Ends, MakeNone}
+use Rattle.iloc_driver.specs.Run.{ListsFrom}
+use Rattle.iloc_driver.specs.Words.{Args, AskFor}
+use Rattle.iloc_driver.specs.declared.program.Ending.{Ending}
 use Rattle.iloc_farm.proofs.Checks.{passed_keep_outcomes, passed_may_pass}
+use Rattle.iloc_farm.proofs.Compared.{comparisons_hold}
+use Rattle.iloc_farm.proofs.Kept.{counts_keep, explained_keep, optima_keep, runs_show, schedules_keep, simulated_keep}
+use Rattle.iloc_farm.specs.Reads.{ReadsRows}
+use Rattle.iloc_farm.specs.Theorem.{IfAsked, Status0Tells}
+use Rattle.iloc_farm.specs.Theorem.Checked.{ReadsTheSame}
+use Rattle.iloc_farm.specs.Theorem.Kept.{KeepsEachBlock}
+use Rattle.iloc_farm.specs.Theorem.Listed.{ListsExplained}
 
 passed_at_0 : (finding : Finding) → status_of_finding finding ≡ 0 → finding ≡ Passed
 passed_at_0 finding h1 = grind arith
@@ -39,44 +50,78 @@ judges : (held : Held) (request : Request) (old new : Option (List ℕ)) (findin
     → ListsAs command_of t file held request old new finding text → Judges held request old new finding text
 judges held request old new finding text t file is check named lists = grind arith
 
-listed_same : (held : Held) (words : Result Args Error) (read_old read_new : Option (List ℕ)) (finding : Finding)
-    (text : List ℕ) (a : Asked) → IsListed command_of held words read_old read_new finding text → finding ≡ Passed → AskFor words a
-    → a.task ≡ task.Check → ReadsTheSame held a read_old read_new
-listed_same held words read_old read_new finding text a listed passed asks check =
-    let request : Request = listed.request in
-    let same : asked_in request ≡ a = one_asked words (asked_in request) a listed.asked asks in
-    let is : request.task ≡ task.Check = ap (λ (x : Asked). x.task) same ∙ check in
-    let judged : Judges held request read_old read_new finding text =
-    judges held request read_old read_new finding text request.task request.task_file refl is refl listed.listed in
-    let Q : Finding → Type 0 = λ f. Checks request judged.blocks judged.proposals f text in
-    let T : Asked → Type 0 = λ x.
-    AllZip (λ (b : Block) (p : Proposed). DoTheSame (x.flags Outputs) request.latencies b.ops p.ops p.rows) judged.blocks
-    (placed (x.flags EitherSlot) judged.proposals) in
-    let R : Option (List ℕ) → Type 0 = λ file. ReadsRows held file read_old read_new judged.blocks judged.proposals in
-    let S : Asked → Type 0 = λ x. AllZip (λ (b : Block) (p : Proposed).
-    MayPass (options_by x.flags) request.latencies (words_from x.at x.words) b.ops p.ops p.rows) judged.blocks
-    (placed (x.flags EitherSlot) judged.proposals) in
+checks_pass : (held : Held) (request : Request) (ro rn : Option (List ℕ)) (text : List ℕ) → request.task ≡ task.Check
+    → ListsFrom command_of held request ro rn Passed text → ReadsTheSame held (asked_in request) ro rn
+checks_pass held request ro rn text is lists =
+    let judged : Judges held request ro rn Passed text =
+    judges held request ro rn Passed text request.task request.task_file refl is refl lists in
+    let rows = placed (has request.flags EitherSlot) judged.proposals in
     record {
       blocks = judged.blocks;
       proposals = judged.proposals;
-      read = subst R (ap (λ (x : Asked). x.task_file) same) judged.read;
+      read = judged.read;
       latencies = request.latencies;
-      load = ap (λ (x : Asked). x.load) same;
-      store = ap (λ (x : Asked). x.store) same;
-      mult = ap (λ (x : Asked). x.mult) same;
-      same = subst T same
-          (passed_keep_outcomes (options_of request) request.nodes (memory_rule request) request.latencies (initial_memory request)
-          judged.blocks (placed (has request.flags EitherSlot) judged.proposals) text (subst Q passed judged.checked));
-      told = subst S same (passed_may_pass (options_of request) request.nodes (memory_rule request) request.latencies
-          (initial_memory request) judged.blocks (placed (has request.flags EitherSlot) judged.proposals) text (subst Q passed judged.checked));
+      are_asked = record { load = refl; store = refl; mult = refl };
+      same = passed_keep_outcomes (options_of request) request.nodes (memory_rule request) request.latencies
+          (initial_memory request) judged.blocks rows text judged.checked;
+      told = passed_may_pass (options_of request) request.nodes (memory_rule request) request.latencies
+          (initial_memory request) judged.blocks rows text judged.checked;
     }
 
-pub status_0_means_the_same : Status0MeansTheSame
-status_0_means_the_same held words ro rn wo wn so sn ending (inl well) zero a asks check =
-    let passed : well.finding ≡ Passed = passed_at_0 well.finding (sym well.status ∙ zero) in
-    elim well.done.asked [
-      | inl help ↦ absurd (no_help words help.0.help a help.0.asked asks)
-      | inr listed ↦ listed_same held words ro rn well.finding well.done.text a listed passed asks check
-    ]
-status_0_means_the_same held words ro rn wo wn so sn ending (inr stopped) zero a asks check =
-    absurd (above_0 command_of held words ro rn wo wn stopped.fault stopped.stopped (sym stopped.status ∙ zero))
+-- What status 0 tells
+
+module _ (held : Held) (words : Result Args Error) (ro rn wo wn so sn : Option (List ℕ)) (ending : Ending)
+    (ends : Ends command_of held words ro rn wo wn so sn ending) (zero : ending.status ≡ 0) where
+  -- what holds of each request with this task that lists what was written holds of what the words ask for
+  told : (t : Task) (Claim : Asked → Type 0)
+      → ((request : Request) (text : List ℕ) → request.task ≡ t → ListsFrom command_of held request ro rn Passed text
+      → Appends wo wn text → Claim (asked_in request))
+      → IfAsked words t Claim
+  told t Claim holds a asks is =
+      elim ends [
+        | inl well ↦
+            let passed : well.finding ≡ Passed = passed_at_0 well.finding (sym well.status ∙ zero) in
+            elim well.done.asked [
+              | inl help ↦ absurd (no_help words help.0.help a help.0.asked asks)
+              | inr listed ↦
+                  let request : Request = listed.request in
+                  let same : asked_in request ≡ a = one_asked words (asked_in request) a listed.asked asks in
+                  subst Claim same (holds request well.done.text (ap (λ (x : Asked). x.task) same ∙ is)
+                  (subst (λ f. ListsFrom command_of held request ro rn f well.done.text) passed listed.listed) well.done.written)
+            ]
+        | inr stopped ↦
+            absurd (above_0 command_of held words ro rn wo wn stopped.fault stopped.stopped (sym stopped.status ∙ zero))
+      ]
+
+  -- the same by what is listed for the task
+  told_as : (t : Task) (Claim : Asked → Type 0)
+      → ((request : Request) (text : List ℕ) → ListsAs command_of t request.task_file held request ro rn Passed text
+      → Appends wo wn text → Claim (asked_in request))
+      → IfAsked words t Claim
+  told_as t Claim holds = told t Claim (λ request text is lists written. holds request text
+      (subst (λ u. ListsAs command_of u request.task_file held request ro rn Passed text) is lists) written)
+
+  explained : (request : Request) (text : List ℕ) (file : Option (String Global)) → file ≡ request.task_file
+      → ListsAs command_of task.Explain file held request ro rn Passed text → Appends wo wn text
+      → (asked_in request).task_file ≡ None
+      → KeepsEachBlock (asked_in request) (ListsExplained (has request.flags Cycles) (memory_rule request)) ro rn wo wn
+  explained request text None named lists written none = explained_keep held request ro rn wo wn Passed text written lists
+  explained request text (Some name) named lists written none =
+      let both : Some (string_bytes name) ≡ None = ap (option_map string_bytes) named ∙ none in absurd cc
+
+  pub status_0_tells : Status0Tells held words ro rn wo wn
+  status_0_tells = record {
+    run = told_as task.Run _ (λ request text lists written. runs_show held request ro rn wo wn Passed text written lists);
+    simulate = told_as task.Simulate _
+        (λ request text lists written. simulated_keep held request ro rn wo wn Passed text written lists);
+    schedule = told_as task.Schedule _
+        (λ request text lists written. schedules_keep held request ro rn wo wn Passed text written lists);
+    counts = told_as task.Counts _ (λ request text lists written. counts_keep held request ro rn wo wn Passed text written lists);
+    compare = told_as task.Compare _
+        (λ request text lists written. comparisons_hold held request ro rn wo wn Passed text written lists);
+    optimize = told_as task.Optimize _
+        (λ request text lists written. optima_keep held request ro rn wo wn Passed text written lists);
+    explain = told_as task.Explain _
+        (λ request text lists written. explained request text request.task_file refl lists written);
+    check = told task.Check _ (λ request text is lists written. checks_pass held request ro rn text is lists);
+  }

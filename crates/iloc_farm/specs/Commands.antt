@@ -1,8 +1,10 @@
 -- The commands.
+use Rattle.std.specs.Prelude.{◌≡◌}
 use Rattle.iloc_args.specs.declared.request.Task.{Task}
 use Rattle.iloc_args.specs.declared.request.Task.TheVariants as task
 use Rattle.iloc_driver.specs.Command.{Command, of_files, of_files_or_rows}
 use Rattle.iloc_driver.specs.Entries.{IsListingOf, no_ending}
+use Rattle.iloc_driver.specs.Work.{ReceiptOf}
 use Rattle.iloc_block_commands.specs.Compare.{compare_command}
 use Rattle.iloc_block_commands.specs.Counts.{counts_command}
 use Rattle.iloc_block_commands.specs.Lint.{lint_command}
@@ -16,6 +18,8 @@ use Rattle.iloc_view_commands.specs.Trace.{IsTraceEntry}
 use Rattle.iloc_row_commands.specs.Check.{check_command}
 use Rattle.iloc_row_commands.specs.Explain.{Explains}
 use Rattle.iloc_row_commands.specs.Trace.{Traces}
+use Rattle.iloc_farm.specs.declared.receipt.CommandReceipt.{CommandReceipt}
+use Rattle.iloc_farm.specs.declared.receipt.CommandReceipt.TheVariants.{Entries, Cycles, Compared}
 
 abbrev pub explain_command : Command
 explain_command = of_files_or_rows explain_files Explains
@@ -35,3 +39,12 @@ command_of task.Explain = explain_command
 command_of task.Check = check_command
 command_of task.Graph = graph_command
 command_of task.Lint = lint_command
+
+-- the receipt for what workers listed for a task keeps this
+abbrev pub IsReceiptFor : (t : Task) → ReceiptOf (command_of t).listers → CommandReceipt → Type 0
+IsReceiptFor task.Schedule kept receipt = receipt ≡ Entries kept
+IsReceiptFor task.Counts kept receipt = receipt ≡ Cycles kept
+IsReceiptFor task.Compare kept receipt = receipt ≡ Compared kept
+IsReceiptFor task.Optimize kept receipt = receipt ≡ Entries kept
+IsReceiptFor task.Explain kept receipt = receipt ≡ Entries kept
+IsReceiptFor _ kept receipt = ⊥

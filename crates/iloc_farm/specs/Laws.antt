@@ -1,12 +1,9 @@
 -- What holds of listings as a whole.
-use Rattle.std.specs.Prelude.{◌≡◌, ℕ, ℤ, ◌<◌, ◌≤◌, ◌^◌, Bool, true, false, is_some, List, length, Option, Some, None, Result, IsTrue}
+use Rattle.std.specs.Prelude.{◌≡◌, ℕ, ℤ, ◌<◌, ◌≤◌, ◌^◌, Bool, true, false, is_some, List, length, Option, Some, IsTrue}
 use Rattle.std.specs.List.{AllZip}
-use Rattle.std.specs.declared.io.Error.{Error}
 use Rattle.iloc_ops.specs.declared.file.Block.{Block}
 use Rattle.iloc_ops.specs.declared.op.Op.{Op}
-use Rattle.iloc_meaning.specs.Memory.{words_from}
 use Rattle.iloc_text.specs.Files.{AreWithinLimits, Denotes}
-use Rattle.iloc_text.specs.Streams.{ReadsText}
 use Rattle.iloc_timed.specs.declared.latencies.Latencies.{Latencies}
 use Rattle.iloc_timed.specs.declared.row.Row.{Row}
 use Rattle.iloc_timed.specs.Cycles.{cycles}
@@ -21,26 +18,21 @@ use Rattle.iloc_rows.specs.declared.proposal.Proposed.{Proposed}
 use Rattle.iloc_validation.specs.ByTheBook.{IsByTheBook}
 use Rattle.iloc_judge.specs.Checked.{DoTheSame, MayPass}
 use Rattle.iloc_comparison.specs.declared.task.CheckOptions.{CheckOptions}
-use Rattle.iloc_rows.specs.EitherSlot.{placed}
 use Rattle.iloc_rows.specs.Submissions as submissions
-use Rattle.iloc_args.specs.Asked.{Asked}
 use Rattle.iloc_args.specs.Flags.{has}
-use Rattle.iloc_args.specs.declared.flag.Flag.TheVariants.{EitherSlot, Outputs, Where}
+use Rattle.iloc_args.specs.declared.flag.Flag.TheVariants.{Where}
 use Rattle.iloc_args.specs.declared.request.Request.{Request}
 use Rattle.iloc_args.specs.declared.request.Task.{Task}
 use Rattle.iloc_args.specs.declared.request.Task.TheVariants as task
 use Rattle.iloc_farm.specs.Commands.{command_of}
 use Rattle.iloc_driver.specs.declared.commands.Finding.{Finding}
 use Rattle.iloc_driver.specs.declared.commands.Finding.TheVariants.{Passed}
-use Rattle.iloc_driver.specs.declared.program.Ending.{Ending}
 use Rattle.iloc_driver.specs.Run.Apart.{Held, ReadsApart}
-use Rattle.iloc_row_commands.specs.Check.{ListsChecked, options_by}
+use Rattle.iloc_row_commands.specs.Check.{ListsChecked}
 use Rattle.iloc_block_commands.specs.Compare.{IsComparedCycles, optimal}
-use Rattle.iloc_block_commands.specs.Optimize.{IsOptimizeEntry}
 use Rattle.iloc_block_commands.specs.declared.compare.ComparedCycles.{ComparedCycles}
 use Rattle.iloc_listing.specs.Listing.{total_cycles}
 use Rattle.iloc_driver.specs.Priorities.{Own}
-use Rattle.iloc_driver.specs.Program.{Args, AskFor, Ends}
 use Rattle.iloc_driver.specs.Run.{IsListing, IsListingFor, ListsFrom, takes_rows}
 use Rattle.iloc_listing.specs.Schedules.{AreGreedyAs, IsCountUnder}
 
@@ -56,7 +48,7 @@ pub record AskAlike (r q : Request) : Type 0 where
   pub task_file : r.task_file ≡ q.task_file
   pub flags : r.flags ≡ q.flags
 
--- whether a request with this task and these nodes searches for schedules of the blocks of a file
+-- whether a request with a task and `nodes` searches for schedules of the blocks of a file
 abbrev pub searches : Task → Option ℕ → Bool
 searches task.Optimize nodes = true
 searches task.Compare nodes = is_some nodes
@@ -77,14 +69,8 @@ OptimaIgnoreWorkers = (r q : Request) → AskAlike r q → (t : Task) → search
     → (own : Own) (blocks : List Block) (text : List ℕ)
     → IsListingFor command_of t r own blocks text → IsListingFor command_of t q own blocks text
 
--- by any rule of memory, a schedule that is listed with a bound which its cycles reach is optimal among those of its block that are
--- lawful by the rule
-abbrev pub ListedOptimaAreOptimal : Type 0
-ListedOptimaAreOptimal = (rule : MemoryRule) (lat : Latencies) (k : ℕ) (b : Block) (entry : List ℕ) (cycles : ℕ)
-    → (is : IsOptimizeEntry rule lat k b entry cycles) → cycles ≡ is.best.bound
-    → IsOptimal rule lat b.ops is.best.schedule.ops is.best.schedule.rows
-
--- so is one, greedy by whatever priorities, that is counted as optimal beside a comparison of its block
+-- By any rule of memory, a schedule, greedy by whatever priorities, that is counted as optimal beside a comparison of
+-- its block is optimal among the block's schedules that are lawful by the rule.
 abbrev pub CountedOptimaAreOptimal : Type 0
 CountedOptimaAreOptimal = (rule : MemoryRule) (lat : Latencies) (nodes : Option ℕ) (numbers : Option (List ℕ)) (b : Block)
     (c : ComparedCycles) → IsComparedCycles rule lat nodes numbers b c → (prios : List Op → List ℕ) (cycles : ℕ)
@@ -118,43 +104,6 @@ PassedChecksMayPass = (options : CheckOptions) (nodes : Option ℕ) (rule : Memo
     (blocks : List Block) (proposals : List Proposed) (text : List ℕ)
     → ListsChecked options nodes rule lat memory blocks proposals Passed text
     → AllZip (λ (b : Block) (p : Proposed). MayPass options lat memory b.ops p.ops p.rows) blocks proposals
-
--- one input was read, which denotes blocks and the rows that are proposed for them
-pub record ReadsSubmission (old new : Option (List ℕ)) (blocks : List Block) (proposals : List Proposed) : Type 0 where
-  pub input : List ℕ
-  pub read : ReadsText old new input
-  pub denoted : submissions.Denotes input blocks proposals
-
--- blocks and rows were read: of one input or, where a file is named, the blocks of that file alone
-abbrev pub ReadsRows : Held → Option (List ℕ) → Option (List ℕ) → Option (List ℕ) → List Block → List Proposed → Type 0
-ReadsRows held None old new blocks proposals = ReadsSubmission old new blocks proposals
-ReadsRows held (Some name) old new blocks proposals = ReadsApart (held name) old new blocks proposals
-
--- Blocks were read, and rows that are proposed for them. With the latencies that are asked for, and in either slot if that is
--- asked for, the rows for each block keep the rules of the units and have its outcome on every memory or, where it is asked to
--- compare outputs alone, show what it shows. They are by the book; or, where that isn't asked for, the block finishes on the
--- memory that is, and has a store or an output, or an output where outputs alone are compared. Where it is asked for, they have
--- the block's operations.
-pub record ReadsTheSame (held : Held) (asked : Asked) (old new : Option (List ℕ)) : Type 0 where
-  pub blocks : List Block
-  pub proposals : List Proposed
-  pub read : ReadsRows held asked.task_file old new blocks proposals
-  pub latencies : Latencies
-  pub load : latencies.load ≡ asked.load
-  pub store : latencies.store ≡ asked.store
-  pub mult : latencies.mult ≡ asked.mult
-  pub same : AllZip (λ (b : Block) (p : Proposed). DoTheSame (asked.flags Outputs) latencies b.ops p.ops p.rows) blocks
-      (placed (asked.flags EitherSlot) proposals)
-  pub told : AllZip (λ (b : Block) (p : Proposed).
-      MayPass (options_by asked.flags) latencies (words_from asked.at asked.words) b.ops p.ops p.rows) blocks
-      (placed (asked.flags EitherSlot) proposals)
-
--- so it is where the program ends with status 0 and its words ask for a check
-abbrev pub Status0MeansTheSame : Type 0
-Status0MeansTheSame = (held : Held) (words : Result Args Error)
-    (read_old read_new written_old written_new said_old said_new : Option (List ℕ)) (ending : Ending)
-    → Ends command_of held words read_old read_new written_old written_new said_old said_new ending → ending.status ≡ 0
-    → (asked : Asked) → AskFor words asked → asked.task ≡ task.Check → ReadsTheSame held asked read_old read_new
 
 -- of a text that is known, two checks judge the same blocks, whatever was handed in to each
 abbrev pub HandInsDontChangeTheTask : Type 0

@@ -1,11 +1,11 @@
 //! The commands: what each task asks for.
-ghost use Rattle.iloc_farm.specs.Commands.{command_of};
+ghost use Rattle.iloc_farm.specs.Commands.{IsReceiptFor, command_of};
 
+use crate::receipt::CommandReceipt;
 use iloc_args::{Request, Task};
 use iloc_block_commands::{
     CompareLister, CountLister, OptimizeLister, RunLister, ScheduleLister, SimulateLister, linted,
 };
-use iloc_board::Receipt;
 use iloc_driver::{
     Commands, Listed, RunFault, Texts, alone, of_file_or_rows, of_rows, shared, shared_or_rows,
 };
@@ -20,7 +20,11 @@ use std::thread::Threads;
 pub(crate) struct AllCommands;
 
 impl Commands for AllCommands {
+    type Receipt = CommandReceipt;
+
     ghost command_of = { command_of };
+
+    ghost is_receipt = { IsReceiptFor };
 
     fn list<H: Threads + Wait + Sync, T: Texts, R: Read>(
         rt: &H,
@@ -28,22 +32,26 @@ impl Commands for AllCommands {
         texts: &T,
         reader: &mut R,
         request: &Request,
-    ) -> Result<(Listed, Option<Receipt>), RunFault> {
+    ) -> Result<(Listed, Option<CommandReceipt>), RunFault> {
         match request.task {
-            Task::Run => alone::<RunLister, R>(alloc, reader, request),
-            Task::Simulate => alone::<SimulateLister, R>(alloc, reader, request),
-            Task::Trace => of_file_or_rows::<TraceLister, RowsTracer, T, R>(
+            Task::Run => alone::<RunLister, R, _>(alloc, reader, request),
+            Task::Simulate => alone::<SimulateLister, R, _>(alloc, reader, request),
+            Task::Trace => of_file_or_rows::<TraceLister, RowsTracer, T, R, _>(
                 alloc, texts, reader, request,
             ),
-            Task::Schedule => shared::<ScheduleLister, H, T, R>(rt, alloc, texts, reader, request),
-            Task::Counts => shared::<CountLister, H, T, R>(rt, alloc, texts, reader, request),
-            Task::Compare => shared::<CompareLister, H, T, R>(rt, alloc, texts, reader, request),
-            Task::Optimize => shared::<OptimizeLister, H, T, R>(rt, alloc, texts, reader, request),
-            Task::Explain => shared_or_rows::<ExplainLister, RowsExplainer, H, T, R>(
+            Task::Schedule => shared::<ScheduleLister, H, T, R, _>(
                 rt, alloc, texts, reader, request,
             ),
-            Task::Graph => alone::<GraphLister, R>(alloc, reader, request),
-            Task::Check => of_rows::<CheckLister, T, R>(alloc, texts, reader, request),
+            Task::Counts => shared::<CountLister, H, T, R, _>(rt, alloc, texts, reader, request),
+            Task::Compare => shared::<CompareLister, H, T, R, _>(rt, alloc, texts, reader, request),
+            Task::Optimize => shared::<OptimizeLister, H, T, R, _>(
+                rt, alloc, texts, reader, request,
+            ),
+            Task::Explain => shared_or_rows::<ExplainLister, RowsExplainer, H, T, R, _>(
+                rt, alloc, texts, reader, request,
+            ),
+            Task::Graph => alone::<GraphLister, R, _>(alloc, reader, request),
+            Task::Check => of_rows::<CheckLister, T, R, _>(alloc, texts, reader, request),
             Task::Lint => Ok((linted(alloc, reader)?, None)),
         }
     }

@@ -1,7 +1,8 @@
 //! The farm: the blocks of a file, scheduled by several workers.
 ghost use Rattle.std.specs.Prelude.{◌≡◌, ◌≤◌, IfOk};
 ghost use Rattle.iloc_text.specs.Files.{AreWithinLimits};
-ghost use Rattle.iloc_farm.specs.Headline.{Headline};
+ghost use Rattle.iloc_farm.specs.Headline.{Headline, KeepsItsBlock};
+ghost use Rattle.iloc_listing.specs.Listing.{cycles_of};
 ghost use Rattle.iloc_listing.specs.Schedules.{AreGreedyAs, AreTheOnlyGreedyAs, KeepOutcomes};
 
 use iloc_board::{Done, Gate, Jobs, NoDesk, NoMemory};
@@ -15,8 +16,8 @@ use std::marker::Model;
 use std::sync::Wait;
 use std::thread::Threads;
 
-/// Blocks to be scheduled for a machine with these latencies, by this heuristic. The answer to job i is the schedule of block
-/// i, and costs its cycles.
+/// Blocks to be scheduled for a machine with its latencies, by its heuristic. The answer to job i is the schedule of
+/// block i, and costs its cycles.
 #[derive(Drop)]
 pub struct BlockJobs<'f> {
     blocks: &'f [Block],
@@ -43,9 +44,9 @@ impl<'f> Model for BlockJobs<'f> {
 }
 
 impl<'f> BlockJobs<'f> {
-    /// The blocks of this file.
+    /// The blocks of `file`.
     ///
-    /// Promise: the jobs are the file's blocks, to be scheduled by this heuristic with these latencies.
+    /// Promise: the jobs are the file's blocks, to be scheduled by `heuristic` with `latencies`.
     pub fn new(file: &'f IlocFile, latencies: &Latencies, heuristic: Heuristic) -> BlockJobs<'f>
         requires { AreWithinLimits file.now.blocks }
         ensures { result
@@ -122,13 +123,14 @@ pub fn schedule_all<R: Threads + Wait + Sync, G: Gate + Sync>(
 
 /// The schedules that workers made, in the order of the file.
 ///
-/// Promise: what the workers did, by the journals of the receipt, is one legal history of a board of one thread, in which each
-/// block is taken once and its schedule handed back once, at its cycles. These are the schedules that were handed back: each is
-/// the greedy one, keeps the rules of units and latencies, and has its block's outcome on every memory.
+/// Promise: what the workers did, by the journals of the receipt, is one legal history of a board of one thread, in
+/// which each block is taken once and its schedule handed back once, at its cycles. The result has the schedules that
+/// were handed back: each is the greedy one, keeps the rules of units and latencies, and has its block's outcome on
+/// every memory.
 pub fn schedules_of<'j, 'f>(done: Done<'j, BlockJobs<'f>>) -> Vec<Schedule>
-    ensures answers { result.items ≡ done.entry.answers }
+    ensures answers { result.items ≡ done.entry.receipt.answers }
     ensures headline { let jobs = done.entry.jobs in
-        Headline jobs.heuristic jobs.latencies jobs.blocks done.entry.receipt result.items }
+        Headline (λ _ b s. KeepsItsBlock jobs.latencies b s) (cycles_of jobs.latencies) jobs.blocks done.entry.receipt }
     ensures greedy { let jobs = done.entry.jobs in
         AreGreedyAs jobs.heuristic jobs.latencies jobs.blocks result.items }
 {

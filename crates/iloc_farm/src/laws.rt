@@ -1,5 +1,5 @@
 //! Laws of listings and of rows, as contracts of functions that do nothing.
-ghost use Rattle.iloc_farm.specs.Laws.{ChecksIgnoreWorkers, GreedySchedulesCanBeListed, HandInsDontChangeTheTask, ByTheBookTakesTheLeast, CountedOptimaAreOptimal, ListedOptimaAreOptimal, ListingsIgnoreWorkers, OptimaIgnoreWorkers, PassedChecksKeepOutcomes, PassedChecksMayPass, SimulatingListsRuns, Status0MeansTheSame};
+ghost use Rattle.iloc_farm.specs.Laws.{ChecksIgnoreWorkers, GreedySchedulesCanBeListed, HandInsDontChangeTheTask, ByTheBookTakesTheLeast, CountedOptimaAreOptimal, ListingsIgnoreWorkers, OptimaIgnoreWorkers, PassedChecksKeepOutcomes, PassedChecksMayPass, SimulatingListsRuns};
 
 /// The number of workers leaves no trace in a listing.
 ///
@@ -13,14 +13,6 @@ pub fn listings_ignore_workers()
 /// Promise: what `optimize` and `compare --nodes` may list of blocks doesn't depend on their workers.
 pub fn optima_ignore_workers()
     ensures { OptimaIgnoreWorkers }
-{}
-
-/// Where `optimize` says `optimal`, it is so.
-///
-/// Promise: a schedule that is listed with a bound which its cycles reach is optimal among those of its block that are lawful by
-/// the rule of memory.
-pub fn listed_optima_are_optimal()
-    ensures { ListedOptimaAreOptimal }
 {}
 
 /// Where `compare` counts a schedule as optimal, it is so.
@@ -56,13 +48,7 @@ pub fn passed_checks_may_pass()
     ensures { PassedChecksMayPass }
 {}
 
-/// So it is where the program ends with status 0 and its words ask for a check: with the latencies and the memory that
-/// they ask for, of the blocks and rows that were read.
-pub fn status_0_means_the_same()
-    ensures { Status0MeansTheSame }
-{}
-
-/// Whatever is handed in, the blocks that are judged are those of the task's file, where one is named.
+/// Whatever is handed in, the blocks that are judged are the blocks of the task's file, where one is named.
 ///
 /// Promise: a hand-in can't change the task.
 pub fn hand_ins_dont_change_the_task()

@@ -1,5 +1,6 @@
-//! The tests of the command line and the farm, by their public calls. They stand apart so that each crate is proved
-//! once, and not a second time beside its tests.
+//! Tests of the command line and the farm, by their public calls.
+//!
+//! They are a crate of their own so that each other crate is proved once, and not a second time beside its tests.
 #![tactic(auto)]
 
 #[cfg(test)]

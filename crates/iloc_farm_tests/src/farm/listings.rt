@@ -40,7 +40,7 @@ fn listed(alloc: Global, file: &IlocFile, schedule: &Schedule) -> Result<(Vec<u8
     Ok((rows, counts_text(alloc, file, &usual, schedules)?))
 }
 
-/// The schedule with these rows of a file's first block.
+/// The schedule of the first block of `file` with the rows `APART`.
 fn apart(alloc: Global, file: &IlocFile) -> Result<Schedule, Fail> {
     let block = file.blocks.as_slice().first().ok_or("no block")?;
     let ops = Vec::from_slice(alloc, block.ops.as_slice())?;

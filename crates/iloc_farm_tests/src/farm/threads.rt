@@ -130,7 +130,7 @@ fn stairs(alloc: Global, count: u32) -> Result<Vec<u8>, Fail> {
     Ok(text)
 }
 
-/// Asserts that these are the schedules of so many such blocks.
+/// Asserts that `schedules` are the ones of `count` blocks of stairs.
 fn assert_stairs(rt: &impl Abort, schedules: &[Schedule], count: u32) {
     assert!(rt; schedules.len() == count as usize);
     for (k, schedule) in schedules.iter().enumerate() {
@@ -138,13 +138,13 @@ fn assert_stairs(rt: &impl Abort, schedules: &[Schedule], count: u32) {
     }
 }
 
-/// Asserts that all these workers met, and took a block each.
+/// Asserts that all `workers` met at `gate`, and took a block each.
 fn assert_met(rt: &impl Abort, gate: &Meetings, workers: u32) {
     assert!(rt; gate.looks.have_met() && gate.takes.have_met());
     assert!(rt; gate.taken.load(Ordering::SeqCst) == u64::from(workers));
 }
 
-/// So many workers, and a block for each of them.
+/// Asserts that of `workers` workers and as many blocks each takes one.
 fn assert_each_takes_one<H: Abort + AllocGlobal + Threads + Wait + Sync>(
     rt: &H,
     workers: u32,
@@ -220,7 +220,7 @@ fn looks_of_all(rt: &impl Abort, gate: &Crowd) -> u64 {
     looks
 }
 
-/// Whatever is answered: to be run with each allocation refused in turn, those of a thread's start among them.
+/// Whatever is answered: to be run with each allocation refused in turn, also at a thread's start.
 #[test]
 fn leaves_no_thread_behind(rt: HostRuntime) -> Result<(), Fail> {
     let gate = Crowd::new();

@@ -6,10 +6,11 @@ pub returns-clause-headline : goal.returns-clause-headline
 returns-clause-headline c =
     let jobs = c.args.done.jobs in
     rw (sym c.into_parts-schedules.ensures.receipt)
-    (headline jobs.heuristic jobs.latencies jobs.blocks _ _ c.into_parts-schedules.ensures.done)
+    (headline jobs.heuristic jobs.latencies jobs.blocks _ c.into_parts-schedules.ensures.done)
 
 pub returns-clause-greedy : goal.returns-clause-greedy
 returns-clause-greedy c =
     let jobs = c.args.done.jobs in
     let done = c.into_parts-schedules.ensures.done.1.in_order in
-    are_greedy jobs.heuristic jobs.latencies jobs.blocks _ done.long (λ i s at. (done.each i s at).1)
+    rw c.into_parts-schedules.ensures.answers
+    (are_greedy jobs.heuristic jobs.latencies jobs.blocks _ done.long (λ i s at. (done.each i s at).1))
