@@ -8,8 +8,8 @@ use iloc_ops::{MAX_OPS, NoMemory, Op};
 use iloc_rules::Word;
 use std::alloc::Global;
 
-/// Promise: By operation what is known of its address, if it has one, where these are executed in order and all registers
-/// are 0 at first.
+/// Promise: By operation what is known of its address, if it has one, where `ops` are executed in order and all
+/// registers are 0 at first.
 ///
 /// It takes time of order n log n.
 pub fn known_addresses(alloc: Global, ops: &[Op]) -> Result<Vec<Option<Word>>, NoMemory>

@@ -54,12 +54,12 @@ impl MemoryDependences {
         self.output = None;
     }
 
-    /// Promise: Takes operation j, and fills a list with the operations that it has to wait for by memory and outputs, where
-    /// none between takes their place. Stores wait for each other; else what is apart doesn't. After a refusal it stands
-    /// before the first operation of a list.
+    /// Promise: Takes operation `j`, and fills `sources` with the operations that it has to wait for by memory and
+    /// outputs, if none between takes their place. Stores wait for each other; else what is apart doesn't. After a
+    /// refusal `self` is as before the first operation of a list.
     ///
-    /// At each moment the operations found so far and those that wait for a store are at most three for each operation
-    /// taken. All together take time of order n log n.
+    /// At each moment the operations found so far and the ones that wait for a store are at most three for each
+    /// operation taken. All together take time of order n log n.
     pub fn take(
         &mut self,
         kind: Kind,

@@ -1,5 +1,7 @@
-//! What is known of the addresses that a block's operations reach, which of them differ whatever memory it starts with, and,
-//! where such don't count, which operations depend on which by memory and how many wait for each directly.
+//! What is known of the addresses that a block's operations reach, and which operations depend on which by memory then.
+//!
+//! Two addresses are apart if they differ whatever memory the block starts with. Operations that are apart don't depend on each
+//! other. The crate also counts how many operations wait for each directly.
 #![tactic(auto)]
 
 mod addresses;

@@ -2,7 +2,7 @@
 use std::fmt::Debug;
 use std::process::Abort;
 
-/// Asserts that these were found.
+/// Asserts that `found` is what was `wanted`.
 pub(crate) fn assert_list<T: Debug + PartialEq>(rt: &impl Abort, found: &[T], wanted: &[T]) {
     assert_eq!(rt; found, wanted);
 }

@@ -1,6 +1,6 @@
-//! The tests of what becomes of a block, from its text to its run under a schedule, by the crates' public calls: those
-//! that the built program can't show. They stand apart so that each crate is proved once, and not a second time beside
-//! its tests.
+//! Tests of the crates from a block's text to its run under a schedule, as far as the built program can't show it.
+//!
+//! They are a crate of their own so that each other crate is proved once, and not a second time beside its tests.
 #![tactic(auto)]
 
 #[cfg(test)]

@@ -29,7 +29,7 @@ const EMPTY: Row = Row {
 /// What is issued in a cycle: the cycle, and the operations on unit 0 and on unit 1.
 pub(crate) type Issue = (usize, Option<usize>, Option<usize>);
 
-/// The rows with these issues, in order; nothing is issued in any other cycle.
+/// The rows with `issues`, in order; nothing is issued in any other cycle.
 pub(crate) fn rows_of(alloc: Global, issues: &[Issue]) -> Result<Vec<Row>, AllocError> {
     let mut rows = Vec::new(alloc);
     for issue in issues {
@@ -40,7 +40,7 @@ pub(crate) fn rows_of(alloc: Global, issues: &[Issue]) -> Result<Vec<Row>, Alloc
     Ok(rows)
 }
 
-/// The schedule of these operations and issues. Of its rows no more are taken than a schedule may have.
+/// The schedule of `ops` and `issues`. Of its rows no more are taken than a schedule may have.
 pub(crate) fn build(alloc: Global, ops: &[Op], issues: &[Issue]) -> Result<Schedule, BuildFault> {
     let mut rows = rows_of(alloc, issues)?;
     rows.truncate(MAX_ROWS);

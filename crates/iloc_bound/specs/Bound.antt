@@ -13,22 +13,23 @@ use Rattle.iloc_rules.specs.Renaming.{renamed}
 use Rattle.iloc_rules.specs.Rule.{counts_by}
 use Rattle.iloc_rules.specs.Starts.{starts_where}
 
--- how many cycles are left at least from the issue of each operation: by address not all loads after a store wait for it, so these
--- are the longest chains of delays alone
+-- how many cycles are left at least from the issue of each operation. By address not all loads after a store wait for
+-- it, so there they are the longest chains of delays alone.
 abbrev pub tails_under : MemoryRule → Latencies → List Op → List ℕ
 tails_under Book lat ops = tails lat ops
 tails_under Address lat ops = priorities_where (by_address ops) lat ops
 
--- what the operations of these kinds need that can't be issued before this cycle, by the starts and the tails of all
+-- what the operations need whose kind passes `test` and that can't be issued before the cycle `first`, by the `starts`
+-- and the `tails` of all
 abbrev pub needed_after : ℕ → ℕ → (Kind → Bool) → (starts tails : List ℕ) → List Op → ℕ
 needed_after first width test starts tails ops = needed first width
     (map (slice_index tails) (filter (λ i. nat_le first (slice_index starts i)) (of_kind test ops)))
 
--- the lowest start of these operations
+-- the lowest start of an operation whose kind passes `test`
 abbrev pub first_start : (Kind → Bool) → List ℕ → List Op → ℕ
 first_start test starts ops = lowest (map (slice_index starts) (of_kind test ops))
 
--- what these operations need, or those that start later than the first
+-- what the operations whose kind passes `test` need, all of them, or without the ones of the lowest start
 abbrev pub needed_by : ℕ → (Kind → Bool) → (starts tails : List ℕ) → List Op → ℕ
 needed_by width test starts tails ops = max (needed_after (first_start test starts ops) width test starts tails ops)
     (needed_after (first_start test starts ops + 1) width test starts tails ops)

@@ -10,7 +10,7 @@ use Rattle.iloc_rules.specs.Least.{least}
 use Rattle.iloc_rules.specs.Rule.{counts_by}
 use Rattle.iloc_bound.specs.Bound.{least_under}
 
--- a lawful schedule of a block takes at least so many cycles
+-- a lawful schedule of a block takes at least its bound
 abbrev pub LeastBoundsTheCycles : Type 0
 LeastBoundsTheCycles = (lat : Latencies) (block ops : List Op) (rows : List Row)
     → IsLawful lat block ops rows → least lat block ≤ cycles lat ops rows
@@ -20,7 +20,7 @@ abbrev pub LeastBoundsTheCyclesByRule : Type 0
 LeastBoundsTheCyclesByRule = (rule : MemoryRule) (lat : Latencies) (block ops : List Op) (rows : List Row)
     → IsLawfulWhere (counts_by rule ops) lat block ops rows → least_under rule lat block ≤ cycles lat ops rows
 
--- where a lawful schedule of a block takes just so many, no other takes fewer
+-- where a lawful schedule of a block takes just its bound, no other takes fewer cycles
 abbrev pub BoundsProveTheOptimum : Type 0
 BoundsProveTheOptimum = (lat : Latencies) (block ops ops' : List Op) (rows rows' : List Row)
     → IsLawful lat block ops rows → cycles lat ops rows ≡ least lat block

@@ -2,8 +2,8 @@
 ghost use Rattle.std.specs.Prelude.{◌≡◌, ◌<◌, ◌^◌};
 ghost use Rattle.iloc_rules.specs.Least.{needed};
 
-/// What operations with these tails need that are issued from a first cycle on, of which a row can hold so many. Sorts the
-/// tails.
+/// What operations with `tails` need that are issued from the cycle `first` on, if a row can hold `width` of them.
+/// Sorts `tails`.
 pub(crate) fn needed(first: u64, width: u32, tails: &mut Vec<u32>) -> u64
     requires first { first < 2 ^ 33 }
     requires width { 0 < width }

@@ -12,7 +12,7 @@ use iloc_sched::Graph;
 use iloc_timed::Kind;
 use std::alloc::Global;
 
-/// Raises by the tail of operation j the numbers of those that it waits for.
+/// Raises the numbers of the operations that operation `j` waits for by the tail of `j`.
 fn raise_sources(found: &mut Vec<u32>, graph: &Graph, j: usize)
     requires book { graph.now.rule ≡ Book }
     requires few { length graph.now.ops ≤ MAX_OPS }

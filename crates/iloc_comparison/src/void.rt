@@ -18,7 +18,7 @@ pub enum Void {
     ShowsNothing,
 }
 
-/// Whether a block faults that has the first operations of this one, so many of them.
+/// Whether the block of the first `count` operations of `block` faults.
 fn prefix_faults(
     alloc: Global,
     interpreter: &mut Interpreter,

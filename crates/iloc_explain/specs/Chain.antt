@@ -7,7 +7,8 @@ use Rattle.iloc_timed.specs.Latency.{latency}
 use Rattle.iloc_rules.specs.declared.heuristic.Heuristic.TheVariants.{Chain}
 use Rattle.iloc_rules.specs.declared.memory_rule.MemoryRule.{MemoryRule}
 use Rattle.iloc_rules.specs.Delays.{IsDelayPairWhere}
-use Rattle.iloc_rules.specs.Rule.{counts_by, priorities_under}
+use Rattle.iloc_rules.specs.Rule.{counts_by}
+use Rattle.iloc_rules.specs.Heuristics.{priorities_under}
 
 -- by operation the longest chain of delays from it, by a rule of memory
 abbrev pub chains_by : MemoryRule → Latencies → List Op → List ℕ
@@ -46,8 +47,8 @@ IsLongestChain rule lat [] chain = chain ≡ []
 IsLongestChain rule lat (op ∷ ops) chain =
     (i : ℕ) × IsFirstOfGreatest rule lat (op ∷ ops) i × IsChainFrom rule lat (op ∷ ops) i chain
 
--- Each operation of the chain waits for the one before it, and the delays and the latency of the last operation take so
--- many cycles together.
+-- Each operation of the chain waits for the one before it, and the delays and the latency of the last operation take
+-- `cycles` cycles together.
 abbrev pub Spans : MemoryRule → Latencies → List Op → List ℕ → ℕ → Type 0
 Spans rule lat ops [] cycles = ⊥
 Spans rule lat ops (i ∷ []) cycles = cycles ≡ latency lat (op_at ops i)

@@ -8,11 +8,11 @@ use Rattle.iloc_rules.specs.declared.word.Word.{Word}
 use Rattle.iloc_rules.specs.Apart.{address_at}
 use Rattle.iloc_explain.specs.declared.counted.Counted.{Counted}
 
--- by address this is known of the addresses of these operations
+-- `addresses` has what is known by address of the addresses of `ops`
 abbrev pub AreAddresses : MemoryRule → List Op → List (Option Word) → Type 0
 AreAddresses Book ops addresses = Unit {0}
 AreAddresses Address ops addresses = addresses ≡ map (address_at ops) (range_with_len 0 (length ops))
 
--- it says which pairs of these operations count
-abbrev pub IsCounted : List Op → Counted → Type 0
-IsCounted ops counted = AreAddresses counted.rule ops counted.addresses.items
+-- `counted` says which pairs of `ops` count
+abbrev pub IsKnownOf : List Op → Counted → Type 0
+IsKnownOf ops counted = AreAddresses counted.rule ops counted.addresses.items

@@ -47,7 +47,7 @@ abbrev pub next_text : List Op → Row → Option ℕ → Option (ℕ × ℕ) �
 next_text ops row (Some j) coming = decimal j ++ codes " held " ++ holder_text (held_by (keeper ops row j))
 next_text ops row None coming = coming_text coming
 
--- each of these with a value of its own
+-- each of `numbers` with its `value`
 abbrev pub paired : (ℕ → ℕ) → List ℕ → List (ℕ × ℕ)
 paired value numbers = map (λ n. (n, value n)) numbers
 
@@ -93,8 +93,8 @@ module _ (prios : List ℕ) (rule : MemoryRule) (lat : Latencies) (ops : List Op
   abbrev pub cycle_lines : List ℕ
   cycle_lines = flat_map line_from (range_with_len 0 (length rows))
 
--- What is listed of these operations in these rows, a schedule by a rule of memory that these priorities rank: a line for each
--- cycle, and the cycles with their lower bound.
+-- What is listed of the operations `ops` in `rows`, a schedule by `rule` that the priorities `prios` rank: a line for
+-- each cycle, and the cycles with their lower `bound`.
 abbrev pub ready_listing : List ℕ → MemoryRule → Latencies → ℕ → List Op → List Row → List ℕ
 ready_listing prios rule lat bound ops rows =
     cycle_lines prios rule lat ops rows ++ cycles_line (cycles lat ops rows) bound

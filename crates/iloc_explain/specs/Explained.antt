@@ -25,8 +25,8 @@ unit_of row i = if list_any (λ k. i == k) (option_to_list row.zero) then unit.Z
 abbrev pub slack_in : MemoryRule → Latencies → List Op → List Row → ℕ → ℕ
 slack_in rule lat ops rows j = cycles lat ops rows - issue_cycle rows j - chain_by rule lat ops j
 
--- This is operation j by a rule of memory: when and where it is issued, when it was ready, what it waited for until then, which of these
--- priorities is its own, when its delays alone would let it be issued, its slack, and what kept it out of the row before.
+-- `e` is operation `j` by `rule`: when and where it is issued, when it was ready, what it waited for until then, its
+-- priority of `prios`, when its delays alone would let it be issued, its slack, and what kept it out of the row before.
 pub record IsExplained (prios : List ℕ) (rule : MemoryRule) (lat : Latencies) (ops : List Op) (rows : List Row) (j : ℕ) (e : Explained) : Type 0 where
   pub cycle : e.cycle ≡ issue_cycle rows j
   pub unit : e.unit ≡ unit_of (row_at rows (issue_cycle rows j)) j

@@ -82,9 +82,9 @@ abbrev pub cycles_line : ℕ → ℕ → List ℕ
 cycles_line taken bound =
     codes "cycles " ++ decimal taken ++ codes " least " ++ decimal bound ++ optimal_mark taken bound ++ codes "\n"
 
--- The text explains these operations in these rows, a schedule of the block by a rule of memory that these priorities rank: a
--- line for each operation, the cycles with their lower bound, a longest chain of delays, and what binds in this schedule. The
--- lines show each operation as it is issued, which for a schedule of ours is as it stands there.
+-- `text` explains the operations `ops` in `rows`, a schedule of `block` by `rule` that the priorities `prios` rank: a
+-- line for each operation, the cycles with their lower `bound`, a longest chain of delays, and what binds in this
+-- schedule. A line shows its operation as it is `issued`, which for a schedule of ours is as it is in `ops`.
 pub record IsExplanation (prios : List ℕ) (rule : MemoryRule) (lat : Latencies) (bound : ℕ) (block ops : List Op)
     (rows : List Row) (issued : List Op) (text : List ℕ) : Type 0 where
   pub explained : List Explained

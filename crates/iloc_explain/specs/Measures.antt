@@ -9,18 +9,18 @@ use Rattle.iloc_rules.specs.Rule.{counts_by}
 use Rattle.iloc_rules.specs.Starts.{starts_where}
 use Rattle.iloc_explain.specs.declared.measures.Measures.{Measures}
 use Rattle.iloc_explain.specs.Chain.{chains_by}
-use Rattle.iloc_explain.specs.Counted.{IsCounted}
+use Rattle.iloc_explain.specs.Counted.{IsKnownOf}
 
--- These are delay pairs of the operations by a rule of memory, and cycles of issue that wait for them wait for all.
+-- `pairs` are delay pairs of `ops` by `rule`, and cycles of issue that wait for them wait for all.
 pub record ImplyAll (rule : MemoryRule) (lat : Latencies) (ops : List Op) (pairs : List Pair) : Type 0 where
   pub each : (p : Pair) → Contains pairs p → IsDelayPairWhere (counts_by rule ops) lat ops p.first p.second p.delay
   pub imply : (cycle : ℕ → ℕ) → ((p : Pair) → Contains pairs p → cycle p.first + p.delay ≤ cycle p.second)
       → (i j d : ℕ) → IsDelayPairWhere (counts_by rule ops) lat ops i j d → cycle i + d ≤ cycle j
 
--- they are those of these operations, which are renamed, by whatever numbers they are ranked
+-- `m` are the measures of the operations `ops`, which are renamed, by whatever numbers they are ranked
 pub record AreMeasures (lat : Latencies) (ops : List Op) (m : Measures) : Type 0 where
   pub ranked : length m.ranks.items ≡ length ops
-  pub counted : IsCounted ops m.counted
+  pub counted : IsKnownOf ops m.counted
   pub pairs : ImplyAll m.counted.rule lat ops m.pairs.items
   pub chains : m.chains.items ≡ chains_by m.counted.rule lat ops
   pub starts : m.starts.items ≡ starts_where (counts_by m.counted.rule ops) lat ops

@@ -32,8 +32,8 @@ pub record HadRoom (ops : List Op) (rows : List Row) (j r c n : ℕ) : Type 0 wh
   pub room : (b : ℕ) → b < c → c ≤ b + n → keeper ops (row_at rows b) j ≡ None
   pub no_more : r + n < c → keeper ops (row_at rows (c - n - 1)) j ≢ None
 
--- What binds operation j in cycle c: a delay for the first of those for which it waited until then, an operation that kept
--- it out of the row before, or nothing for the rows before that had room.
+-- What binds operation `j` in cycle `c`: a delay for the first operation for which it waited until then, an operation
+-- that kept it out of the row before, or nothing for the rows before that had room.
 abbrev pub Binds : MemoryRule → Latencies → List Op → List Row → ℕ → ℕ → Stretch → Type 0
 Binds rule lat ops rows j c (Delay i d) =
     IsReadyAt rule lat ops rows j c × (slice_get (waited_until rule lat ops rows j c) 0 ≡ Some i) × (issue_cycle rows i + d ≡ c)
@@ -45,13 +45,13 @@ Binds rule lat ops rows j c (Free n) = (r : ℕ) × IsReadyAt rule lat ops rows 
 abbrev pub Begins : MemoryRule → Latencies → List Op → List Row → ℕ → ℕ → Type 0
 Begins rule lat ops rows j c = (c ≡ 0) ⊎ ((r : ℕ) × IsReadyAt rule lat ops rows j r × (c < r))
 
--- these stretches, the last first, lead back from operation j in cycle c to the beginning
+-- the stretches, the last first, lead back from operation `j` in cycle `c` to the beginning
 abbrev pub LeadBack : MemoryRule → Latencies → List Op → List Row → ℕ → ℕ → List Stretch → Type 0
 LeadBack rule lat ops rows j c [] = Begins rule lat ops rows j c
 LeadBack rule lat ops rows j c (last ∷ before) =
     Binds rule lat ops rows j c last × LeadBack rule lat ops rows (origin last j) (c - span last) before
 
--- operation j is the first of those whose results arrive last
+-- operation `j` is the first of all whose results arrive last
 pub record IsLastToArrive (lat : Latencies) (ops : List Op) (rows : List Row) (j : ℕ) : Type 0 where
   pub known : j < length ops
   pub last : issue_cycle rows j + latency lat (op_at ops j) ≡ cycles lat ops rows

@@ -1,7 +1,7 @@
 //! A longest chain of delays.
 ghost use Rattle.std.specs.Prelude.{◌≡◌, ◌<◌, ◌↔◌, [], length, IfOk, IsTrue, MatchOption};
 ghost use Rattle.iloc_explain.specs.Chain.{Continues, IsLongestChain, SpansTheGreatest, chains_by};
-ghost use Rattle.iloc_explain.specs.Counted.{IsCounted};
+ghost use Rattle.iloc_explain.specs.Counted.{IsKnownOf};
 ghost use Rattle.iloc_explain.specs.Steps.Greatest.{IsPlaceOfGreatest};
 
 use crate::counted::Counted;
@@ -37,7 +37,7 @@ fn continues(
 ) -> bool
     requires order { i < j }
     requires within { j < length ops.now }
-    requires counted { IsCounted ops.now counted.now }
+    requires counted { IsKnownOf ops.now counted.now }
     requires chains { chains.now ≡ chains_by counted.now.rule latencies.now ops.now }
     ensures { IsTrue result ↔ Continues counted.now.rule latencies.now ops.now i j }
 {
@@ -58,7 +58,7 @@ pub fn longest_chain(
     counted: &Counted,
     chains: &[u32],
 ) -> Result<Vec<usize>, NoMemory>
-    requires counted { IsCounted ops.now counted.now }
+    requires counted { IsKnownOf ops.now counted.now }
     requires chains { chains.now ≡ chains_by counted.now.rule latencies.now ops.now }
     ensures chosen { IfOk result (λ chain. IsLongestChain counted.now.rule latencies.now ops.now chain.items) }
     ensures longest { IfOk result (λ chain. SpansTheGreatest counted.now.rule latencies.now ops.now chain.items) }

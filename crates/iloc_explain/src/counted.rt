@@ -3,7 +3,7 @@ ghost use Rattle.std.specs.Prelude.{◌≡◌, ◌≤◌, ◌<◌, ◌&&◌, len
 ghost use Rattle.iloc_timed.specs.Kinds.{is_store, kind};
 ghost use Rattle.iloc_rules.specs.Apart.{apart_if_both};
 ghost use Rattle.iloc_rules.specs.Rule.{counts_by};
-ghost use Rattle.iloc_explain.specs.Counted.{AreAddresses, IsCounted};
+ghost use Rattle.iloc_explain.specs.Counted.{AreAddresses, IsKnownOf};
 
 use iloc_addresses::{are_apart, known_addresses};
 use iloc_ops::{MAX_OPS, NoMemory, Op};
@@ -30,7 +30,7 @@ fn addresses_by(alloc: Global, ops: &[Op], rule: MemoryRule) -> Result<Vec<Optio
     }
 }
 
-/// Whether two operations with these addresses are apart.
+/// Whether two operations with the addresses `first` and `second` are apart.
 fn apart_if_both(first: Option<Word>, second: Option<Word>) -> bool
     ensures { result ≡ apart_if_both first second }
 {
@@ -51,13 +51,13 @@ fn are_stores(first: &Op, second: &Op) -> bool
 }
 
 impl Counted {
-    /// Promise: It says which pairs of these operations count by this rule.
+    /// Promise: It says which pairs of `ops` count by `rule`.
     ///
     /// By address it takes time of order n log n.
     pub fn of(alloc: Global, ops: &[Op], rule: MemoryRule) -> Result<Counted, NoMemory>
         requires { length ops.now ≤ MAX_OPS }
         ensures rule { IfOk result (λ counted. counted.rule ≡ rule) }
-        ensures counted { IfOk result (IsCounted ops.now) }
+        ensures counted { IfOk result (IsKnownOf ops.now) }
     {
         let addresses = addresses_by(alloc, ops, rule)?;
         Ok(Counted { rule, addresses })
@@ -65,7 +65,7 @@ impl Counted {
 
     /// Whether operations i and j count.
     pub(crate) fn counts(&self, ops: &[Op], i: usize, j: usize) -> bool
-        requires counted { IsCounted ops.now self.now }
+        requires counted { IsKnownOf ops.now self.now }
         requires first { i < length ops.now }
         requires second { j < length ops.now }
         ensures { result ≡ counts_by self.now.rule ops.now i j }

@@ -75,7 +75,7 @@ fn push_pairs(text: &mut Vec<u8>, mark: &[u8], pairs: &[(usize, u64)]) -> Result
     }
 }
 
-/// Appends how many operations are ready beside those listed.
+/// Appends how many of `count` ready operations aren't listed.
 fn push_more(text: &mut Vec<u8>, count: usize) -> Result<(), NoMemory>
     ensures { OnOk result (text.new.items ≡ text.old.items ++ listed.more_text (count - MOST_LISTED)) }
 {

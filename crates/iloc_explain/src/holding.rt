@@ -17,7 +17,7 @@ pub(crate) enum Holder {
     Nothing,
 }
 
-/// Whether the units let operations of these kinds be issued together.
+/// Whether the units let operations of the kinds `a` and `b` be issued together.
 fn may_stand_beside(a: Kind, b: Kind) -> bool
     ensures { result ≡ may_stand_beside a b }
 {

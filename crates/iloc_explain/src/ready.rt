@@ -7,7 +7,8 @@ use iloc_ops::NoMemory;
 use iloc_rules::{LONGEST_DELAY, Pair};
 use std::alloc::Global;
 
-/// By operation the cycle at which the last of these delays to it is over, where operations are issued at these cycles.
+/// By operation the cycle at which the last delay of `pairs` to it is over, where operations are `issued` at their
+/// cycles.
 pub(crate) fn ready_cycles(
     alloc: Global,
     pairs: &[Pair],

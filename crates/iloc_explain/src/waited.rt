@@ -5,7 +5,7 @@ ghost use Rattle.iloc_meaning.specs.Trace.{op_at};
 ghost use Rattle.iloc_timed.specs.Kinds.{is_output, kind};
 ghost use Rattle.iloc_rules.specs.Delays.{delays_where, uses_result as uses_result_of};
 ghost use Rattle.iloc_rules.specs.Rule.{counts_by};
-ghost use Rattle.iloc_explain.specs.Counted.{IsCounted};
+ghost use Rattle.iloc_explain.specs.Counted.{IsKnownOf};
 ghost use Rattle.iloc_explain.specs.Waiting.{waited_until};
 ghost use Rattle.iloc_explain.specs.Steps.Waits.{waits_for};
 
@@ -63,7 +63,7 @@ pub fn has_delay(
     j: usize,
     delay: u64,
 ) -> bool
-    requires counted { IsCounted ops.now counted.now }
+    requires counted { IsKnownOf ops.now counted.now }
     requires first { i < length ops.now }
     requires second { j < length ops.now }
     ensures { IsTrue result ↔ Contains (delays_where (counts_by counted.now.rule ops.now i j) latencies.now
@@ -87,7 +87,7 @@ fn waits_for(
     j: usize,
     delay: u64,
 ) -> bool
-    requires counted { IsCounted ops.now counted.now }
+    requires counted { IsKnownOf ops.now counted.now }
     requires first { i < length ops.now }
     requires second { j < length ops.now }
     ensures { result ≡ waits_for counted.now.rule latencies.now ops.now j delay i }
@@ -112,7 +112,7 @@ fn push_waited(
     j: usize,
     delay: u64,
 ) -> Result<(), NoMemory>
-    requires counted { IsCounted ops.now counted.now }
+    requires counted { IsKnownOf ops.now counted.now }
     requires known { IfSome slot (λ i. i < length ops.now) }
     requires there { j < length ops.now }
     ensures { OnOk result (waited.new.items
@@ -134,7 +134,7 @@ pub(crate) fn waited_until(
     j: usize,
     cycle: usize,
 ) -> Result<Vec<usize>, NoMemory>
-    requires counted { IsCounted schedule.now.ops counted.now }
+    requires counted { IsKnownOf schedule.now.ops counted.now }
     requires there { j < length schedule.now.ops }
     ensures { IfOk result (λ waited. waited.items
         ≡ waited_until counted.now.rule latencies.now schedule.now.ops schedule.now.rows j cycle) }

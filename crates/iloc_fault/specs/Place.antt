@@ -10,7 +10,7 @@ use Rattle.iloc_meaning.specs.Trace.{before, op_at, register_after}
 use Rattle.iloc_meaning.specs.declared.outcome.Outcome.TheVariants.{Fault}
 use Rattle.iloc_fault.specs.declared.place.FaultPlace.{FaultPlace}
 
--- the address that an operation reaches where registers have these values, if it reaches one
+-- the address that an operation reaches, if it reaches one, with `reg` as the values of the registers
 abbrev pub reached : Op → (Reg → ℤ) → Option ℤ
 reached (Load addr dest) reg = Some (reg addr)
 reached (Store value addr) reg = Some (reg addr)

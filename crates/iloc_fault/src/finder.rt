@@ -10,8 +10,8 @@ use iloc_ops::{Block, NoMemory, Op};
 use std::alloc::Global;
 use std::marker::Model;
 
-/// The place of the first operation that faults where these run from the start, on the memory that was first passed in, if one
-/// does.
+/// The place of the first of `ops` that faults, if one does, where they are run from the start on the memory that was
+/// first passed in.
 fn first_fault(state: &mut MachineState, ops: &[Op]) -> Result<Option<FaultPlace>, NoMemory>
     ensures first { state.new.memory.first ≡ state.old.memory.first }
     ensures place { IfOk result (λ place. MatchOption place

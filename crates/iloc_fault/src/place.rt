@@ -16,7 +16,7 @@ pub struct FaultPlace {
     pub address: i32,
 }
 
-/// The address that an operation reaches with these registers, if it reaches one.
+/// The address that `op` reaches with `registers`, if it reaches one.
 pub(crate) fn reached(op: &Op, registers: &Registers) -> Option<i32>
     ensures { result ≡ reached op.now (value_of registers.now) }
 {

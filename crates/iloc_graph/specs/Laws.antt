@@ -16,7 +16,7 @@ WaitsForNearest rule lat ops rows =
     (i j d : ℕ) → Contains (nearest_pairs rule lat ops) (record { first = i; second = j; delay = d })
     → issue_cycle rows i + d ≤ issue_cycle rows j
 
--- these are the same
+-- rows wait for the nearest pairs exactly where they wait for all
 abbrev pub NearestPairsImplyAll : Type 0
 NearestPairsImplyAll =
     (rule : MemoryRule) (lat : Latencies) (ops : List Op) (rows : List Row)

@@ -179,7 +179,7 @@ fn push_edges(text: &mut Vec<u8>, number: usize, pairs: &[Pair]) -> Result<(), N
     Ok(())
 }
 
-/// Appends each of these nodes, as the end of an edge.
+/// Appends each node of `chain`, as the end of an edge.
 fn push_links(text: &mut Vec<u8>, number: usize, chain: &[usize]) -> Result<(), NoMemory>
     ensures { OnOk result (text.new.items
         ≡ text.old.items ++ flat_map (λ j. codes " -> " ++ listed.node number j) chain.now) }
@@ -198,7 +198,7 @@ fn push_mark(text: &mut Vec<u8>) -> Result<(), NoMemory>
     Ok(text.extend_from_slice(b" [color=\"#e5484d\", penwidth=2];\n")?)
 }
 
-/// Appends the lines that mark these nodes.
+/// Appends the lines that mark the nodes of `chain`.
 fn push_marked(text: &mut Vec<u8>, number: usize, chain: &[usize]) -> Result<(), NoMemory>
     ensures { OnOk result (text.new.items ≡ text.old.items
         ++ flat_map (λ j. listed.indent ++ listed.node number j ++ listed.marked) chain.now) }

@@ -2,7 +2,7 @@
 ghost use Rattle.std.specs.Prelude.{ℕ, ◌≡◌, ◌++◌, ◌<◌, length, map, slice_index, IfOk, OnOk};
 ghost use Rattle.iloc_meaning.specs.Trace.{op_at};
 ghost use Rattle.iloc_rules.specs.Rule.{counts_by};
-ghost use Rattle.iloc_explain.specs.Counted.{IsCounted};
+ghost use Rattle.iloc_explain.specs.Counted.{IsKnownOf};
 ghost use Rattle.iloc_graph.specs.Nearest as near;
 ghost use Rattle.iloc_graph.specs.Nearest.{pair_of};
 
@@ -29,7 +29,7 @@ fn sources(alloc: Global, graph: &Graph, j: usize) -> Result<Vec<usize>, NoMemor
 
 /// The longest delay that operation i puts on operation j, 0 where there is none: its latency or a cycle.
 fn longest_delay(ops: &[Op], latencies: &Latencies, counted: &Counted, i: usize, j: usize) -> u64
-    requires counted { IsCounted ops.now counted.now }
+    requires counted { IsKnownOf ops.now counted.now }
     requires first { i < length ops.now }
     requires second { j < length ops.now }
     ensures { result ≡ near.longest_delay (counts_by counted.now.rule ops.now i j) latencies.now
@@ -45,7 +45,7 @@ fn longest_delay(ops: &[Op], latencies: &Latencies, counted: &Counted, i: usize,
     }
 }
 
-/// Appends a pair of each of these operations with a later one.
+/// Appends the pair of each of `sources` with the later operation `second`.
 fn push_pairs(
     pairs: &mut Vec<Pair>,
     ops: &[Op],
@@ -54,7 +54,7 @@ fn push_pairs(
     sources: &[usize],
     second: usize,
 ) -> Result<(), NoMemory>
-    requires counted { IsCounted ops.now counted.now }
+    requires counted { IsKnownOf ops.now counted.now }
     requires there { second < length ops.now }
     requires earlier { (k : ℕ) → k < length sources.now → slice_index sources.now k < second }
     ensures { OnOk result (pairs.new.items
@@ -70,10 +70,11 @@ fn push_pairs(
     Ok(())
 }
 
-/// The delay pairs of a graph's operations that no others imply, in order of the later operation, then of the earlier one:
-/// from each result to its uses, from a store to the loads and outputs after it and to the next store, from a load to the
-/// next store, and from an output to the next output and to the stores up to it; by address of those that may meet. Of two
-/// operations it has the longest delay alone. It takes time of order n log n in the number of operations and of edges.
+/// The delay pairs of the operations of `graph` that no others imply, in order of the later operation, then of the
+/// earlier one: from each result to its uses, from a store to the loads and outputs after it and to the next store,
+/// from a load to the next store, and from an output to the next output and to the stores up to it; by address only
+/// between operations that may meet. Of two operations it has the longest delay alone. It takes time of order n log n
+/// in the number of operations and of edges.
 ///
 /// Promise: The pairs are just the nearest ones, each once, in that order.
 pub(crate) fn nearest_pairs(
@@ -81,7 +82,7 @@ pub(crate) fn nearest_pairs(
     graph: &Graph,
     counted: &Counted,
 ) -> Result<Vec<Pair>, NoMemory>
-    requires counted { IsCounted graph.now.ops counted.now }
+    requires counted { IsKnownOf graph.now.ops counted.now }
     requires rule { counted.now.rule ≡ graph.now.rule }
     ensures { IfOk result (λ pairs. pairs.items
         ≡ near.nearest_pairs graph.now.rule graph.now.latencies graph.now.ops) }

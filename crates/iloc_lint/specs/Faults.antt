@@ -1,4 +1,5 @@
--- Which lines of a text the grammar refuses: all of them. A line that is refused counts as an empty one for those after it.
+-- Which lines of a text the grammar refuses: all of them. A line that is refused counts as an empty one for the lines
+-- after it.
 use Rattle.std.specs.Prelude.{◌≡◌, ◌⊎◌, ℕ, ◌+◌, ◌≤◌, ◌<◌, None, List, [], ◌∷◌, ◌++◌, length, map}
 use Rattle.std.specs.List.{filter_map}
 use Rattle.iloc_ops.specs.Limits.{MAX_INPUT}
@@ -12,8 +13,8 @@ use Rattle.iloc_text.specs.Files.{AreLines, Reading, IsWithin, IsFaulty, block_c
 abbrev pub empty : Reading
 empty = record { label = None; op = None }
 
--- After lines with these readings a line counts as this reading and has these faults: it reads so and has none, or it is
--- refused for one and counts as empty.
+-- After lines with the readings `before`, `line` counts as `reading` and has the faults of the list: it reads so and
+-- has none, or it is refused for one and counts as empty.
 abbrev pub CountsAs : List Reading → List ℕ → Reading → List ReadFault → Type 0
 CountsAs before line reading [] = Reads line reading.label reading.op × IsWithin (before ++ reading ∷ [])
 CountsAs before line reading (fault ∷ []) = IsFaulty before line (length before + 1) fault × (reading ≡ empty)
@@ -24,7 +25,8 @@ pub record Refusal : Type 0 where
   pub line : List ℕ
   pub fault : ReadFault
 
--- after lines with these readings, these lines count as the others, and those that are refused are these
+-- after lines with the readings `before`, the lines count as the other readings, and the ones that are refused are
+-- `refusals`
 abbrev pub AreRefused : List Reading → List (List ℕ) → List Reading → List Refusal → Type 0
 AreRefused before [] [] refusals = refusals ≡ []
 AreRefused before [] (reading ∷ readings) refusals = ⊥
@@ -38,7 +40,8 @@ AreRefused before (line ∷ lines) (reading ∷ readings) refusals =
 abbrev pub ops_in : List Reading → List Op
 ops_in readings = filter_map (λ r. r.op) readings
 
--- these lines of a text within the limit are refused, and the others make so many blocks and operations
+-- the lines of `refusals` of a text within the limit are refused, and the others make `blocks` blocks and `ops`
+-- operations
 pub record HasFaults (input : List ℕ) (refusals : List Refusal) (blocks ops : ℕ) : Type 0 where
   pub short : length input ≤ MAX_INPUT
   pub lines : List (List ℕ)

@@ -4,7 +4,7 @@ use Rattle.iloc_ops.specs.declared.file.Block.{Block}
 use Rattle.iloc_text.specs.Files.{Denotes, IsRefused}
 use Rattle.iloc_lint.specs.Faults.{Refusal, IsLinted}
 
--- a text without faults denotes a file, of so many blocks
+-- a text without faults denotes a file, with as many blocks as are counted
 abbrev pub NoFaultsMeanAFile : Type 0
 NoFaultsMeanAFile = (input : List ℕ) (blocks ops : ℕ) → IsLinted input [] blocks ops
     → (file : List Block) × Denotes input file × (length file ≡ blocks)

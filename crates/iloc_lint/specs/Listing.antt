@@ -54,10 +54,10 @@ IsEntry line (TooManyOperations n) entry = entry ≡ line_entry n (codes "more t
 IsEntry line NoMemory entry = ⊥
 
 -- an entry for each
-abbrev pub AreEntries : List Refusal → List ℕ → Type 0
-AreEntries [] text = text ≡ []
-AreEntries (refusal ∷ refusals) text =
-    (entry : List ℕ) × (rest : List ℕ) × IsEntry refusal.line refusal.fault entry × AreEntries refusals rest
+abbrev pub AreRefusalEntries : List Refusal → List ℕ → Type 0
+AreRefusalEntries [] text = text ≡ []
+AreRefusalEntries (refusal ∷ refusals) text =
+    (entry : List ℕ) × (rest : List ℕ) × IsEntry refusal.line refusal.fault entry × AreRefusalEntries refusals rest
     × (text ≡ entry ++ rest)
 
 -- how many more are refused than are listed
@@ -88,7 +88,7 @@ pub record ListsLint (input : List ℕ) (reads : Bool) (listing : List ℕ) : Ty
   pub ops : ℕ
   pub linted : IsLinted input faults blocks ops
   pub entries : List ℕ
-  pub are_entries : AreEntries (take MOST_LISTED faults) entries
+  pub are_entries : AreRefusalEntries (take MOST_LISTED faults) entries
   pub hints : List ℕ
   pub are_hints : AreHints reads hints
   pub listed : listing ≡ entries ++ more_line (length faults) ++ hints ++ total_line blocks ops (length faults)

@@ -10,11 +10,11 @@ refusal_of refused = record { line = refused.line.now; fault = refused.fault }
 abbrev pub refusals_of : List Refused → List Refusal
 refusals_of faults = map refusal_of faults
 
--- so many refusals are listed
+-- how many refusals are listed
 abbrev pub MOST_LISTED : ℕ
 MOST_LISTED = 1000
 
--- of these refusals the first are kept, as many as are listed, and all are counted
+-- the first of `refusals` are kept, as many as are listed, and all are counted
 pub record AreKept (refusals : List Refusal) (kept : Refusals) : Type 0 where
   pub first : refusals_of kept.first.items ≡ take MOST_LISTED refusals
   pub count : kept.count ≡ length refusals

@@ -1,6 +1,6 @@
 //! What is listed of a text: each faulty line with what is wrong there, hints, and what the text holds.
 ghost use Rattle.std.specs.Prelude.{◌≡◌, ◌≤◌, ◌+◌, ◌++◌, ◌==◌, List, ℕ, length, take, IfOk, OnOk};
-ghost use Rattle.iloc_lint.specs.Listing.{AreEntries, AreHints, IsEntry, ListsLint, caret_line, cut, line_entry, more_line, text_line, total_line};
+ghost use Rattle.iloc_lint.specs.Listing.{AreRefusalEntries, AreHints, IsEntry, ListsLint, caret_line, cut, line_entry, more_line, text_line, total_line};
 ghost use Rattle.iloc_lint.specs.Refused.{refusals_of};
 
 use crate::faults::{Linted, lint};
@@ -123,7 +123,7 @@ fn push_entry(alloc: Global, text: &mut Vec<u8>, refused: &Refused<'_>) -> Resul
 
 /// Appends the entries of lines that are refused.
 fn push_entries(alloc: Global, text: &mut Vec<u8>, faults: &[Refused<'_>]) -> Result<(), NoMemory>
-    ensures { OnOk result ((entries : List ℕ) × AreEntries (refusals_of faults.now) entries
+    ensures { OnOk result ((entries : List ℕ) × AreRefusalEntries (refusals_of faults.now) entries
         × (text.new.items ≡ text.old.items ++ entries)) }
 {
     for fault in faults {
@@ -182,13 +182,14 @@ pub struct Report {
     pub reads: bool,
 }
 
-/// What is listed of a text: for each line that is refused its number, what is wrong there, its text, and a caret below the
-/// first byte with which no reading goes on, of 1,000 lines at most, and how many more there are; hints if the text reads; and
-/// at the end how many blocks, operations and faults there are. The wording of hints and of a line that has no reading is free.
+/// What is listed of the text `input`: for each line that is refused its number, what is wrong there, its text, and a
+/// caret below the first byte with which no reading goes on, of 1,000 lines at most, and how many more there are; hints
+/// if the text reads; and at the end how many blocks, operations and faults there are. The wording of hints and of a
+/// line that has no reading is free.
 ///
-/// Promise: of a text within the limit the lines counted are exactly those that the grammar refuses, where those before count as
-/// empty; the first 1,000 are listed, each with its number, part of its text and, where it has no reading, the place where its
-/// reading ends. Of a longer text that is said alone.
+/// Promise: Of a text within the limit the lines counted are exactly the ones that the grammar refuses, where a refused
+/// line counts as empty for the lines after it; the first 1,000 are listed, each with its number, part of its text and,
+/// where it has no reading, the place where its reading ends. Of a longer text that is said alone.
 pub fn report_of(alloc: Global, input: &[u8]) -> Result<Report, NoMemory>
     ensures { IfOk result (λ report. ListsLint input.now report.reads report.text.items) }
 {

@@ -15,7 +15,7 @@ zeros = replicate WORDS (pos 0)
 abbrev pub word_at : List ℤ → ℕ → ℤ
 word_at memory a = slice_index_or memory (a / 4) (pos 0)
 
--- the memory of the same size that has these words at its addresses
+-- the memory of the same size with `word` at each of its addresses
 abbrev pub with_words : List ℤ → (ℕ → ℤ) → List ℤ
 with_words memory word = map (λ k. word (4 * k)) (range_with_len 0 (length memory))
 

@@ -34,7 +34,7 @@ impl Effect {
     ghost use Rattle.iloc_meaning.specs.Effect.{effect, at_address};
     ghost use Rattle.iloc_meaning.specs.Registers.{value_of};
 
-    /// Promise: what an operation does when registers and memory have these values.
+    /// Promise: what `op` does with the values of `registers` and `memory`.
     #[inline(always)]
     pub fn of(op: &Op, registers: &Registers, memory: &Memory) -> Effect
         ensures { result ≡ effect op.now (value_of registers.now) (word_at memory.now) }

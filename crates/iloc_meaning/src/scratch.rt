@@ -69,7 +69,7 @@ impl Scratch {
         Ok(())
     }
 
-    /// Promise: restores all words to those that were first passed in.
+    /// Promise: restores all words to the ones that were first passed in.
     ///
     /// It costs a step for each write.
     pub fn put_back(&mut self)

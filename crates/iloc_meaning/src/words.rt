@@ -18,7 +18,7 @@ impl Model for Words {
 }
 
 impl Words {
-    /// Promise: these words, in this order.
+    /// Promise: the words of `items`, in their order.
     pub fn new(items: Vec<i32>) -> Words
         ensures { result ≡ items.items }
     {

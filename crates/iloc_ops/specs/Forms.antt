@@ -97,7 +97,7 @@ number_at ns k = get_or ns k 0
 abbrev register_at : List ℕ → ℕ → Reg
 register_at ns k = record { 0 = number_at ns k }
 
--- the operation with this opcode and these numbers, left to right
+-- the operation with an opcode and the numbers `ns`, left to right
 abbrev pub op_of : Opcode → List ℕ → Op
 op_of O.Load ns = Load (register_at ns 0) (register_at ns 1)
 op_of O.LoadI ns = LoadI (number_at ns 0) (register_at ns 1)

@@ -15,7 +15,7 @@ abbrev pub RenamingReplacesTheDefinition : Type 0
 RenamingReplacesTheDefinition = (new : Reg → Reg) (own : Reg) (op : Op)
     → defined (with_registers new own op) ≡ option_map (λ _. own) (defined op)
 
--- the limits of the code are these
+-- the limits of the code are the ones of the definitions
 pub record LimitsAreThese : Type 0 where
   pub input : code.MAX_INPUT ≡ MAX_INPUT
   pub blocks : code.MAX_BLOCKS ≡ MAX_BLOCKS

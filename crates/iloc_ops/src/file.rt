@@ -30,7 +30,7 @@ impl Model for Blocks {
 }
 
 impl Blocks {
-    /// Promise: these blocks, in this order.
+    /// Promise: the blocks of `items`, in their order.
     pub fn new(items: Vec<Block>) -> Blocks
         ensures { result ≡ items.items }
     {

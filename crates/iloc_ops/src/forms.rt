@@ -52,7 +52,7 @@ pub const OPCODES: [Opcode; 17] = [
 ];
 
 /// The operands of an operation: what follows its opcode.
-#[derive(Clone, Copy, Debug, PartialEq, Eq)]
+#[derive(Clone, Copy)]
 pub enum Operands {
     /// None.
     Nothing,
@@ -134,7 +134,7 @@ fn number_at(numbers: &[u32], place: usize) -> u32
     numbers.get(place).copied().unwrap_or(0)
 }
 
-/// Promise: the operation that has this opcode and these numbers, from left to right, with 0 for each missing number.
+/// Promise: the operation that has `opcode` and `numbers`, from left to right, with 0 for each missing number.
 #[inline(always)]
 pub fn op_of(opcode: Opcode, numbers: &[u32]) -> Op
     ensures { result ≡ op_of opcode numbers.now }

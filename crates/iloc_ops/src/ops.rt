@@ -65,7 +65,7 @@ impl Model for Ops {
 }
 
 impl Ops {
-    /// Promise: these operations, in this order.
+    /// Promise: the operations of `items`, in their order.
     pub fn new(items: Vec<Op>) -> Ops
         ensures { result ≡ items.items }
     {

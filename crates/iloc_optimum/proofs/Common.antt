@@ -16,7 +16,8 @@ pub use Rattle.iloc_rules.proofs.Basics.Members.{from_append, from_map, from_ran
 pub use Rattle.iloc_rules.proofs.Basics.Slots.{count_by-cons}
 pub use Rattle.iloc_rules.specs.Heuristics.Listed.{heuristics}
 pub use Rattle.iloc_rules.specs.Renaming.{renamed}
-pub use Rattle.iloc_rules.specs.Rule.{counts_by, priorities_under}
+pub use Rattle.iloc_rules.specs.Rule.{counts_by}
+pub use Rattle.iloc_rules.specs.Heuristics.{priorities_under}
 pub use Rattle.iloc_rules.specs.declared.heuristic.Heuristic.TheVariants.{Chain}
 pub use Rattle.iloc_rules.specs.declared.memory_rule.MemoryRule.{MemoryRule}
 pub use Rattle.iloc_sched.specs.declared.edges.Edge.{Edge}

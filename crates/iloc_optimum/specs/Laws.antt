@@ -34,7 +34,7 @@ LawfulSchedulesAreTimings = (rule : MemoryRule) (lat : Latencies) (block ops : L
     → IsLawfulWhere (counts_by rule ops) lat block ops rows → AreDelayPairs rule lat ops edges
     → IsTiming edges (map kind ops) (issue_cycle rows)
 
--- the windows that so many cycles leave of operations: each is issued so early that its tail is left
+-- `w` has the windows that `limit` cycles leave of operations: each is issued early enough for its tail
 abbrev pub AreLeft : MemoryRule → Latencies → List Op → ℕ → Windows → Type 0
 AreLeft rule lat ops limit w =
     (w.firsts.items ≡ replicate (length ops) 0) × (w.lasts.items ≡ map (λ tail. limit - tail) (tails_under rule lat ops))

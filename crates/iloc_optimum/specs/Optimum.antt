@@ -13,7 +13,8 @@ use Rattle.iloc_rules.specs.Greedy.{IsGreedyWhere}
 use Rattle.iloc_rules.specs.Heuristics.Listed.{heuristics}
 use Rattle.iloc_rules.specs.Lawful.{IsLawfulWhere}
 use Rattle.iloc_bound.specs.Bound.{least_under}
-use Rattle.iloc_rules.specs.Rule.{counts_by, priorities_under}
+use Rattle.iloc_rules.specs.Rule.{counts_by}
+use Rattle.iloc_rules.specs.Heuristics.{priorities_under}
 use Rattle.iloc_optimum.specs.declared.optimizer.Optimum.{Optimum}
 use Rattle.iloc_optimum.specs.declared.optimizer.Orders.{Orders}
 use Rattle.iloc_rules.specs.declared.sought.Sought.{Sought}
@@ -28,7 +29,7 @@ IsAsShortAs rule h lat block s = (t : Table)
     → IsGreedyWhere (counts_by rule t.ops) (priorities_under rule h lat t.ops) lat block t.ops t.rows
     → cycles_of lat s ≤ cycles_of lat t
 
--- the block's schedule that is greedy by this rule and this heuristic takes so many cycles
+-- the schedule of `block` that is greedy by `rule` and by the heuristic `h` takes `n` cycles
 pub record IsCountOf (rule : MemoryRule) (h : Heuristic) (lat : Latencies) (block : List Op) (n : ℕ) : Type 0 where
   pub schedule : Table
   pub greedy : IsGreedyWhere (counts_by rule schedule.ops) (priorities_under rule h lat schedule.ops) lat block
@@ -46,13 +47,13 @@ pub record IsOptimumOf (rule : MemoryRule) (lat : Latencies) (block : List Op) (
   pub bound : IsBound rule lat block o.bound
   pub least : least_under rule lat block ≤ o.bound
 
--- These are the cycles of the block's greedy schedules by the rule, and this is found of the shortest.
+-- `o` has the cycles of the greedy schedules of `block` by `rule`, and what is found of the shortest.
 pub record AreOrders (rule : MemoryRule) (lat : Latencies) (block : List Op) (o : Orders) : Type 0 where
   pub all : length o.cycles ≡ length heuristics
   pub each : (i : ℕ) → i < length heuristics → IsCountOf rule (get_or heuristics i Chain) lat block (slice_index o.cycles i)
   pub best : IsOptimumOf rule lat block o.best
 
--- These are the cycles of a schedule, and the bound, that are found of the block by the rule.
+-- `s` has the cycles of a schedule, and the bound, that are found of `block` by `rule`.
 pub record IsSought (rule : MemoryRule) (lat : Latencies) (block : List Op) (s : Sought) : Type 0 where
   pub optimum : Optimum
   pub found : IsOptimumOf rule lat block optimum

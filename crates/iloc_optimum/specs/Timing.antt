@@ -17,7 +17,7 @@ WaitsFor edges t = All (λ (e : Edge). t e.from + e.delay ≤ t e.to) edges
 abbrev pub between : ℕ → ℕ → ℕ → Bool
 between a c x = nat_le a x && nat_lt x c
 
--- of the operations that pass a test a cycle holds so many
+-- of the operations that pass `p` a cycle holds at most `width`
 abbrev pub Crowd : ℕ → (ℕ → Bool) → ℕ → (ℕ → ℕ) → Type 0
 Crowd width p n t = (a c : ℕ) → count_by (λ i. p i && between a c (t i)) (range_with_len 0 n) ≤ width * (c - a)
 
@@ -29,7 +29,7 @@ belongs kinds s i = shares s (slice_index_or kinds i Other)
 abbrev pub FitsShares : List Kind → (ℕ → ℕ) → Type 0
 FitsShares kinds t = (s : Share) → Crowd (width s) (belongs kinds s) (length kinds) t
 
--- What is known of the cycles of issue in a lawful schedule of operations of these kinds, which have these edges.
+-- What is known of the cycles of issue `t` in a lawful schedule of operations of `kinds`, which have `edges`.
 pub record IsTiming (edges : List Edge) (kinds : List Kind) (t : ℕ → ℕ) : Type 0 where
   pub waits : WaitsFor edges t
   pub crowds : FitsShares kinds t
@@ -39,19 +39,19 @@ pub record Within (firsts lasts : List ℕ) (t : ℕ → ℕ) : Type 0 where
   pub from : (i : ℕ) → i < length firsts → slice_index firsts i ≤ t i
   pub to : (i : ℕ) → i < length lasts → t i ≤ slice_index lasts i
 
--- no cycles of issue are within these windows
+-- no cycles of issue are within the windows `w`
 abbrev pub HasNone : List Edge → List Kind → Windows → Type 0
 HasNone edges kinds w = (t : ℕ → ℕ) → IsTiming edges kinds t → Within w.firsts.items w.lasts.items t → ⊥
 
--- the edges lead from and to one of so many operations
+-- the edges are between operations below `count`
 abbrev pub LeadsBetween : ℕ → List Edge → Type 0
 LeadsBetween count edges = All (λ (e : Edge). (e.from < count) × (e.to < count)) edges
 
--- the edges are between operations of these kinds
+-- the edges are between operations of `kinds`
 pub record IsSized (edges : List Edge) (kinds : List Kind) : Type 0 where
   pub few : length kinds ≤ MAX_OPS
   pub there : LeadsBetween (length kinds) edges
 
--- the windows are those of operations of these kinds
+-- `w` has a window for each operation of `kinds`
 abbrev pub AreSized : List Kind → Windows → Type 0
 AreSized kinds w = (length w.firsts.items ≡ length kinds) × (length w.lasts.items ≡ length kinds)

@@ -17,14 +17,14 @@ fn belongs(kinds: &[Kind], share: Share, i: usize) -> bool
     share.has(kinds[i])
 }
 
-/// Whether a window is within these cycles.
+/// Whether a window is within the cycles `from` to `to`.
 fn is_between(first: u32, last: u32, from: u32, to: u32) -> bool
     ensures { result ≡ (nat_le from first && nat_le last to) }
 {
     from <= first && last <= to
 }
 
-/// How many operations of the share have their windows within these cycles.
+/// How many operations of `share` have their windows within the cycles `from` to `to`.
 pub(crate) fn count_inside(
     kinds: &[Kind],
     firsts: &[u32],
@@ -80,7 +80,8 @@ fn keep_out(kinds: &[Kind], firsts: &mut [u32], lasts: &mut [u32], share: Share,
     }
 }
 
-/// Narrows windows by what these cycles hold of the share; false if they hold less than has its window there.
+/// Narrows windows by what the cycles `from` to `to` hold of `share`; false if that is less than have their windows
+/// there.
 fn hold(
     kinds: &[Kind],
     firsts: &mut [u32],
@@ -105,7 +106,7 @@ fn hold(
     count <= room
 }
 
-/// Narrows windows by what each of these spans holds of the share; false if no cycles of issue are within them.
+/// Narrows windows by what each of `spans` holds of `share`; false if no cycles of issue are within them.
 pub(crate) fn hold_each(
     kinds: &[Kind],
     firsts: &mut [u32],

@@ -13,8 +13,8 @@ pub fn lawful_schedules_are_timings()
     ensures { LawfulSchedulesAreTimings }
 {}
 
-/// Promise: If no cycles of issue keep the delay pairs by a rule and the units within the windows that so many cycles leave of a
-/// block's operations, each schedule of the block that is lawful by the rule takes more cycles.
+/// Promise: If no cycles of issue keep the delay pairs by a rule and the units within the windows that a number of
+/// cycles leaves of a block's operations, each schedule of the block that is lawful by the rule takes more cycles.
 pub fn nothing_left_raises_the_bound()
     ensures { NothingLeftRaisesTheBound }
 {}

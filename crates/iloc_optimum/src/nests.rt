@@ -20,7 +20,7 @@ pub(crate) struct Nest {
     pub inner: Span,
 }
 
-/// How many operations of the share so many rows can hold.
+/// How many operations of `share` a number of `rows` can hold.
 pub(crate) fn room_of(share: Share, rows: u64) -> u64
     requires { rows ≤ 2 ^ 32 }
     ensures value { result ≡ width share * rows }
@@ -51,7 +51,7 @@ fn is_overfull(kinds: &[Kind], firsts: &[u32], lasts: &[u32], nest: Nest) -> boo
     room + u64::from(twice) < u64::from(members) + u64::from(all)
 }
 
-/// Whether more operations have their windows within one of these nests than it holds.
+/// Whether more operations have their windows within one of `nests` than it holds.
 pub(crate) fn has_overfull(kinds: &[Kind], firsts: &[u32], lasts: &[u32], nests: &[Nest]) -> bool
     requires firsts { length firsts.now ≡ length kinds.now }
     requires lasts { length lasts.now ≡ length kinds.now }

@@ -100,7 +100,7 @@ fn rests_of(alloc: Global, numbers: &[u32], limit: u32) -> Result<Vec<u32>, NoMe
     Ok(rests)
 }
 
-/// The windows that so many cycles leave of a graph's operations.
+/// The windows that `limit` cycles leave of the operations of `graph`.
 fn windows_within(alloc: Global, graph: &Graph, limit: u32) -> Result<Windows, NoMemory>
     ensures firsts { IfOk result (λ w. w.firsts.items ≡ replicate (length graph.now.ops) 0) }
     ensures lasts { IfOk result (λ w.
@@ -114,8 +114,8 @@ fn windows_within(alloc: Global, graph: &Graph, limit: u32) -> Result<Windows, N
     Ok(Windows { firsts, lasts })
 }
 
-/// Improves what is known of a block by a search for a schedule of at most so many cycles, and answers whether cycles of
-/// issue were found.
+/// Improves `optimum`, what is known of `block`, by a search for a schedule of at most `limit` cycles, and answers
+/// whether cycles of issue were found.
 fn try_limit(
     alloc: Global,
     scheduler: &mut Scheduler,
@@ -306,8 +306,8 @@ impl Optimizer {
         Ok(Some(sought))
     }
 
-    /// What a search with so many nodes finds of the cycles of a block with this least, if there is to be one: only then are its
-    /// greedy schedules made.
+    /// What a search with `nodes` nodes finds of the cycles of `block`, whose bound is `least`; nothing without
+    /// `nodes`. Greedy schedules are made for a search alone.
     pub fn seek_if(
         &mut self,
         block: &Block,

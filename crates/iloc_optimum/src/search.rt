@@ -19,12 +19,12 @@ pub enum Found {
     Nothing,
     /// By operation a cycle for which nothing was found to be wrong.
     Cycles(Vec<u32>),
-    /// Neither, with so many nodes.
+    /// Neither, with the nodes that it was given.
     Unknown,
 }
 
-/// Searches the windows for cycles in which operations of these kinds, with these edges, can be issued, by at most so many
-/// nodes.
+/// Searches the windows of `root` for cycles in which operations of `kinds`, with `edges`, can be issued, by at most
+/// `nodes` nodes.
 ///
 /// Promise: Where it finds nothing, no cycles of issue within the windows keep the edges and the units.
 pub fn search_windows(

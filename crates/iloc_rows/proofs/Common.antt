@@ -19,7 +19,7 @@ pub use Rattle.iloc_timed.specs.declared.row.Row.{Row}
 pub use Rattle.iloc_rows.specs.EitherSlot.{AllKeepUnits, IsFirstThatBreaks, exchanged, in_either_slot, with_either_slot}
 pub use Rattle.iloc_rows.specs.Laws.{AreWithinLimits, PlacedRowsAreWithinLimits, SingleOperationsKeepTheUnits, SubmissionsApartAreWithinLimits, SubmissionsAreWithinLimits, TextsHaveAnAnswer}
 pub use Rattle.iloc_rows.specs.Proposing.{AllFit, Fits, IsNumbered, block_of, claims_of, cycles_in, filled, first_unread, fronts, head_number, is_of_block, last_block, last_of, numbered, of_last, op_count, ops_in, proposal_of, proposals_of, proposes, row_in, rows_of, slot, unread_in, unread_of}
-pub use Rattle.iloc_rows.specs.Steps.Growth.{Adds, Becomes, HasProposed, RowAdds, Turns, at_place, later_place, none_proposed, or_this, place, with_cycles, with_row, with_unread}
+pub use Rattle.iloc_rows.specs.Steps.Growth.{AddsTold, Becomes, HasProposed, RowAdds, Turns, at_place, later_place, none_proposed, or_this, place, with_cycles, with_row, with_unread}
 pub use Rattle.iloc_rows.specs.Submissions.{AreRefusedFor, BlocksAreRefused, BlocksEnd, Denotes, HasNoBlocks, HaveFault, HaveFirstFault, HoldsTooManyOperations, IsFaulty, IsOfNoBlock, IsRefused, Propose, ProposeApart, RowsAreRefused, StartWithSchedule, TellAll}
 pub use Rattle.iloc_rows.specs.Told.{Tells, Told, told_of}
 pub use Rattle.iloc_rows.specs.Told.Told.{read, unread}

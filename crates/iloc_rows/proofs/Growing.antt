@@ -1,5 +1,5 @@
 -- What the steps of the reader do to what is proposed.
-use Rattle.iloc_rows.proofs.Common.{◌≡◌, ℕ, ◌+◌, ◌<◌, ◌≤◌, max, true, false, ◌&&◌, ◌||◌, ◌≢◌, ◌⊎◌, List, [], ◌∷◌, ◌++◌, length, set, nat_lt, nat_le, ◌==◌, Some, None, Ok, Err, Option, Result, sym, refl, ap, ◌∙◌, subst, ap₂, inl, inr, arith, lt-ltb, get_or_past, Block, Op, cycles, head, nothing, row, total, BadLine, NoMemory, TooManyOperations, block_of, cycles_in, head_number, is_of_block, last_block, op_count, proposal_of, proposals_of, proposes, row_in, unread_in, Adds, Becomes, HasProposed, RowAdds, Turns, at_place, later_place, none_proposed, place, with_cycles, with_row, with_unread, Told, read, unread, RowsFault, NoSuchBlock, Read, Proposed}
+use Rattle.iloc_rows.proofs.Common.{◌≡◌, ℕ, ◌+◌, ◌<◌, ◌≤◌, max, true, false, ◌&&◌, ◌||◌, ◌≢◌, ◌⊎◌, List, [], ◌∷◌, ◌++◌, length, set, nat_lt, nat_le, ◌==◌, Some, None, Ok, Err, Option, Result, sym, refl, ap, ◌∙◌, subst, ap₂, inl, inr, arith, lt-ltb, get_or_past, Block, Op, cycles, head, nothing, row, total, BadLine, NoMemory, TooManyOperations, block_of, cycles_in, head_number, is_of_block, last_block, op_count, proposal_of, proposals_of, proposes, row_in, unread_in, AddsTold, Becomes, HasProposed, RowAdds, Turns, at_place, later_place, none_proposed, place, with_cycles, with_row, with_unread, Told, read, unread, RowsFault, NoSuchBlock, Read, Proposed}
 use Rattle.std.proofs.lemmas.List.FromFn.{length-map-range_with_len, get_or-map-range_with_len}
 use Rattle.std.proofs.lemmas.Bool.Decides.{nat_tests}
 use Rattle.iloc_timed.specs.Limits.{MAX_ROWS}
@@ -71,7 +71,7 @@ row_count blocks ss one two i a = grind (arith, at-proposals, ops_in-snoc)
 
 pub row_adds : {blocks : List Block} {ss : List Told} {old : Proposing} (one two : Op) (n : ℕ) (new : Proposing)
     (result : Result (Unit {0}) RowsFault)
-    → HasProposed blocks ss old → RowAdds old one two n new result → Adds blocks ss (read (row one two)) n new result
+    → HasProposed blocks ss old → RowAdds old one two n new result → AddsTold blocks ss (read (row one two)) n new result
 row_adds {blocks} {ss} {old} one two n new (Ok done) h r =
     let a = is_at r.0 h r.1 in
     let grown : new.proposals.items ≡ proposals_of (length blocks) (ss ++ read (row one two) ∷ []) =
@@ -95,7 +95,7 @@ record IsChange (s : Told) (change : Proposed → Proposed) (homeless : RowsFaul
   here : (ss : List Told) (k : ℕ) → block_of (ss ++ s ∷ []) ≡ k → proposal_of (ss ++ s ∷ []) k ≡ change (proposal_of ss k)
   count : (ss : List Told) → op_count ss s ≡ 0
   refused : (blocks : List Block) (ss : List Told) (new : Proposing) → is_of_block blocks ss s ≡ false
-      → Adds blocks ss s number new (Err homeless)
+      → AddsTold blocks ss s number new (Err homeless)
 
 -- what it is after these lines: where there is a place for it, a line of the block there, which then is the last; else of none
 record IsTurn (blocks : List Block) (ss : List Told) (s : Told) (at : Option ℕ) (last : ℕ) : Type 0 where
@@ -121,7 +121,7 @@ memory_or_not fault = inr (λ e. cc)
 change_adds : {blocks : List Block} {ss : List Told} {old : Proposing} (s : Told) (at : Option ℕ) (last : ℕ)
     (change : Proposed → Proposed) (homeless : RowsFault) (n : ℕ) (new : Proposing) (result : Result (Unit {0}) RowsFault)
     → IsChange s change homeless n → IsTurn blocks ss s at last → HasProposed blocks ss old
-    → Becomes old at last change homeless new result → Adds blocks ss s n new result
+    → Becomes old at last change homeless new result → AddsTold blocks ss s n new result
 change_adds {blocks} {ss} {old} s at last change homeless n new (Ok done) c t h r =
     let a = t.there r.0 r.1 in
     let here : block_of (ss ++ s ∷ []) ≡ 1 + r.0 = ap (max 1) a.0 ∙ a.1 in
@@ -132,10 +132,10 @@ change_adds {blocks} {ss} {old} s at last change homeless n new (Ok done) c t h 
       record { proposals = grown; last = r.3 ∙ sym a.0 },
     )
 change_adds {blocks} {ss} {old} s at last change homeless n new (Err fault) c t h r =
-    elim (memory_or_not fault) as (λ _. Adds blocks ss s n new (Err fault)) [
-      | inl memory ↦ subst (λ f. Adds blocks ss s n new (Err f)) (sym memory) tt
+    elim (memory_or_not fault) as (λ _. AddsTold blocks ss s n new (Err fault)) [
+      | inl memory ↦ subst (λ f. AddsTold blocks ss s n new (Err f)) (sym memory) tt
       | inr other ↦ let a = r other in
-          subst (λ f. Adds blocks ss s n new (Err f)) (sym a.0) (c.refused blocks ss new (t.nowhere a.1))
+          subst (λ f. AddsTold blocks ss s n new (Err f)) (sym a.0) (c.refused blocks ss new (t.nowhere a.1))
     ]
 
 -- a line that turns to no other block
@@ -151,7 +151,7 @@ stays {blocks} {ss} {old} s last h after same fits = record {
 pub cycles_add : {blocks : List Block} {ss : List Told} {old : Proposing} (c n : ℕ) (new : Proposing)
     (result : Result (Unit {0}) RowsFault) → HasProposed blocks ss old
     → Becomes old (place old.last (length old.proposals.items)) (max 1 old.last) (λ p. with_cycles p c) (NoSuchBlock n) new result
-    → Adds blocks ss (read (cycles c)) n new result
+    → AddsTold blocks ss (read (cycles c)) n new result
 cycles_add {blocks} {ss} {old} c n new result h r =
     let after : last_block (ss ++ read (cycles c) ∷ []) ≡ max 1 old.last =
     last_block-more ss (read (cycles c)) refl refl ∙ ap (max 1) (sym h.last) in
@@ -166,7 +166,7 @@ cycles_add {blocks} {ss} {old} c n new result h r =
 pub unread_adds : {blocks : List Block} {ss : List Told} {old : Proposing} (text : List ℕ) (n : ℕ) (new : Proposing)
     (result : Result (Unit {0}) RowsFault) → HasProposed blocks ss old
     → Becomes old (place old.last (length old.proposals.items)) old.last (λ p. with_unread p n text) (Read (BadLine n)) new result
-    → Adds blocks ss (unread None n text) n new result
+    → AddsTold blocks ss (unread None n text) n new result
 unread_adds {blocks} {ss} {old} text n new result h r =
     let after : last_block (ss ++ unread None n text ∷ []) ≡ old.last =
     last_block-none ss (unread None n text) refl refl ∙ sym h.last in
@@ -187,7 +187,7 @@ later_none last k count h = grind arith
 pub misnamed_adds : {blocks : List Block} {ss : List Told} {old : Proposing} (k : ℕ) (text : List ℕ) (n : ℕ) (new : Proposing)
     (result : Result (Unit {0}) RowsFault) → HasProposed blocks ss old
     → Becomes old (later_place old.last k (length old.proposals.items)) k (λ p. with_unread p n text) (NoSuchBlock n) new result
-    → Adds blocks ss (unread (Some k) n text) n new result
+    → AddsTold blocks ss (unread (Some k) n text) n new result
 misnamed_adds {blocks} {ss} {old} k text n new result h r =
     let count : length old.proposals.items ≡ length blocks = ap length h.proposals ∙ length-proposals (length blocks) ss in
     let same : later_place old.last k (length old.proposals.items) ≡ later_place (last_block ss) k (length blocks) =
@@ -218,15 +218,15 @@ head_last ss k name less = last_block-head ss (read (head k name)) k refl less
 
 pub head_turns : {blocks : List Block} {ss : List Told} {old : Proposing} (k : ℕ) (name : Option (List ℕ)) (n : ℕ)
     (new : Proposing) (result : Result (Unit {0}) RowsFault)
-    → HasProposed blocks ss old → Turns blocks old k name n new result → Adds blocks ss (read (head k name)) n new result
+    → HasProposed blocks ss old → Turns blocks old k name n new result → AddsTold blocks ss (read (head k name)) n new result
 head_turns k name n new result h r = grind (arith, head_last, lt-ltb, same_proposals)
 
 pub nothing_adds : {blocks : List Block} {ss : List Told} {old : Proposing} (n : ℕ) → HasProposed blocks ss old
-    → Adds blocks ss (read nothing) n old (Ok tt)
+    → AddsTold blocks ss (read nothing) n old (Ok tt)
 nothing_adds n h = grind (arith, last_block-none, same_proposals)
 
 pub total_adds : {blocks : List Block} {ss : List Told} {old : Proposing} (t n : ℕ) → HasProposed blocks ss old
-    → Adds blocks ss (read (total t)) n old (Ok tt)
+    → AddsTold blocks ss (read (total t)) n old (Ok tt)
 total_adds t n h = grind (arith, last_block-none, same_proposals)
 
 -- Room

@@ -1,5 +1,5 @@
 -- What the reader has read of schedule lines, from line to line.
-use Rattle.iloc_rows.proofs.Common.{◌≡◌, ℕ, suc, ◌+◌, ◌<◌, ◌≤◌, ◌≢◌, List, [], ◌∷◌, ◌++◌, length, IfErr, Some, None, Err, Option, Result, sym, refl, ap, ◌∙◌, subst, subst₂, append_assoc, append-nil, arith, length-append, Bor, join_with_byte, MAX_INPUT, Block, lines_are, lines_few, AreLines, lines_left, lines_of, NoMemory, AllFit, Fits, proposals_of, Adds, HasProposed, AreRefusedFor, BlocksAreRefused, Denotes, HasNoBlocks, HaveFault, HaveFirstFault, IsFaulty, IsRefused, Propose, ProposeApart, RowsAreRefused, TellAll, Tells, Told, RowsFault, Read, Proposed}
+use Rattle.iloc_rows.proofs.Common.{◌≡◌, ℕ, suc, ◌+◌, ◌<◌, ◌≤◌, ◌≢◌, List, [], ◌∷◌, ◌++◌, length, IfErr, Some, None, Err, Option, Result, sym, refl, ap, ◌∙◌, subst, subst₂, append_assoc, append-nil, arith, length-append, Bor, join_with_byte, MAX_INPUT, Block, lines_are, lines_few, AreLines, lines_left, lines_of, NoMemory, AllFit, Fits, proposals_of, AddsTold, HasProposed, AreRefusedFor, BlocksAreRefused, Denotes, HasNoBlocks, HaveFault, HaveFirstFault, IsFaulty, IsRefused, Propose, ProposeApart, RowsAreRefused, TellAll, Tells, Told, RowsFault, Read, Proposed}
 use Rattle.iloc_text.specs.declared.fault.ReadFault.{ReadFault}
 use Rattle.iloc_text.specs.Files as files
 use Rattle.iloc_timed.specs.Limits.{MAX_ROWS}
@@ -101,7 +101,7 @@ pub fault_here : {blocks : List Block} {lines : ℕ} {all : List (List ℕ)} {st
 fault_here p line after fault split faulty = grind arith
 
 pub added_faulty : (blocks : List Block) (ss : List Told) (line : List ℕ) (s : Told) (n : ℕ) (state : Proposing)
-    (fault : RowsFault) → Tells blocks n line s → Adds blocks ss s n state (Err fault) → fault ≢ Read NoMemory
+    (fault : RowsFault) → Tells blocks n line s → AddsTold blocks ss s n state (Err fault) → fault ≢ Read NoMemory
     → IsFaulty blocks ss line n fault
 added_faulty blocks ss line s n state fault says a memory = grind arith
 

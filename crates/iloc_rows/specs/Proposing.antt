@@ -146,7 +146,7 @@ proposal_of lines k = record {
   unread = first_unread 0 (unread_of k lines);
 }
 
--- what they propose for so many blocks
+-- what `lines` propose for `count` blocks
 abbrev pub proposals_of : ℕ → List Told → List Proposed
 proposals_of count lines = map (proposal_of lines) (range_with_len 1 count)
 
@@ -156,8 +156,9 @@ IsNumbered p = AreInRange (length p.ops) p.rows × AreOnce (length p.ops) p.rows
 
 -- Which lines fit the blocks
 
--- After these lines a line speaks of a block that is there: a head, also by another name, names one after that of which something
--- has been said, and a row, a number of cycles or a line that can't be read comes below a head, or there is one block only.
+-- After `lines` a line speaks of a block that is there: a head, also by another name, names a later block than the last
+-- of which something has been said; a row, a number of cycles or a line that can't be read comes below a head, or there
+-- is one block only.
 abbrev pub is_of_block : List Block → List Told → Told → Bool
 is_of_block blocks lines (read nothing) = true
 is_of_block blocks lines (read (row zero one)) = nat_lt 0 (last_block lines) || (length blocks == 1)

@@ -14,7 +14,7 @@ use Rattle.iloc_rows.specs.declared.proposal.Proposed.{Proposed}
 use Rattle.iloc_rows.specs.Told.{Told, Tells, is_unread}
 use Rattle.iloc_rows.specs.Proposing.{proposals_of, is_of_block, op_count, AllFit}
 
--- below these blocks the lines after line n tell this, one by one
+-- below `blocks` the lines after line `n` tell what the other list has, one by one
 abbrev pub TellAll : List Block → ℕ → List (List ℕ) → List Told → Type 0
 TellAll blocks n [] [] = Unit {0}
 TellAll blocks n [] (t ∷ ts) = ⊥
@@ -32,7 +32,7 @@ pub record BlocksEnd (before after : List (List ℕ)) : Type 0 where
 
 -- What is proposed
 
--- the lines after line n propose these schedules for the blocks
+-- the lines after line `n` propose `proposals` for `blocks`
 pub record Propose (blocks : List Block) (n : ℕ) (lines : List (List ℕ)) (proposals : List Proposed) : Type 0 where
   pub told : List Told
   pub tell : TellAll blocks n lines told
@@ -50,7 +50,7 @@ pub record Denotes (input : List ℕ) (blocks : List Block) (proposals : List Pr
   pub some : 0 < length blocks
   pub propose : Propose blocks (length before) after proposals
 
--- the bytes, which name no blocks, denote what is proposed for these
+-- the bytes `input`, which name no blocks, denote `proposals` for `blocks`
 pub record ProposeApart (blocks : List Block) (input : List ℕ) (proposals : List Proposed) : Type 0 where
   pub short : length input ≤ MAX_INPUT
   pub lines : List (List ℕ)
@@ -154,7 +154,7 @@ pub record HaveFault (blocks : List Block) (input : List ℕ) (fault : RowsFault
   pub are_lines : AreLines input lines
   pub first : HaveFirstFault blocks 0 lines fault
 
--- the refusal that the bytes of rows denote, for these blocks
+-- the refusal that the bytes of rows denote, for the given blocks
 abbrev pub AreRefusedFor : List Block → List ℕ → RowsFault → Type 0
 AreRefusedFor blocks input (Read InputTooLong) = MAX_INPUT < length input
 AreRefusedFor blocks input (Read (BadLine n)) = HaveFault blocks input (Read (BadLine n))

@@ -6,8 +6,8 @@ use Rattle.iloc_rows.specs.Names.{misnamed}
 use Rattle.iloc_rows.specs.declared.told.ToldLine.{ToldLine}
 use Rattle.iloc_rows.specs.declared.told.ToldLine.TheVariants.{Reads, Unread, Misnamed}
 
--- what the line says, or the number and the text of one that can't be read; among these is the head of a block by another
--- name, with the block's number
+-- what the line says, or the number and the text of one that can't be read; the head of a block by another name is one
+-- of them, with the block's number
 pub data Told : Type 0 where
   read : Said → Told
   unread : Option ℕ → ℕ → List ℕ → Told
@@ -22,8 +22,8 @@ is_unread (unread (Some k) n text) = false
 abbrev pub Misnames : List Block → List ℕ → ℕ → Type 0
 Misnames blocks line k = (said : Said) × Says line said × (misnamed blocks said ≡ Some k)
 
--- Line n, below these blocks, tells this. It can't be read where it says nothing with all its numbers within the limit, or names
--- a block otherwise.
+-- What line `n` of the text tells, whose bytes are `line`, below `blocks`. It can't be read where it says nothing with all
+-- its numbers within the limit, or names a block otherwise.
 abbrev pub Tells : List Block → ℕ → List ℕ → Told → Type 0
 Tells blocks n line (read said) = Says line said × (misnamed blocks said ≡ None)
 Tells blocks n line (unread None m text) = (m ≡ n) × (text ≡ line) × (SaysSomething line → ⊥)

@@ -11,7 +11,7 @@ use iloc_text::{ParseFault, ScheduleLine, read_schedule_line, split_line};
 pub struct CutText<'a> {
     /// The lines before that one, without their last line end.
     pub blocks: &'a [u8],
-    /// How many lines those are.
+    /// How many lines precede the first schedule line.
     pub lines: u32,
     /// The first schedule line and all that follows it, if there is one.
     pub rows: Option<&'a [u8]>,

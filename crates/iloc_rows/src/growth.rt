@@ -6,7 +6,7 @@ ghost use Rattle.iloc_rows.specs.Told.Told.{read};
 ghost use Rattle.iloc_text.specs.declared.fault.ReadFault.TheVariants.{BadLine as bad_line};
 ghost use Rattle.iloc_rows.specs.declared.fault.RowsFault.TheVariants.{Read as read_fault, NoSuchBlock as no_such_block};
 ghost use Rattle.iloc_rows.specs.Proposing.{is_empty, filled, slot, proposals_of};
-ghost use Rattle.iloc_rows.specs.Steps.Growth.{none_proposed, with_row, with_cycles, with_unread, or_this, place, later_place, at_place, HasProposed, Adds, Becomes, RowAdds, Turns};
+ghost use Rattle.iloc_rows.specs.Steps.Growth.{none_proposed, with_row, with_cycles, with_unread, or_this, place, later_place, at_place, HasProposed, AddsTold, Becomes, RowAdds, Turns};
 
 use crate::fault::RowsFault;
 use crate::proposal::{LineText, Proposed, RowOps, Rows, Unread};
@@ -249,7 +249,7 @@ impl Proposing {
         Ok(())
     }
 
-    /// Adds what the line with this number says of these blocks.
+    /// Adds what `line`, which has this `number`, says of `blocks`.
     fn add_read(
         &mut self,
         blocks: &[Block],
@@ -258,7 +258,7 @@ impl Proposing {
     ) -> Result<(), RowsFault>
         requires { (lines : List Told) × HasProposed blocks.now lines self.old × (length lines < MAX_ROWS) }
         ensures { (lines : List Told) → HasProposed blocks.now lines self.old →
-            Adds blocks.now lines (read (said_of line.entry)) number self.new result }
+            AddsTold blocks.now lines (read (said_of line.entry)) number self.new result }
     {
         match line {
             ScheduleLine::Empty | ScheduleLine::Total(_) => Ok(()),
@@ -271,7 +271,7 @@ impl Proposing {
         }
     }
 
-    /// Adds what the line with this number tells of these blocks.
+    /// Adds what `line`, which has this `number`, tells of `blocks`.
     pub fn add(
         &mut self,
         alloc: Global,
@@ -281,7 +281,7 @@ impl Proposing {
     ) -> Result<(), RowsFault>
         requires { (lines : List Told) × HasProposed blocks.now lines self.old × (length lines < MAX_ROWS) }
         ensures { (lines : List Told) → HasProposed blocks.now lines self.old →
-            Adds blocks.now lines (told_of number line.entry) number self.new result }
+            AddsTold blocks.now lines (told_of number line.entry) number self.new result }
     {
         match line {
             ToldLine::Reads(line) => self.add_read(blocks, line, number),

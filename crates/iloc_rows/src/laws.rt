@@ -23,7 +23,7 @@ pub fn submissions_apart_are_within_limits()
     ensures { SubmissionsApartAreWithinLimits }
 {}
 
-/// Promise: proposals that are within these limits are so too with leave for either slot.
+/// Promise: proposals that are within the limits of a schedule are so too with leave for either slot.
 pub fn placed_rows_are_within_limits()
     ensures { PlacedRowsAreWithinLimits }
 {}

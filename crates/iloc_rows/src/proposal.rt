@@ -176,7 +176,7 @@ impl Proposal {
         first_that_breaks(self.ops(), self.rows())
     }
 
-    /// Promise: the schedule of these operations in these rows, which keep the rules of the units.
+    /// Promise: the schedule of the operations in the rows of `self`, which keep the rules of the units.
     pub fn into_schedule(self) -> Schedule
         requires { IsTable self.ops self.rows }
         ensures ops { result.ops ≡ self.ops }

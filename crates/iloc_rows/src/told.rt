@@ -66,7 +66,7 @@ fn misnamed(blocks: &[Block], line: &ScheduleLine<'_>) -> Option<u32>
     }
 }
 
-/// What a line below these blocks tells.
+/// What `line` tells below `blocks`.
 pub fn read_told_line<'a>(blocks: &[Block], line: &'a [u8]) -> ToldLine<'a>
     ensures { (n : ℕ) → Tells blocks.now n line.now (told_of n result) }
 {

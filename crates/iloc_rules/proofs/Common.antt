@@ -29,9 +29,10 @@ pub use Rattle.iloc_rules.specs.Apart.{address_at, address_of, apart_if_both, ar
 pub use Rattle.iloc_rules.specs.Delays.{Counts, IsDelayPair, IsDelayPairWhere, all_count, delays, delays_where, keeps_order, keeps_order_where, memory_delays_where, reads_stored, uses_result, when}
 pub use Rattle.iloc_rules.specs.Greedy.{IsGreedy, IsGreedyBy, IsGreedyWhere, better, chosen, chosen_with, first_of_all, is_ready_where, may_stand_beside, on_units, ready, ready_where}
 pub use Rattle.iloc_rules.specs.Pairs.{ComesBefore, pairs, pairs_before, pairs_from, rising, with_delay, with_delays}
-pub use Rattle.iloc_rules.specs.Priority.{after_first, priorities, priorities_where, priority, priority_where, reaches, reaches_where}
+pub use Rattle.iloc_rules.specs.Priority.{after_first, priorities, priorities_where, priority, priority_under, priority_where, reaches, reaches_where}
 pub use Rattle.iloc_rules.specs.Renaming.{IsRenamed, Source, is_nop, is_source, mentions, mentions_before, name_of, numbering, own_source, place_of, renamed, renamed_by, renamed_op, source, struck, without_nops}
-pub use Rattle.iloc_rules.specs.Rule.{counts_by, priorities_under, priority_under}
+pub use Rattle.iloc_rules.specs.Rule.{counts_by}
+pub use Rattle.iloc_rules.specs.Heuristics.{priorities_under}
 pub use Rattle.iloc_rules.specs.Sound.{IsSound, IsSoundOn, touched, touched_at}
 pub use Rattle.iloc_rules.specs.Starts.{arrivals_where, start, start_where, starts, starts_before_where, starts_where}
 pub use Rattle.iloc_rules.specs.Steps.Chains.{IsChain, IsChainIntoWhere, IsChainOut}

@@ -81,7 +81,7 @@ are_apart (Known c) (Known d) = not (int_eq (wrapped c) (wrapped d))
 are_apart (Based a c) (Based b d) = (a == b) && not (int_eq (wrapped c) (wrapped d))
 are_apart _ _ = false
 
--- whether two operations with these addresses are apart
+-- whether two operations are apart, given the addresses that are known of them
 abbrev pub apart_if_both : Option Word → Option Word → Bool
 apart_if_both (Some v) (Some w) = are_apart v w
 apart_if_both _ _ = false

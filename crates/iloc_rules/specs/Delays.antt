@@ -53,7 +53,8 @@ Counts = ℕ → ℕ → Bool
 abbrev pub all_count : Counts
 all_count i j = true
 
--- (i, j, d) is a delay pair, where these count: operation j may be issued d cycles after operation i at the earliest
+-- (`i`, `j`, `d`) is a delay pair by `counts`: operation `j` may be issued `d` cycles after operation `i` at the
+-- earliest
 pub record IsDelayPairWhere (counts : Counts) (lat : Latencies) (ops : List Op) (i j d : ℕ) : Type 0 where
   pub order : i < j
   pub within : j < length ops

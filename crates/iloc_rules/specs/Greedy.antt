@@ -13,7 +13,7 @@ use Rattle.iloc_rules.specs.Delays.{Counts, all_count, delays_where}
 use Rattle.iloc_rules.specs.Priority.{priorities}
 use Rattle.iloc_rules.specs.Lawful.{IsLawfulWhere}
 
--- whether each delay from operation h to operation i is over at cycle c, where these count
+-- whether each delay by `counts` from operation `h` to operation `i` is over at cycle `c`
 abbrev pub are_over_where : Counts → Latencies → List Op → List Row → ℕ → ℕ → ℕ → Bool
 are_over_where counts lat ops rows c i h =
     list_all (λ d. nat_le (issue_cycle rows h + d) c) (delays_where (counts h i) lat (op_at ops h) (op_at ops i))
@@ -36,7 +36,7 @@ abbrev pub better : List ℕ → ℕ → Option ℕ → ℕ
 better prios i None = i
 better prios i (Some j) = if nat_lt (slice_index prios i) (slice_index prios j) then j else i
 
--- of operations by rising number, the one with the highest priority, and of those the lowest
+-- the operation with the greatest of the priorities `prios`; ties go to the lower number; the list rises
 abbrev pub first_of_all : List ℕ → List ℕ → Option ℕ
 first_of_all prios [] = None
 first_of_all prios (i ∷ is) = Some (better prios i (first_of_all prios is))
@@ -66,8 +66,8 @@ chosen_with ops prios candidates (Some a) =
 abbrev pub chosen : List Op → List ℕ → List ℕ → Row
 chosen ops prios candidates = chosen_with ops prios candidates (first_of_all prios candidates)
 
--- These operations in these rows are the schedule of the block that is greedy by these priorities, one for each
--- renamed operation, where these count: they are lawful, the last row is not empty, and each row is the choice from what
+-- The operations `ops` in `rows` are the schedule of `block` that is greedy by the priorities `prios`, one for each
+-- renamed operation, and by `counts`: they are lawful, the last row is not empty, and each row is the choice from what
 -- is ready.
 pub record IsGreedyWhere (counts : Counts) (prios : List ℕ) (lat : Latencies) (block ops : List Op) (rows : List Row)
     : Type 0 where

@@ -7,6 +7,9 @@ use Rattle.iloc_timed.specs.declared.latencies.Latencies.{Latencies}
 use Rattle.iloc_timed.specs.Latency.{latency}
 use Rattle.iloc_rules.specs.declared.heuristic.Heuristic.{Heuristic}
 use Rattle.iloc_rules.specs.declared.heuristic.Heuristic.TheVariants.{Chain, Slack, Descendants, Successors, Latency, Order}
+use Rattle.iloc_rules.specs.declared.memory_rule.MemoryRule.{MemoryRule}
+use Rattle.iloc_rules.specs.declared.memory_rule.MemoryRule.TheVariants.{Book, Address}
+use Rattle.iloc_rules.specs.Apart.{by_address}
 use Rattle.iloc_rules.specs.Delays.{Counts, all_count, delays_where}
 use Rattle.iloc_rules.specs.Priority.{priorities, priority, priorities_where, priority_where}
 use Rattle.iloc_rules.specs.Starts.{start, start_where}
@@ -16,7 +19,7 @@ pub mod Listed
 abbrev pub through : Latencies → List Op → ℕ → ℕ
 through lat ops i = start lat ops i + priority lat ops i
 
--- the same where these count
+-- the same by `counts`
 abbrev pub through_where : Counts → Latencies → List Op → ℕ → ℕ
 through_where counts lat ops i = start_where counts lat ops i + priority_where counts lat ops i
 
@@ -28,7 +31,7 @@ longest lat ops = fold max 0 (priorities lat ops)
 abbrev pub slack : Latencies → List Op → ℕ → ℕ
 slack lat ops i = longest lat ops - priority lat ops i - start lat ops i
 
--- whether operation j has to wait for operation i, where these count
+-- whether operation `j` has to wait for operation `i`, by `counts`
 abbrev pub waits_for_where : Counts → Latencies → List Op → ℕ → ℕ → Bool
 waits_for_where counts lat ops i j =
     nat_lt i j && nat_lt 0 (length (delays_where (counts i j) lat (op_at ops i) (op_at ops j)))
@@ -71,7 +74,7 @@ priorities_by Successors lat ops = map (successors lat ops) (range_with_len 0 (l
 priorities_by Latency lat ops = map (latency lat) ops
 priorities_by Order lat ops = map (λ op. 0) ops
 
--- the same where these count
+-- the same by `counts`
 abbrev pub priorities_by_where : Counts → Heuristic → Latencies → List Op → List ℕ
 priorities_by_where counts Chain lat ops = priorities_where counts lat ops
 priorities_by_where counts Slack lat ops = map (through_where counts lat ops) (range_with_len 0 (length ops))
@@ -79,3 +82,8 @@ priorities_by_where counts Descendants lat ops = map (descendants_where counts l
 priorities_by_where counts Successors lat ops = map (successors_where counts lat ops) (range_with_len 0 (length ops))
 priorities_by_where counts Latency lat ops = map (latency lat) ops
 priorities_by_where counts Order lat ops = map (λ op. 0) ops
+
+-- the priorities of renamed operations by a rule and a heuristic
+abbrev pub priorities_under : MemoryRule → Heuristic → Latencies → List Op → List ℕ
+priorities_under Book heuristic lat ops = priorities_by heuristic lat ops
+priorities_under Address heuristic lat ops = priorities_by_where (by_address ops) heuristic lat ops

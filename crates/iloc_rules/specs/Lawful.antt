@@ -7,8 +7,8 @@ use Rattle.iloc_timed.specs.Rows.{IsTable, issue_cycle}
 use Rattle.iloc_rules.specs.Renaming.{renamed}
 use Rattle.iloc_rules.specs.Delays.{Counts, all_count, IsDelayPairWhere}
 
--- These operations in these rows are a lawful schedule of the block, where these count: they are its renamed operations,
--- each stands in one slot by the rules of the units, and each delay is waited for.
+-- The operations `ops` in `rows` are a lawful schedule of `block` by `counts`: they are its renamed operations, each is
+-- in one slot by the rules of the units, and each delay is waited for.
 pub record IsLawfulWhere (counts : Counts) (lat : Latencies) (block ops : List Op) (rows : List Row) : Type 0 where
   pub names : ops ≡ renamed block
   pub table : IsTable ops rows

@@ -32,7 +32,7 @@ pub record ApartOperationsNeverMeet : Type 0 where
   pub apart : (ops : List Op) → IsSound (unless_apart ops) ops
   pub but_stores : (ops : List Op) → IsSound (by_address ops) ops
 
--- so where all count but these, a lawful schedule has the block's outcome
+-- So a schedule has the block's outcome if it is lawful where all pairs count but the ones that are apart.
 abbrev pub ApartSchedulesKeepTheOutcome : Type 0
 ApartSchedulesKeepTheOutcome = (lat : Latencies) (block ops : List Op) (rows : List Row) (memory : List ℤ)
     → IsLawfulWhere (unless_apart ops) lat block ops rows → timed_outcome lat ops rows memory ≡ outcome block memory
@@ -64,8 +64,8 @@ pub record CountsHaveOneGreedySchedule : Type 0 where
       → IsGreedyWhere counts prios lat block ops rows → IsGreedyWhere counts prios lat block ops' rows'
       → (ops ≡ ops') × (rows ≡ rows')
 
--- whichever count, the cycles of a greedy schedule are at most the latencies of its operations together, and those of a
--- lawful one at least the cycle of issue of an operation and its priority together
+-- By any `counts`, the cycles of a greedy schedule are at most the sum of the latencies of its operations; the cycles
+-- of a lawful one are at least the cycle of issue of each operation and its priority together.
 pub record CountsBoundTheCycles : Type 0 where
   pub most : (counts : Counts) (prios : List ℕ) (lat : Latencies) (block ops : List Op) (rows : List Row)
       → IsGreedyWhere counts prios lat block ops rows → cycles lat ops rows ≤ sum_by (latency lat) ops

@@ -1,5 +1,5 @@
--- How few cycles a lawful schedule of a block can take: by counting, of the operations that share slots, those that can't
--- be issued before a cycle and leave many cycles behind them.
+-- A bound on the cycles of a lawful schedule of a block, by counting. Of the operations that share slots it counts the
+-- ones that can't be issued before a cycle and have many cycles after them.
 use Rattle.std.specs.Prelude.{ℕ, ◌+◌, ◌-◌, ◌/◌, max, min, nat_le, Bool, true, if◌then◌else◌, List, [], ◌∷◌, ◌++◌, map, fold, filter, count_by, length, slice_index}
 use Rattle.std.specs.List.{range_with_len}
 use Rattle.iloc_ops.specs.declared.op.Op.{Op}
@@ -13,7 +13,7 @@ use Rattle.iloc_rules.specs.Priority.{reaches}
 use Rattle.iloc_rules.specs.Starts.{start}
 use Rattle.iloc_rules.specs.Renaming.{renamed}
 
--- how many of these tails are at least q
+-- how many of `tails` are at least `q`
 abbrev pub count_from : List ℕ → ℕ → ℕ
 count_from tails q = count_by (λ tail. nat_le q tail) tails
 
@@ -22,11 +22,11 @@ count_from tails q = count_by (λ tail. nat_le q tail) tails
 abbrev pub cycles_from : ℕ → ℕ → List ℕ → ℕ → ℕ
 cycles_from first width tails q = first + (count_from tails q - 1) / width + q
 
--- what operations with these tails need: the greatest of those numbers over all tails, 0 where there are none
+-- what operations with `tails` need: the greatest of the numbers above over all tails; 0 where there is none
 abbrev pub needed : ℕ → ℕ → List ℕ → ℕ
 needed first width tails = fold max 0 (map (cycles_from first width tails) tails)
 
--- of operations with these tails those of the loads up to the first store
+-- of `tails`, one for each operation, the ones of the loads up to the first store
 abbrev pub load_tails : List Op → List ℕ → List ℕ
 load_tails [] tails = []
 load_tails (op ∷ ops) [] = []
@@ -52,11 +52,11 @@ tails lat (op ∷ later) = with_tail lat op later (tails lat later)
 abbrev pub tail : Latencies → List Op → ℕ → ℕ
 tail lat ops i = slice_index (tails lat ops) i
 
--- the operations of these kinds
+-- the operations whose kind passes `test`
 abbrev pub of_kind : (Kind → Bool) → List Op → List ℕ
 of_kind test ops = filter (λ i. test (kind (op_at ops i))) (range_with_len 0 (length ops))
 
--- what those of them need that can't be issued before this cycle
+-- what the operations need whose kind passes `test` and that can't be issued before the cycle `first`
 abbrev pub needed_after : ℕ → ℕ → (Kind → Bool) → Latencies → List Op → ℕ
 needed_after first width test lat ops =
     needed first width (map (tail lat ops) (filter (λ i. nat_le first (start lat ops i)) (of_kind test ops)))
@@ -66,11 +66,11 @@ abbrev pub lowest : List ℕ → ℕ
 lowest [] = 0
 lowest (n ∷ ns) = fold min n ns
 
--- the lowest start of these operations
+-- the lowest start of an operation whose kind passes `test`
 abbrev pub first_start : (Kind → Bool) → Latencies → List Op → ℕ
 first_start test lat ops = lowest (map (start lat ops) (of_kind test ops))
 
--- what these operations need, or those that start later than the first
+-- what the operations whose kind passes `test` need, all of them, or without the ones of the lowest start
 abbrev pub needed_by : ℕ → (Kind → Bool) → Latencies → List Op → ℕ
 needed_by width test lat ops = max (needed_after (first_start test lat ops) width test lat ops)
     (needed_after (first_start test lat ops + 1) width test lat ops)

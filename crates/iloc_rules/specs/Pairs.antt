@@ -17,12 +17,12 @@ abbrev pub with_delay : ℕ → List ℕ → List ℕ
 with_delay d [] = d ∷ []
 with_delay d (e ∷ rest) = if nat_lt d e then d ∷ e ∷ rest else (if d == e then e ∷ rest else e ∷ with_delay d rest)
 
--- these delays, rising, each once
+-- the delays of a list, rising, each once
 abbrev pub rising : List ℕ → List ℕ
 rising [] = []
 rising (d ∷ ds) = with_delay d (rising ds)
 
--- the pairs from operation i to operation j that these delays make
+-- the pairs from operation `i` to operation `j` with the delays `ds`
 abbrev pub with_delays : ℕ → ℕ → List ℕ → List Pair
 with_delays i j ds = map (λ d. record { first = i; second = j; delay = d }) ds
 

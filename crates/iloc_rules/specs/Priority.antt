@@ -3,6 +3,9 @@ use Rattle.std.specs.Prelude.{ℕ, suc, ◌+◌, max, Bool, List, [], ◌∷◌,
 use Rattle.iloc_ops.specs.declared.op.Op.{Op}
 use Rattle.iloc_timed.specs.declared.latencies.Latencies.{Latencies}
 use Rattle.iloc_timed.specs.Latency.{latency}
+use Rattle.iloc_rules.specs.declared.memory_rule.MemoryRule.{MemoryRule}
+use Rattle.iloc_rules.specs.declared.memory_rule.MemoryRule.TheVariants.{Book, Address}
+use Rattle.iloc_rules.specs.Apart.{by_address}
 use Rattle.iloc_rules.specs.Delays.{Counts, delays_where, delays}
 
 -- all delays from an operation to a later one, each with the later one's priority added
@@ -45,3 +48,8 @@ priorities_where counts lat (op ∷ later) =
 
 abbrev pub priority_where : Counts → Latencies → List Op → ℕ → ℕ
 priority_where counts lat ops i = slice_index (priorities_where counts lat ops) i
+
+-- the priority of operation i by a rule
+abbrev pub priority_under : MemoryRule → Latencies → List Op → ℕ → ℕ
+priority_under Book lat ops i = priority lat ops i
+priority_under Address lat ops i = priority_where (by_address ops) lat ops i

@@ -1,4 +1,5 @@
--- Which memory operations have to count: those that touch one address when a block's operations are executed in order.
+-- Which memory operations have to count: every two that touch one address when a block's operations are executed in
+-- order.
 use Rattle.std.specs.Prelude.{ℕ, ◌≡◌, ◌<◌, ◌||◌, true, List, length, Option, Some, None, ℤ, ◌+ℤ◌}
 use Rattle.iloc_ops.specs.declared.op.Reg.{Reg}
 use Rattle.iloc_ops.specs.declared.op.Op.{Op}
@@ -9,7 +10,7 @@ use Rattle.iloc_meaning.specs.Trace.{op_at, register_after, before}
 use Rattle.iloc_timed.specs.Kinds.{kind, is_store}
 use Rattle.iloc_rules.specs.Delays.{Counts}
 
--- the good address whose word an operation reads or writes, if any, where the registers have these values
+-- the good address whose word an operation reads or writes, if any, with `reg` as the values of the registers
 abbrev pub touched : Op → (Reg → ℤ) → Option ℕ
 touched (Load addr dest) reg = good_address (reg addr)
 touched (LoadAI addr offset dest) reg = good_address (wrapped (reg addr +ℤ constant offset))
@@ -28,7 +29,7 @@ pub record Meet (memory : List ℤ) (ops : List Op) (i j a : ℕ) : Type 0 where
   pub second : touched_at memory ops j ≡ Some a
   pub store : (is_store (kind (op_at ops i)) || is_store (kind (op_at ops j))) ≡ true
 
--- What counts is sound for these operations on this memory: those that meet count.
+-- `counts` is sound for `ops` on `memory`: every two that meet count.
 pub record IsSoundOn (memory : List ℤ) (counts : Counts) (ops : List Op) : Type 0 where
   pub meet : (i j a : ℕ) → i < j → j < length ops → Meet memory ops i j a → counts i j ≡ true
 

@@ -5,7 +5,7 @@ use Rattle.iloc_meaning.specs.Trace.{op_at}
 use Rattle.iloc_timed.specs.declared.latencies.Latencies.{Latencies}
 use Rattle.iloc_rules.specs.Delays.{Counts, all_count, delays_where}
 
--- when the delays to operation j from the operations before operation i are over, by the starts of these, where these count
+-- by `counts` and by `starts`: when the delays to operation `j` from each operation before operation `i` are over
 abbrev pub arrivals_where : Counts → Latencies → List Op → List ℕ → ℕ → ℕ → List ℕ
 arrivals_where counts lat ops starts j zero = []
 arrivals_where counts lat ops starts j (suc i) =

@@ -100,7 +100,7 @@ pub fn puts_delay(first: &Op, second: &Op, latencies: &Latencies, delay: u64) ->
         || waits_for_result(first, second, latencies, delay)
 }
 
-/// Adds the pairs that these delays make.
+/// Pushes a pair from `first` to `second` for each of `delays`.
 fn push_delays(
     pairs: &mut Vec<Pair>,
     first: usize,

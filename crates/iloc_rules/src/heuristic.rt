@@ -1,6 +1,6 @@
-//! By what the ready operations are ranked.
+//! What ranks the ready operations.
 
-/// By what the ready operations are ranked: the one of which it is most goes first, and of equals the one of lower number.
+/// What ranks the ready operations: the one with the greatest priority goes first; ties go to the lower number.
 #[derive(Clone, Copy, Debug, PartialEq, Eq)]
 pub enum Heuristic {
     /// The longest chain of delays that begins with the operation.

@@ -34,10 +34,10 @@ pub use Rattle.iloc_rules.proofs.Renamed.RenamedBlocks.{renamed_is_renamed, rena
 pub use Rattle.iloc_rules.specs.Apart.{address_at, by_address}
 pub use Rattle.iloc_rules.specs.Delays.{Counts, IsDelayPair, IsDelayPairWhere, all_count, delays, delays_where, memory_delays, memory_delays_where, uses_result, when}
 pub use Rattle.iloc_rules.specs.Greedy.{IsGreedyWhere, chosen, first_of_all, may_stand_beside, ready_where}
-pub use Rattle.iloc_rules.specs.Heuristics.{depends_on_where, depends_where, descendants_where, priorities_by, priorities_by_where, successors, through_where, waits_for, waits_for_where}
+pub use Rattle.iloc_rules.specs.Heuristics.{depends_on_where, depends_where, descendants_where, priorities_by, priorities_by_where, priorities_under, successors, through_where, waits_for, waits_for_where}
 pub use Rattle.iloc_rules.specs.Priority.{priorities, priorities_where, priority_where}
 pub use Rattle.iloc_rules.specs.Renaming.{IsRenamed, Source, is_nop, is_source, mentions, mentions_before, name_of, numbering, own_source, renamed, renamed_by, renamed_op, source, struck, without_nops}
-pub use Rattle.iloc_rules.specs.Rule.{counts_by, priorities_under}
+pub use Rattle.iloc_rules.specs.Rule.{counts_by}
 pub use Rattle.iloc_rules.specs.Starts.{start_where, starts, starts_where}
 pub use Rattle.iloc_rules.specs.Steps.Choosing.{GoesBefore, IsChosenWhere}
 pub use Rattle.iloc_rules.specs.Steps.Members.{In}

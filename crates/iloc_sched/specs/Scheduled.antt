@@ -13,12 +13,12 @@ use Rattle.iloc_rules.specs.declared.memory_rule.MemoryRule.{MemoryRule}
 use Rattle.iloc_rules.specs.declared.memory_rule.MemoryRule.TheVariants.{Book}
 use Rattle.iloc_rules.specs.Lawful.{IsLawfulWhere}
 use Rattle.iloc_rules.specs.Greedy.{IsGreedyWhere}
-use Rattle.iloc_rules.specs.Rule.{counts_by, priority_under}
+use Rattle.iloc_rules.specs.Rule.{counts_by}
+use Rattle.iloc_rules.specs.Priority.{priority_under}
 
--- This is the schedule of the block by a rule of memory and by priorities, one for each renamed operation, that those may
--- determine.
+-- `s` is the schedule of `block` by `rule` and by priorities: `by` gives each renamed operation its own.
 pub record IsTheScheduleBy (rule : MemoryRule) (by : List Op → List ℕ) (lat : Latencies) (block : List Op) (s : Table) : Type 0 where
-  -- It is lawful, and greedy by these priorities.
+  -- It is lawful, and greedy by the priorities `by s.ops`.
   pub greedy : IsGreedyWhere (counts_by rule s.ops) (by s.ops) lat block s.ops s.rows
   -- No other schedule of the block is.
   pub only : (ops : List Op) (rows : List Row) → IsGreedyWhere (counts_by rule ops) (by ops) lat block ops rows

@@ -50,7 +50,7 @@ impl ByRegister {
         }
     }
 
-    /// No register has a number any more. From now on those below the limit are looked up fastest.
+    /// Forgets all numbers. From now on registers below `limit` are looked up fastest.
     pub fn clear(&mut self, limit: usize)
         ensures { (r : ℕ) → number_at self.new r ≡ None }
     {

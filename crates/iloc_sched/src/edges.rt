@@ -40,7 +40,7 @@ pub struct Edge {
     pub(crate) previous: Option<u32>,
 }
 
-/// The kept edges of a block, those into an operation side by side.
+/// The kept edges of a block, sorted by their later operation.
 #[derive(Debug, Drop)]
 pub struct Edges {
     edges: Vec<Edge>,
@@ -137,7 +137,7 @@ impl Edges {
         self.heads.clear();
     }
 
-    /// No edge between so many operations.
+    /// Begins with `count` operations and no edge.
     fn clear(&mut self, count: usize) -> Result<(), NoMemory>
         requires { count ≤ MAX_OPS }
         ensures partial { OnOk result ((rule : rule_value) (lat : Latencies) (ops : List Op) → length ops ≡ count

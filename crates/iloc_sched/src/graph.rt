@@ -125,9 +125,10 @@ impl Graph {
         self.tables.kinds.as_slice()
     }
 
-    /// The kept edges, those into an operation side by side and before those into later ones.
+    /// The kept edges, sorted by their later operation.
     ///
-    /// Promise: Each is a delay pair of the operations by the graph's rule, and cycles of issue that wait for these wait for all.
+    /// Promise: Each is a delay pair of the operations by the graph's rule, and cycles of issue that wait for the kept
+    /// edges wait for all delays.
     pub fn edges(&self) -> &[Edge]
         ensures each { All (λ (e : edge_value). IsDelayPairWhere (counts_by self.now.rule self.now.ops)
             self.now.latencies self.now.ops e.from e.to e.delay) result.now }

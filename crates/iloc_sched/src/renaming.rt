@@ -35,7 +35,7 @@ impl Names {
         }
     }
 
-    /// No register has a name, as a block of so many operations begins.
+    /// Forgets all names, as a block of `ops` operations begins.
     pub(crate) fn clear(&mut self, ops: usize)
         requires { ops ≤ MAX_OPS }
         ensures none { (r : Reg) → current_of self.new r ≡ None }
@@ -126,10 +126,10 @@ impl Names {
         Ok((left, right, dest))
     }
 
-    /// The operation with the names of its registers, those of the uses first, left to right; and these names, so that
-    /// nobody has to look again which registers it has. Registers go by value, so no call can change the opcode, and the branches
-    /// by it are taken once: with references into the operation it takes 70 to 88 instructions and 0.3 to 0.4 mispredicted
-    /// branches more for each operation.
+    /// `op` with the names of its registers, uses first, left to right; and the names themselves, so that no caller has
+    /// to look up again which registers it has. Registers go by value, so no call can change the opcode, and the
+    /// branches by it are taken once: with references into the operation it takes 70 to 88 instructions and 0.3 to 0.4
+    /// mispredicted branches more for each operation.
     #[inline(always)]
     pub(crate) fn rename(&mut self, op: &Op) -> Result<(Op, OperandRegisters), NoMemory>
         requires { self.old.given < 2 ^ 32 - 3 }

@@ -5,10 +5,10 @@ ghost use Rattle.iloc_timed.specs.declared.latencies.Latencies.{Latencies as lat
 ghost use Rattle.iloc_rules.specs.declared.memory_rule.MemoryRule.{MemoryRule as rule_value};
 ghost use Rattle.iloc_sched.specs.Graph.GraphOf.{of_block};
 ghost use Rattle.iloc_rules.specs.Greedy.{IsGreedyWhere};
-ghost use Rattle.iloc_rules.specs.Heuristics.{priorities_by};
+ghost use Rattle.iloc_rules.specs.Heuristics.{priorities_by, priorities_under};
 ghost use Rattle.iloc_rules.specs.Priority.{priorities, priorities_where};
 ghost use Rattle.iloc_rules.specs.Renaming.{renamed};
-ghost use Rattle.iloc_rules.specs.Rule.{counts_by, priorities_under};
+ghost use Rattle.iloc_rules.specs.Rule.{counts_by};
 ghost use Rattle.iloc_sched.specs.Scheduled.{IsTheSchedule, IsTheScheduleBy};
 ghost use Rattle.iloc_sched.specs.Steps.Cycle.SoFar.{IsPlan, counts_of};
 

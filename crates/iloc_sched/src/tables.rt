@@ -232,7 +232,7 @@ impl Tables {
         Ok(())
     }
 
-    /// Takes the operations of a block for these latencies by address.
+    /// Takes the operations of `block` for `latencies`, by address.
     pub fn open_by_address(
         &mut self,
         names: &mut Names,

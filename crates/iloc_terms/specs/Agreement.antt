@@ -20,7 +20,7 @@ abbrev pub AreAlike : Bool → Outcome → Outcome → Type 0
 AreAlike true got wanted = shown got ≡ shown wanted
 AreAlike false got wanted = got ≡ wanted
 
--- so are those of two schedules on every memory
+-- `one` and `other` are alike on every memory
 abbrev pub AlikeOnAll : Bool → Latencies → Table → Table → Type 0
 AlikeOnAll outputs lat one other =
     (memory : List ℤ) → IsMemory memory

@@ -21,7 +21,7 @@ fn is_known(table: &Table, address: u32) -> bool
     }
 }
 
-/// For each of so many numbers whether it stands in a list.
+/// For each number below `count` whether it is among `numbers`.
 pub(crate) fn marks(alloc: Global, numbers: &[u32], count: usize) -> Result<Vec<bool>, NoMemory>
     ensures { IfOk result (λ marks. AreMarks numbers.now marks.items) }
 {
@@ -89,8 +89,8 @@ fn is_settled(table: &Table, marks: &[bool], spans: &[Option<Span>], address: u3
     is_between_marked(table, marks, spans, address)
 }
 
-/// Whether each of these addresses is surely good, stands among those or is between two of them: where one
-/// of these is bad, one of those is.
+/// Whether each of `these` addresses is surely good, is among `those` or is between two of them. Then, if one of
+/// `these` is bad, one of `those` is.
 fn is_bad_there(
     alloc: Global,
     table: &Table,

@@ -7,12 +7,12 @@ use iloc_meaning::Memory;
 use iloc_ops::NoMemory;
 use std::alloc::Global;
 
-/// An address: so far above a word that is loaded, which has this number among those, or above 0.
+/// An address: `offset` bytes above a loaded word, or above 0.
 #[derive(Clone, Copy, Debug, PartialEq, Eq)]
 pub struct MentionedAddress {
-    /// The number of the word; `None` above 0.
+    /// The number of the word among the loaded words; `None` above 0.
     pub base: Option<usize>,
-    /// The bytes above it, modulo 2^32.
+    /// In bytes, modulo 2^32.
     pub offset: u32,
 }
 
@@ -34,7 +34,7 @@ pub struct Mentions {
 /// The number of a word that isn't loaded.
 const NONE: usize = usize::MAX;
 
-/// Where an address is, if it is known, or above a word that is loaded; these have numbers by term.
+/// Where `address` is, if it is known, or is above a loaded word; `loads` has the terms of the loaded words.
 fn place_of(table: &Table, loads: &[usize], address: u32) -> Option<MentionedAddress> {
     let (base, offset) = match table.node(address)? {
         Node::Known(word) => {
@@ -57,7 +57,7 @@ fn place_of(table: &Table, loads: &[usize], address: u32) -> Option<MentionedAdd
 }
 
 impl Mentions {
-    /// The known words of a table, where something is done at the addresses with these numbers.
+    /// The known words of `table`, whose `addresses` and `other_addresses` are used.
     pub(crate) fn of(
         alloc: Global,
         table: &Table,
@@ -93,7 +93,7 @@ impl Mentions {
         Ok(mentions)
     }
 
-    /// Adds from where the word with this number is loaded, and notes its number among those.
+    /// Adds from where the word `number`, whose node is `node`, is loaded, and adds it to `loads`.
     fn add_loaded(
         &mut self,
         table: &Table,

@@ -36,8 +36,7 @@ impl Span {
     }
 }
 
-/// The spans of these addresses, by the numbers of their bases. They are hints: whoever asks looks whether
-/// they are so.
+/// The spans of `addresses`, by the numbers of their bases. They are hints: a caller tests whether they hold.
 pub(crate) fn spans(
     alloc: Global,
     table: &Table,

@@ -45,7 +45,8 @@ impl Table {
     ghost use Rattle.iloc_terms.specs.Steps.Terms.{IsNode, Means, Adds};
     ghost use Rattle.iloc_terms.specs.Steps.Order.{IsOrdered};
 
-    /// The table without terms. Products, long sums and memories are put in order for so many steps: terms made or found.
+    /// The table without terms. It takes at most `steps` steps, terms made or found, to normalise products, long sums
+    /// and memories.
     pub(crate) fn new(alloc: Global, steps: usize) -> Table
         ensures { result ≡ [] }
     {

@@ -31,7 +31,7 @@ pub enum Agreement {
     Unseen(Mentions),
 }
 
-/// The ends of two runs in terms, with the table of these.
+/// The ends of two runs in terms, with the table of the terms.
 #[derive(Drop)]
 struct TwoRuns {
     table: Table,
@@ -40,7 +40,7 @@ struct TwoRuns {
 }
 
 impl TwoRuns {
-    /// The runs of two schedules, whose terms may take so many steps to be put in order.
+    /// The runs of the schedules `one` and `other`; normalising their terms may take `steps` steps.
     fn of(
         alloc: Global,
         steps: usize,
@@ -80,7 +80,7 @@ impl TwoRuns {
     }
 }
 
-/// What is seen of two schedules by runs whose terms may take so many steps to be put in order, and how many
+/// What is seen of the schedules `one` and `other` by runs that may take `steps` steps to normalise terms; and how many
 /// terms they have.
 fn seen(
     alloc: Global,
@@ -103,10 +103,10 @@ fn seen(
     Ok((Agreement::Unseen(runs.mentions(alloc)?), terms))
 }
 
-/// Compares two schedules by their runs in terms: by outcomes or by outputs alone. First terms stay as they are
-/// made, then they are put in order: that costs more, and may lack steps.
+/// Compares the schedules `one` and `other` by their runs in terms: by outcomes, or with `outputs_alone` by outputs.
+/// The first terms stay as they are made; second ones are normalised, which costs more, and may run out of steps.
 ///
-/// Promise: those that are found to agree do so on every memory.
+/// Promise: Schedules that are found to agree do so on every memory.
 pub fn compare(
     alloc: Global,
     outputs_alone: bool,

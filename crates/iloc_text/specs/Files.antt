@@ -24,7 +24,7 @@ pub record Reading : Type 0 where
   pub label : Option (List ℕ)
   pub op : Option Op
 
--- the lines read as these, one by one
+-- the lines read as the readings, one by one
 abbrev pub ReadAs : List (List ℕ) → List Reading → Type 0
 ReadAs [] [] = Unit {0}
 ReadAs [] (r ∷ rs) = ⊥
@@ -101,7 +101,7 @@ pub record Denotes (input : List ℕ) (blocks : List Block) : Type 0 where
   pub none_faulty : NoneFaulty readings
   pub file : blocks ≡ file_of readings
 
--- a line after lines with these readings reads so, and makes one block or one operation too many
+-- `line`, after lines with the readings `rs`, reads as a line that makes one block or one operation too many
 pub record StartsTooManyBlocks (rs : List Reading) (line : List ℕ) : Type 0 where
   pub reading : Reading
   pub read : Reads line reading.label reading.op
@@ -113,7 +113,7 @@ pub record HoldsTooManyOperations (rs : List Reading) (line : List ℕ) : Type 0
   pub blocks : block_count (rs ++ reading ∷ []) ≤ MAX_BLOCKS
   pub operations : MAX_OPS < length (ops_of (block_count (rs ++ reading ∷ [])) (rs ++ reading ∷ []))
 
--- line n, after lines with these readings, has this fault
+-- line `n`, after lines with the readings `rs`, has this fault
 abbrev pub IsFaulty : List Reading → List ℕ → ℕ → ReadFault → Type 0
 IsFaulty rs line n InputTooLong = ⊥
 IsFaulty rs line n (BadLine k) = (k ≡ n) × (HasWideReading line → ⊥)

@@ -16,7 +16,7 @@ pub record BeginsLabelled (text : List ℕ) : Type 0 where
   pub op : Option Op
   pub reads : Reads line (Some name) op
 
--- the text denotes this file, and has so many lines
+-- `text` denotes the file of `counted`, and has as many lines as it says
 pub record IsCounted (text : List ℕ) (counted : Counted) : Type 0 where
   pub denotes : Denotes text counted.file.blocks
   pub lines : counted.lines ≡ length (lines_of text)
@@ -25,7 +25,7 @@ pub record IsCounted (text : List ℕ) (counted : Counted) : Type 0 where
 abbrev pub IsReadApart : TextPart → Type 0
 IsReadApart part = IfOk part.found (IsCounted part.text.items)
 
--- a part with this text is read behind these, or was given back, read
+-- a part with `text` is to be read after the texts of `old`, or was given back, read
 abbrev pub IsStarted : List (List ℕ) → List ℕ → List (List ℕ) → Option TextPart → Type 0
 IsStarted old text new None = new ≡ old ++ text ∷ []
 IsStarted old text new (Some part) = (new ≡ old) × (part.text.items ≡ text) × IsReadApart part

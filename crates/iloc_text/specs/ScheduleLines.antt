@@ -56,7 +56,7 @@ SaidText (total t) = Text (codes "total") ⋅ SomeBlanks ⋅ Number t
 abbrev pub SaysWidely : List ℕ → Said → Type 0
 SaysWidely line said = (Blanks ⋅ SaidText said ⋅ Blanks ⋅ OptionalComment) line
 
--- the numbers that are said, those of the operations among them
+-- the numbers of what is said, with the ones of the operations in a row
 abbrev pub said_numbers : Said → List ℕ
 said_numbers nothing = []
 said_numbers (row zero one) = numbers zero ++ numbers one

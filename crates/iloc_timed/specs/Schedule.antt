@@ -12,7 +12,7 @@ pub record Table : Type 0 where
   pub ops : List Op
   pub rows : List Row
 
--- whether each number in the row is that of one of so many operations
+-- whether each number in the row is below `count`, so of an operation
 abbrev pub in_range : ℕ → Row → Bool
 in_range count row = list_all (λ i. nat_lt i count) (slots row)
 
@@ -24,7 +24,7 @@ is_sound ops row = in_range (length ops) row && keeps_units ops row
 abbrev pub AreSound : List Op → List Row → Type 0
 AreSound ops rows = (c : ℕ) → c < length rows → IsTrue (is_sound ops (row_at rows c))
 
--- in each row the numbers are those of so many operations
+-- in each row the numbers are below `count`
 abbrev pub AreInRange : ℕ → List Row → Type 0
 AreInRange count rows = (c : ℕ) → c < length rows → IsTrue (in_range count (row_at rows c))
 
@@ -34,17 +34,17 @@ pub record IsFirstBadRow (ops : List Op) (rows : List Row) (c : ℕ) : Type 0 wh
   pub bad : IsFalse (is_sound ops (row_at rows c))
   pub others : (b : ℕ) → b < c → IsTrue (is_sound ops (row_at rows b))
 
--- each of so many operations is in exactly one slot
+-- each of `count` operations is in exactly one slot
 abbrev pub AreOnce : ℕ → List Row → Type 0
 AreOnce count rows = (i : ℕ) → i < count → times_issued rows i ≡ 1
 
--- operation i is the first of so many that doesn't
+-- operation `i` is the first of `count` operations that isn't in exactly one slot
 pub record IsFirstNotOnce (count : ℕ) (rows : List Row) (i : ℕ) : Type 0 where
   pub within : i < count
   pub bad : times_issued rows i ≢ 1
   pub others : AreOnce i rows
 
--- the fault says why these operations and rows make no schedule; memory can be lacking for any
+-- the fault says why `ops` and `rows` make no schedule; memory can be lacking for any
 abbrev pub IsReason : List Op → List Row → BuildFault → Type 0
 IsReason ops rows (BadRow c) = IsFirstBadRow ops rows c
 IsReason ops rows (NotOnce i) = AreSound ops rows × IsFirstNotOnce (length ops) rows i

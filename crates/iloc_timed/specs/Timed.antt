@@ -51,7 +51,7 @@ issue lat memory c log op = record {
   executed = record { op = op; effect = effect op (register_in (arrived c log)) (word_in memory (arrived c log)) };
 }
 
--- the log with the operations of these numbers, issued at cycle c
+-- `log` with the operations of `numbers`, issued at cycle `c`
 abbrev pub issue_all : Latencies → List ℤ → List Op → ℕ → List ℕ → List Issued → List Issued
 issue_all lat memory ops c numbers log = map (λ i. issue lat memory c log (op_at ops i)) numbers ++ log
 

@@ -1,5 +1,4 @@
-//! Schedules for a machine with two units, and what the machine does with them: latencies, rows, cycles, the
-//! timed run.
+//! Schedules for a machine with two units, and what the machine does with them: latencies, rows, cycles, the timed run.
 #![tactic(auto)]
 
 mod build_fault;

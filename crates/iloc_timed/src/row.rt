@@ -25,7 +25,7 @@ impl Row {
     ghost use Rattle.iloc_timed.specs.Rows.{keeps_units};
     ghost use Rattle.iloc_timed.specs.Schedule.{is_sound};
 
-    /// Whether each number is one of these operations' and the rules of the units are kept.
+    /// Whether each number is one of an operation of `ops` and the rules of the units are kept.
     pub(crate) fn is_sound(&self, ops: &[Op]) -> bool
         ensures { result ≡ is_sound ops.now self.now }
     {

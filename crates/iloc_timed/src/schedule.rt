@@ -62,7 +62,7 @@ impl Schedule {
         Ok(Schedule { ops, rows })
     }
 
-    /// Promise: the schedule of these operations in these rows, which are known to keep the rules.
+    /// Promise: the schedule of `ops` in `rows`, which are known to keep the rules.
     pub fn of_table(ops: Vec<Op>, rows: Vec<Row>) -> Schedule
         requires table { IsTable ops.items rows.items }
         requires few { vec_len rows ≤ MAX_ROWS }

@@ -70,7 +70,7 @@ impl<T: Lands + Drop> Wheel<T> {
         self.lists[cycle % LONGEST].as_slice()
     }
 
-    /// Promise: adds a result that is due at a cycle, after those that are due then already.
+    /// Promise: adds `pending`, a result that is due at `cycle`, after the ones that are due then already.
     pub fn push(&mut self, cycle: usize, pending: T) -> Result<(), NoMemory>
         requires { T.can_land pending }
         ensures { OnOk result (self.new ≡ slice_set self.old (cycle % LONGEST_LATENCY) (list_at self.old cycle ++ pending ∷ [])) }

@@ -57,7 +57,7 @@ abbrev pub sooner : ℕ → Option ℕ → ℕ
 sooner due None = due
 sooner due (Some other) = min due other
 
--- when the next of these results for the place is due, after cycle c
+-- when the next of the results for `place` in the list is due, after cycle `c`
 abbrev pub next_due : ℕ → Place → List Issued → Option ℕ
 next_due c place [] = None
 next_due c place (e ∷ earlier) =

@@ -20,7 +20,7 @@ abbrev pub emitted_by : Event → List ℤ
 emitted_by (arrives it) = []
 emitted_by (is_issued it) = words_of it.op it.reads
 
--- the outputs of a trace without a fault are those of the outcome
+-- the outputs of a trace without a fault are the ones of the outcome
 abbrev pub TracesEmitTheOutcome : Type 0
 TracesEmitTheOutcome = (lat : Latencies) (memory : List ℤ) (ops : List Op) (rows : List Row) (words : List ℤ)
     → shown (timed_outcome lat ops rows memory) ≡ Some words → flat_map emitted_by (events lat memory ops rows) ≡ words

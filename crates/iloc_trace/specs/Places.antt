@@ -18,7 +18,7 @@ is_same (Register r) (Register s) = r.0 == s.0
 is_same (Word a) (Word b) = a == b
 is_same _ _ = false
 
--- what is in the place, where registers and words have these values
+-- what is in the place, with `reg` and `word` as the values of registers and words
 abbrev pub value_at : (Reg → ℤ) → (ℕ → ℤ) → Place → ℤ
 value_at reg word (Register r) = reg r
 value_at reg word (Word a) = word a

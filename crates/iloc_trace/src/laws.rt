@@ -1,7 +1,7 @@
 //! Laws of traces, as contracts of functions that do nothing.
 ghost use Rattle.iloc_trace.specs.Laws.{LawfulSchedulesReadOnTime, TracesEmitTheOutcome};
 
-/// Promise: The words that a trace without a fault emits are those of the outcome, in order.
+/// Promise: The words that a trace without a fault emits are the ones of the outcome, in order.
 pub fn traces_emit_the_outcome()
     ensures { TracesEmitTheOutcome }
 {}

@@ -51,7 +51,7 @@ waiting_by test accesses = count_by (λ access. test access.op) accesses.recent.
 abbrev pub waiting : MemoryDependences → ℕ
 waiting dependences = waiting_by (λ i. true) dependences.accesses
 
--- the operations that wait have these addresses, and those that are kept have the base of the last store
+-- `of` has the addresses of the operations that wait, and the ones that are kept have the base of the last store
 pub record ArePlaced (of : ℕ → Option Word) (accesses : Accesses) : Type 0 where
   pub recent : (a : Access) → In accesses.recent.items a → (of a.op ≡ Some a.address) × IsShort (constant_of a.address)
   pub kept : (c : ℤ) (i : ℕ) → In (ops_at accesses.kept c) i → (of i ≡ Some (at_constant accesses.base c)) × IsShort c
@@ -72,7 +72,7 @@ pub record IsWaiting (ops : List Op) (i j : ℕ) : Type 0 where
   pub reads : (is_load (kind (op_at ops i)) || is_output (kind (op_at ops i))) ≡ true
   pub alone : (k : ℕ) → i < k → k < j → IsStoreAt ops (address_at ops i) k → ⊥
 
--- what is known before operation j of these
+-- what is known before operation `j` of `ops`
 pub record IsBefore (ops : List Op) (dependences : MemoryDependences) (j : ℕ) : Type 0 where
   pub last : IsLast (λ i. is_store (kind (op_at ops i)) ≡ true) j dependences.stores.last
   pub stores : (w : Word) → IsShort (constant_of w) → IsLast (IsStoreAt ops (Some w)) j (store_for dependences.stores w)
@@ -95,7 +95,7 @@ pub record Finds (address : Word) (old new : Accesses) (list list' : List ℕ) :
   pub near : (of : ℕ → Option Word) → ArePlaced of old → (i : ℕ) → In moved i → apart_if_both (of i) (Some address) ≡ false
   pub placed : (of : ℕ → Option Word) → ArePlaced of old → ArePlaced of new
 
--- and those that wait on are apart from it
+-- the operations that wait on are apart from `address`
 abbrev pub AreFar : Word → Accesses → Type 0
 AreFar address accesses = (of : ℕ → Option Word) → ArePlaced of accesses → IsShort (constant_of address) → (i : ℕ)
     → 0 < waiting_by (λ k. k == i) accesses → apart_if_both (of i) (Some address) ≡ true

@@ -21,7 +21,7 @@ use Rattle.iloc_addresses.specs.declared.successors.definers.Definers.{Definers}
 use Rattle.iloc_addresses.specs.declared.successors.later.Later.{Later}
 use Rattle.iloc_addresses.specs.Steps.Dependences.{constant_of, IsShort}
 
--- whether the second of two operations of these kinds, at these addresses, has to wait for the first by memory or outputs
+-- whether the second of two operations, given their kinds and addresses, has to wait for the first by memory or outputs
 abbrev pub waits_by_memory : Kind → Option Word → Kind → Option Word → Bool
 waits_by_memory K.Load v K.Store w = not (apart_if_both v w)
 waits_by_memory K.Store v K.Load w = not (apart_if_both v w)
@@ -74,7 +74,7 @@ pub record AreCounts (later : Later) : Type 0 where
   pub stores : AreNested later.stores
   pub reads : AreNested later.reads
 
--- how many of these later operations wait for one of a kind at an address
+-- how many of the `later` operations wait for one of a kind at the address `w`
 abbrev pub waiting_for : Kind → Word → Later → ℕ
 waiting_for K.Load w later = near later.stores w
 waiting_for K.Store w later = later.stores.all + near later.reads w
@@ -95,7 +95,7 @@ is_number i (Some k) = k == i
 abbrev pub definer : Definers → Reg → Option ℕ
 definer definers r = get nat_cmp definers.ops r.0
 
--- they are those before operation j
+-- `definers` has the operation before operation `j` that defines each register
 abbrev pub AreDefiners : List Op → ℕ → Definers → Type 0
 AreDefiners ops j definers =
     (i : ℕ) (r : Reg) → is_number i (definer definers r) ≡ (nat_lt i j && is_register r (defined (op_at ops i)))
@@ -104,7 +104,7 @@ AreDefiners ops j definers =
 abbrev pub uses_before : List Op → ℕ → ℕ → ℕ
 uses_before ops i n = count_by (is_by_use ops i) (range_with_len 0 n)
 
--- for each operation those before operation j are counted
+-- `found` has for each operation the number of its uses by operations before `j`
 pub record AreUsesCounted (ops : List Op) (found : List ℕ) (j : ℕ) : Type 0 where
   pub size : length found ≡ length ops
   pub each : (i : ℕ) → slice_index found i ≡ uses_before ops i j
@@ -120,7 +120,7 @@ pub record AreNoted (ops : List Op) (later : Later) (j : ℕ) : Type 0 where
   pub few : noted later ≤ 2 * (length ops - j)
   pub counts : AreCounts later
 
--- all uses are counted, and for the operations from operation j on also those that wait by memory
+-- `found` has all uses, and of the operations from `j` on also how many wait for them by memory
 pub record AreCounted (ops : List Op) (found : List ℕ) (j : ℕ) : Type 0 where
   pub size : length found ≡ length ops
   pub each : (i : ℕ) → i < length ops → slice_index found i

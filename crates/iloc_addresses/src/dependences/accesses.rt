@@ -66,7 +66,8 @@ impl Accesses {
         Ok(())
     }
 
-    /// Moves to a list those that aren't apart from the address of a store, which is the last one from now on.
+    /// Moves to `found` the operations that aren't apart from `address`, the address of a store, which is the last one
+    /// from now on.
     pub(crate) fn find(&mut self, address: Word, found: &mut Vec<u32>) -> Result<(), NoMemory>
         ensures finds { OnOk result (Finds address self.old self.new found.old.items found.new.items) }
         ensures far { OnOk result (AreFar address self.new) }
@@ -80,7 +81,7 @@ impl Accesses {
         self.find_recent(found)
     }
 
-    /// Moves to a list those of the recent ones that aren't apart from the last store's address, and keeps the others.
+    /// Moves to `found` the recent operations that aren't apart from the last store's address, and keeps the others.
     fn find_recent(&mut self, found: &mut Vec<u32>) -> Result<(), NoMemory>
         ensures finds { OnOk result (Finds self.old.base self.old self.new found.old.items found.new.items) }
         ensures far { OnOk result (ops_at self.old.kept (constant_of self.old.base) ≡ []

@@ -22,7 +22,8 @@ fn apart_if_both(first: Option<Word>, second: Option<Word>) -> bool
     }
 }
 
-/// Whether the second of two operations of these kinds, at these addresses, waits for the first by memory or outputs.
+/// Whether an operation of kind `second` at the address `other` waits for an earlier one of kind `first` at `address`,
+/// by memory or outputs.
 fn waits_by_memory(first: Kind, address: Option<Word>, second: Kind, other: Option<Word>) -> bool
     ensures { result ≡ waits_by_memory first address second other }
 {

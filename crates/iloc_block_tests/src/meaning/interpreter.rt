@@ -41,7 +41,7 @@ const FAR_REGISTER: &[u8] =
 
 const AGAIN: &[Run] = &[(READ, &[7, 0]), (FAR_REGISTER, &[7, 9])];
 
-/// How the run of a block ended, behind which these were run.
+/// How the run of `block` ended, after which `runs` were run.
 fn run_before(
     rt: &impl Abort,
     alloc: Global,
@@ -54,7 +54,7 @@ fn run_before(
     Ok(first?)
 }
 
-/// To be run with each growth refused in turn, those in mid-run among them. It ends with the refusal.
+/// To be run with each growth refused in turn, also in mid-run. It ends with the refusal.
 #[test]
 fn a_refused_run_can_be_repeated(rt: HostRuntime) -> Result<(), Fail> {
     let block = block_of(rt.alloc(), FAR_REGISTER)?;

@@ -4,7 +4,7 @@ use iloc_ops::{Block, NoMemory, Op, Ops, Reg};
 use std::alloc::Global;
 use std::test::Fail;
 
-/// What comes of these operations on zero memory.
+/// What comes of `ops` on zero memory.
 fn outcome_of(alloc: Global, ops: &[Op]) -> Result<Outcome, NoMemory> {
     let block = Block {
         name: None,

@@ -16,7 +16,7 @@ const SUM: Op = Op::AddI {
     dest: Reg(7),
 };
 
-/// So many sums in a chain, over one register.
+/// A chain of `count` sums over one register.
 fn chain(alloc: Global, count: usize) -> Result<Block, Fail>
     ensures { IfOk result (λ block. length block.ops ≤ MAX_OPS) }
 {

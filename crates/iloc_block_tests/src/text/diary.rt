@@ -14,7 +14,7 @@ pub(crate) struct Diary {
 }
 
 impl Diary {
-    /// Has room for so many blocks.
+    /// Has room for `room` blocks.
     pub(crate) fn new(alloc: Global, room: usize) -> Diary {
         Diary {
             room,
@@ -35,7 +35,7 @@ impl Diary {
         Ok(())
     }
 
-    /// Writes these down.
+    /// Writes `blocks` down.
     pub(crate) fn write_all(&mut self, blocks: &[Block]) -> Result<(), NoMemory> {
         for block in blocks {
             self.write(block)?;

@@ -22,7 +22,7 @@ impl<'a> Read for Source<'a> {
     }
 }
 
-/// Gives the bytes, at most so many a turn.
+/// Gives `bytes`, at most `at_once` a turn.
 pub(super) fn giving(bytes: &[u8], at_once: usize) -> Source<'_> {
     Source { bytes, at_once }
 }

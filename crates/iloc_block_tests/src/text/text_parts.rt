@@ -85,7 +85,7 @@ fn read_by<P: ReadParts + Drop>(
     Ok(diary.lines)
 }
 
-/// A text that begins with these lines, each in a part of its own, for comments behind them make them long enough.
+/// A text that begins with the lines `parts`, each in a part of its own, for comments after them make them long enough.
 fn long_text(alloc: Global, parts: &[&[u8]], rest: &[u8]) -> Result<Vec<u8>, Fail> {
     let mut text = Vec::new(alloc);
     for part in parts {

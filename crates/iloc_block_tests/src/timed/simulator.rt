@@ -6,7 +6,7 @@ use std::alloc::{AllocError, Global};
 use std::process::Abort;
 use std::test::Fail;
 
-/// So many operations on unit 0, one every five rows.
+/// `count` operations on unit 0, one every five rows.
 fn every_fifth(alloc: Global, count: usize) -> Result<Vec<Issue>, AllocError> {
     let mut issues = Vec::new(alloc);
     for i in 0..count {
@@ -61,7 +61,7 @@ const FAR_REGISTER: &[u8] =
 
 const AGAIN: &[Run] = &[(READ, &[0, 7]), (FAR_REGISTER, &[7, 9])];
 
-/// How the run of a schedule ended, behind which these were run.
+/// How the run of `schedule` ended, after which `runs` were run.
 fn run_before(
     rt: &impl Abort,
     alloc: Global,
@@ -74,7 +74,7 @@ fn run_before(
     Ok(first?)
 }
 
-/// To be run with each growth refused in turn, those in mid-run among them. It ends with the refusal.
+/// To be run with each growth refused in turn, also in mid-run. It ends with the refusal.
 #[test]
 fn a_refused_run_can_be_repeated(rt: HostRuntime) -> Result<(), Fail> {
     let schedule = spaced(rt.alloc(), FAR_REGISTER)?;

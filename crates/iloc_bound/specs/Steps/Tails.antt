@@ -15,7 +15,8 @@ use Rattle.iloc_sched.specs.Graph.Near.{IsNearPair}
 abbrev pub loads_from : Latencies → List Op → ℕ → List ℕ
 loads_from lat ops i = load_tails (drop i ops) (drop i (tails lat ops))
 
--- those from an operation of this kind on, by those from the next on
+-- the tails of the loads from an operation on, which is of kind `k` and has the tail `tail`; `loads` are the ones from
+-- the next on
 abbrev pub loads_by : Kind → ℕ → List ℕ → List ℕ
 loads_by k tail loads = if is_store k then [] else loads ++ when (is_load k) tail
 
@@ -28,8 +29,8 @@ chain_tail lat ops i = fold max (latency lat (op_at ops i))
 abbrev pub tail_by : Kind → ℕ → ℕ → List ℕ → ℕ
 tail_by k chain latency loads = if is_store k then max chain (needed latency 1 loads) else chain
 
--- Numbers while tails are found from the last: those of the operations from j on are there, each other lies between its
--- latency and what its delays leave, and the near pairs into the operations from k on are kept.
+-- `found` while tails are found from the last: operations from `j` on have theirs, each other number is between its
+-- latency and what its delays leave, and the near pairs into the operations from `k` on are kept.
 pub record IsTailed (lat : Latencies) (ops : List Op) (found : List ℕ) (j k : ℕ) : Type 0 where
   pub size : length found ≡ length ops
   pub own : (i : ℕ) → i < length ops → latency lat (op_at ops i) ≤ slice_index found i

@@ -40,7 +40,7 @@ fn first_after(addresses: &[u32]) -> usize {
     highest as usize + 1
 }
 
-/// The address of a place, where words that are loaded are these.
+/// The address of `place`, where the loaded words are `words`.
 fn address(words: &[u32], place: MentionedAddress) -> u32 {
     let base = match place.base {
         Some(number) => words.get(number).copied().unwrap_or(0),
@@ -49,7 +49,8 @@ fn address(words: &[u32], place: MentionedAddress) -> u32 {
     base.wrapping_add(place.offset)
 }
 
-/// Adds that a place and each of so many before it are one address, if they can be: that above the later word is moved.
+/// Adds, for each of the first `count` places of `reached`, that it and `place` are one address, if they can be: the
+/// later word is moved.
 fn add_meetings(
     aims: &mut Vec<Aim>,
     place: MentionedAddress,

@@ -27,7 +27,8 @@ const MOST_ADDRESSES: usize = 64;
 
 const MOST_OFFSETS: usize = 8;
 
-/// What an unknown word would be so that one of these offsets from it is one of these addresses, and the addresses; rising.
+/// What an unknown word would be so that one of `offsets` from it is one of `addresses`; and `addresses` themselves.
+/// Rising.
 fn bases(alloc: Global, addresses: &[u32], offsets: &[u32]) -> Result<Vec<u32>, NoMemory> {
     let mut bases = Vec::new(alloc);
     for address in addresses.iter().take(MOST_ADDRESSES) {
@@ -53,7 +54,7 @@ fn place_within(bounds: (u32, u32), address: u32) -> Option<u32> {
     }
 }
 
-/// Adds the words within bounds that are so many bytes behind each of these addresses, while there is room.
+/// Adds to `places`, while there is room, the words within `bounds` that are `behind` bytes after each of `addresses`.
 fn add_places(
     places: &mut Vec<u32>,
     bounds: (u32, u32),
@@ -83,7 +84,7 @@ fn bounds(addresses: &[u32], span: usize) -> (u32, u32) {
     }
 }
 
-/// The words at these addresses and bases, then the words behind them, and so on; rising.
+/// The words at `addresses` and `bases`, then the words after them, and so on, within `bounds`. Rising.
 fn places(
     alloc: Global,
     addresses: &[u32],
@@ -100,7 +101,7 @@ fn places(
 }
 
 impl Clues {
-    /// What follows from what two runs mention, for memories that span so many words.
+    /// What follows from `mentions`, what two runs mention, for memories that span `span` words.
     pub(crate) fn of(alloc: Global, mentions: Mentions, span: usize) -> Result<Clues, NoMemory> {
         let bounds = bounds(&mentions.addresses, span);
         let bases = bases(alloc, &mentions.addresses, &mentions.offsets)?;
@@ -120,7 +121,7 @@ impl Clues {
         place_within(self.bounds, address)
     }
 
-    /// The words of the made-up memory with this number, if there is one: first those that are aimed, then the patterns.
+    /// The words of made-up memory `number`, if there is one: first the aimed ones, then the patterns.
     pub(crate) fn cells(
         &self,
         alloc: Global,

@@ -32,8 +32,8 @@ pub(crate) struct Effort {
 }
 
 impl Effort {
-    /// For one of so many blocks. A run takes a step for each word of memory, which is copied and compared, for each
-    /// operation of the block and for each row, so a short block is run 61 times at most to shorten a memory.
+    /// The effort for one of `blocks` blocks. A run takes a step for each word of memory, which is copied and compared,
+    /// for each operation of the block and for each row, so a short block is run 61 times at most to shorten a memory.
     pub(crate) fn on_one_of(blocks: usize, block: &Block, schedule: &Schedule) -> Effort {
         let blocks = blocks.max(1);
         let runs = MOST_RUNS / blocks;

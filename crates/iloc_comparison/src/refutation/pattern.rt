@@ -72,7 +72,7 @@ impl Pattern {
         Ok(cells)
     }
 
-    /// The word at a place of a made-up memory, which is so many of its places, from 0.
+    /// The word at `place` of a made-up memory; it is number `number` of the memory's places, counted from 0.
     fn word(self, clues: &Clues, place: u32, number: u32) -> u32 {
         let address = |number: u32| in_turn(&clues.mentions.addresses, number);
         let constant = |number: u32| in_turn(&clues.mentions.constants, number);

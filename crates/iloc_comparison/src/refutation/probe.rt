@@ -26,7 +26,7 @@ pub struct Probe {
 }
 
 impl Probe {
-    /// The memory with these words, and 0 else.
+    /// The memory with the words of `cells`, and 0 elsewhere.
     pub(crate) fn of(alloc: Global, cells: &[Cell]) -> Result<Probe, NoMemory> {
         let first = cells.iter().map(|cell| cell.place).min().unwrap_or(0) % WORDS as u32;
         let last = cells.iter().map(|cell| cell.place).max().unwrap_or(0);
@@ -54,7 +54,7 @@ impl Probe {
         Ok(used)
     }
 
-    /// The same memory with 0 in place of these words.
+    /// The same memory with 0 in place of the words with `indices`.
     pub(crate) fn without(&self, alloc: Global, indices: &[usize]) -> Result<Probe, NoMemory> {
         let mut words = Vec::from_slice(alloc, &self.words)?;
         for index in indices {

@@ -10,7 +10,7 @@ use std::alloc::Global;
 /// How often 64 words, the most that are made up, are halved down to single words.
 const HALVINGS: u32 = 6;
 
-/// Makes those of these words 0 without which there is a difference still, so many at a time.
+/// Makes words of `used` 0, `at_a_time` at once, where a difference is left without them.
 fn without_parts(
     alloc: Global,
     trial: &Trial<'_>,

@@ -8,7 +8,7 @@ abbrev pub with_slot : List ℕ → Option ℕ → ℕ → List ℕ
 with_slot cycles None c = cycles
 with_slot cycles (Some i) c = slice_set cycles i c
 
--- these are the cycles of issue of what the first rows hold
+-- `cycles` has the cycles of issue of what the first `c` rows hold
 pub record AreIssued (rows : List Row) (count c : ℕ) (cycles : List ℕ) : Type 0 where
   pub size : length cycles ≡ count
   pub each : (i : ℕ) → i < count → issue_cycle rows i < c → slice_index cycles i ≡ issue_cycle rows i

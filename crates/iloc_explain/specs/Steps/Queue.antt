@@ -87,7 +87,7 @@ pub record IsReleased (c : ℕ) (p : Place) (old new : List (ℕ × Place)) : Ty
 abbrev pub AreLater : ℕ → List (ℕ × Place) → Type 0
 AreLater c coming = (q : ℕ × Place) → In coming q → c < q.0
 
--- those that come aren't ready at cycle c
+-- what is still to come isn't ready at cycle `c`
 pub record IsReadyList (es : List Explained) (c : ℕ) (list : ReadyList) : Type 0 where
   pub kept : IsKept es c list
   pub later : AreLater c list.coming.keys
@@ -97,7 +97,7 @@ pub record IsRowAt (es : List Explained) (row : Row) (c : ℕ) : Type 0 where
   pub all : (j : ℕ) (own : Explained) → slice_get es j ≡ Some own → own.cycle ≡ c → holds row j ≡ true
   pub only : (j : ℕ) (own : Explained) → slice_get es j ≡ Some own → holds row j ≡ true → own.cycle ≡ c
 
--- at cycle c these are explained, and what is ready then is known
+-- at cycle `c` the operations of `list` are explained, and it has what is ready then
 pub record IsKnown (prios : List ℕ) (rule : MemoryRule) (lat : Latencies) (ops : List Op) (rows : List Row) (c : ℕ)
     (list : ReadyList) : Type 0 where
   pub explained : List Explained

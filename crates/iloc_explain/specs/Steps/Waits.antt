@@ -8,7 +8,7 @@ use Rattle.iloc_rules.specs.declared.memory_rule.MemoryRule.{MemoryRule}
 use Rattle.iloc_rules.specs.Delays.{delays_where}
 use Rattle.iloc_rules.specs.Rule.{counts_by}
 
--- whether operation j waits for operation i for so many cycles
+-- whether operation `j` waits for operation `i` for `delay` cycles
 abbrev pub waits_for : MemoryRule → Latencies → List Op → ℕ → ℕ → ℕ → Bool
 waits_for rule lat ops j delay i =
     nat_lt i j && list_any (λ d. d == delay) (delays_where (counts_by rule ops i j) lat (op_at ops i) (op_at ops j))

@@ -7,7 +7,7 @@ use Rattle.iloc_text.specs.Files.{Reading, IsWithin, block_count, ops_of}
 use Rattle.iloc_lint.specs.Faults.{CountsAs, ops_in}
 use Rattle.iloc_lint.specs.declared.faults.counts.Counts.{Counts}
 
--- the counts are those of lines with these readings
+-- `counts` are the counts of lines with `readings`
 pub record Count (readings : List Reading) (counts : Counts) : Type 0 where
   pub blocks : counts.blocks ≡ block_count readings
   pub last : counts.last ≡ length (ops_of (block_count readings) readings)
@@ -27,11 +27,12 @@ Exceeds readings n (TooManyOperations k) =
 Exceeds readings n _ = ⊥
 
 -- what comes of adding a line with this reading and number
-abbrev pub Adds : List Reading → Reading → ℕ → Counts → Counts → Result (Unit {0}) ReadFault → Type 0
-Adds before reading n old new (Ok done) = Count (before ++ reading ∷ []) new × IsWithin (before ++ reading ∷ [])
-Adds before reading n old new (Err fault) = (new ≡ old) × Exceeds (before ++ reading ∷ []) n fault
+abbrev pub AddsReading : List Reading → Reading → ℕ → Counts → Counts → Result (Unit {0}) ReadFault → Type 0
+AddsReading before reading n old new (Ok done) = Count (before ++ reading ∷ []) new × IsWithin (before ++ reading ∷ [])
+AddsReading before reading n old new (Err fault) = (new ≡ old) × Exceeds (before ++ reading ∷ []) n fault
 
--- the line counts as a reading and has this fault or none, and the counts are those with that reading
+-- after lines with the readings `before`, `line` counts as a reading and has the fault named or none, and `new` are the
+-- counts with that reading
 abbrev pub Judged : List Reading → List ℕ → Counts → Option ReadFault → Type 0
 Judged before line new fault =
     (reading : Reading) × CountsAs before line reading (option_to_list fault) × Count (before ++ reading ∷ []) new

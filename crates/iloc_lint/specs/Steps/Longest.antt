@@ -82,7 +82,7 @@ abbrev pub word_in : List ℕ → ℕ
 word_in [] = 0
 word_in (c ∷ cs) = if is_word_byte c then suc (word_in cs) else 0
 
--- digits after those of a number, as long as it is within the limit
+-- how many digits go on a number whose digits so far make `value`, as long as it is within the limit
 abbrev pub digits_in : ℕ → List ℕ → ℕ
 digits_in value [] = 0
 digits_in value (c ∷ cs) =
@@ -102,17 +102,17 @@ abbrev pub starts : (ℕ → Bool) → List ℕ → Bool
 starts test [] = false
 starts test (c ∷ cs) = test c
 
--- so many bytes are digits of a number within the limit, and whether that is the whole number
+-- `count` bytes are digits of a number within the limit; `whole`: they are the whole number
 pub record NumberAt (bytes : List ℕ) (count : ℕ) (whole : Bool) : Type 0 where
   pub count_is : count ≡ digits_in 0 bytes
   pub whole_is : whole ≡ (nat_lt 0 count && not (starts is_ascii_digit (drop count bytes)))
 
--- so many bytes are `r` and digits of a number within the limit, and whether that is the whole register
+-- `count` bytes are `r` and digits of a number within the limit; `whole`: they are the whole register
 pub record RegisterAt (bytes : List ℕ) (count : ℕ) (whole : Bool) : Type 0 where
   pub named : (digits : List ℕ) → bytes ≡ 114 ∷ digits → (n : ℕ) × NumberAt digits n whole × (count ≡ n + 1)
   pub other : common_in (codes "r") bytes ≡ 0 → (count ≡ 0) × (whole ≡ false)
 
--- so many bytes belong to a sign with any blanks on both sides, and whether that is all of it
+-- `count` bytes belong to `sign` with any blanks on both sides, and whether that is all of it
 abbrev pub SignAt : List ℕ → List ℕ → ℕ → Bool → Type 0
 SignAt sign bytes count true =
     (common_in sign (drop (blanks_in bytes) bytes) ≡ length sign)

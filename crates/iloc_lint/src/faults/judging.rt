@@ -2,7 +2,7 @@
 ghost use Rattle.std.specs.Prelude.{◌≡◌, ◌≤◌, ◌<◌, ◌+◌, ◌^◌, [], List, Option, ℕ, IfOk, is_some, option_to_list, length};
 ghost use Rattle.iloc_ops.specs.Limits.{MAX_INPUT};
 ghost use Rattle.iloc_text.specs.Files.{HasNoLineEnd, Reading};
-ghost use Rattle.iloc_lint.specs.Steps.Counted.{Adds, Count, Judged, grown};
+ghost use Rattle.iloc_lint.specs.Steps.Counted.{AddsReading, Count, Judged, grown};
 
 use crate::alone::{Content, Unknown, read_alone};
 use crate::faults::counts::Counts;
@@ -10,7 +10,7 @@ use iloc_ops::{MAX_BLOCKS, MAX_OPS, NoMemory, Op};
 use iloc_text::ReadFault;
 use std::alloc::Global;
 
-/// How many operations these are.
+/// 1 if there is an operation, else 0.
 fn one_if(op: &Option<Op>) -> usize
     ensures { result ≡ length (option_to_list op.now) }
 {
@@ -50,7 +50,7 @@ impl Counts {
         requires { self.old.ops < 2 ^ 32 }
         ensures { (before : List Reading) (label : Option (List ℕ)) → Count before self.old →
             said.now.labelled ≡ is_some label →
-            Adds before (record { label = label; op = said.now.op }) number self.old self.new result }
+            AddsReading before (record { label = label; op = said.now.op }) number self.old self.new result }
     {
         let (blocks, last) = self.grown(said);
         if blocks > MAX_BLOCKS {

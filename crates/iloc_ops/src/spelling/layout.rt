@@ -6,15 +6,15 @@ ghost use Rattle.iloc_ops.specs.Steps.Laid.{IsShort, laid_out};
 use crate::forms::form_of;
 use crate::op::Op;
 
-/// A text of at most eight bytes: the last ones of these.
-#[derive(Clone, Copy, Debug)]
+/// A text of at most eight bytes: the last `length` of `bytes`.
+#[derive(Clone, Copy)]
 pub struct Word {
     pub bytes: [u8; 8],
     pub length: usize,
 }
 
 /// The opcode, and what precedes each number.
-#[derive(Clone, Copy, Debug)]
+#[derive(Clone, Copy)]
 pub(crate) struct Layout {
     pub(crate) opcode: Word,
     pub(crate) first: Word,

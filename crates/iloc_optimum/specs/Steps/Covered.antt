@@ -5,12 +5,12 @@ use Rattle.iloc_sched.specs.declared.edges.Edge.{Edge}
 use Rattle.iloc_optimum.specs.declared.windows.Windows.{Windows}
 use Rattle.iloc_optimum.specs.Timing.{AreSized, IsTiming, Within}
 
--- the cycles of issue are within one of these windows
+-- the cycles of issue `t` are within one of the windows
 abbrev pub InOne : List Windows → (ℕ → ℕ) → Type 0
 InOne [] t = ⊥
 InOne (w ∷ ws) t = Within w.firsts.items w.lasts.items t ⊎ InOne ws t
 
--- each of these windows is for operations of these kinds
+-- each of the windows is for operations of `kinds`
 abbrev pub EachSized : List Kind → List Windows → Type 0
 EachSized kinds [] = Unit {0}
 EachSized kinds (w ∷ ws) = AreSized kinds w × EachSized kinds ws

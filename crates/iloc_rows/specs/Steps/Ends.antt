@@ -15,7 +15,7 @@ is_nothing (head k name) = false
 is_nothing (cycles c) = false
 is_nothing (total t) = false
 
--- these are the two parts of the text, with the number of the lines of the first
+-- `cut` has the two parts of the text, with the number of the lines of the first
 pub record IsCutOf (input : List ℕ) (cut : CutText) : Type 0 where
   pub before : List (List ℕ)
   pub lines : lines_of input ≡ before ++ lines_left cut.rows

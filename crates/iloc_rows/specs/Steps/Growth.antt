@@ -40,7 +40,7 @@ with_unread p n text = record {
   unread = or_this p.unread record { line = n; row = length p.rows; text = text };
 }
 
--- so many cycles are claimed
+-- `p`, of which the given number of cycles is claimed
 abbrev pub with_cycles : Proposed → ℕ → Proposed
 with_cycles p c = record { ops = p.ops; rows = p.rows; claimed = Some c; unread = p.unread }
 
@@ -61,18 +61,18 @@ pub record HasProposed (blocks : List Block) (lines : List Told) (state : Propos
   pub last : state.last ≡ last_block lines
 
 -- what comes of a line with this number that tells this
-abbrev pub Adds : List Block → List Told → Told → ℕ → Proposing → Result (Unit {0}) RowsFault → Type 0
-Adds blocks lines told number state (Ok done) = Fits blocks lines told × HasProposed blocks (lines ++ told ∷ []) state
-Adds blocks lines told number state (Err (Read InputTooLong)) = ⊥
-Adds blocks lines told number state (Err (Read (BadLine n))) =
+abbrev pub AddsTold : List Block → List Told → Told → ℕ → Proposing → Result (Unit {0}) RowsFault → Type 0
+AddsTold blocks lines told number state (Ok done) = Fits blocks lines told × HasProposed blocks (lines ++ told ∷ []) state
+AddsTold blocks lines told number state (Err (Read InputTooLong)) = ⊥
+AddsTold blocks lines told number state (Err (Read (BadLine n))) =
     (n ≡ number) × (is_unread told ≡ true) × (is_of_block blocks lines told ≡ false)
-Adds blocks lines told number state (Err (Read (NumberTooLarge n))) = ⊥
-Adds blocks lines told number state (Err (Read (TooManyBlocks n))) = ⊥
-Adds blocks lines told number state (Err (Read (TooManyOperations n))) =
+AddsTold blocks lines told number state (Err (Read (NumberTooLarge n))) = ⊥
+AddsTold blocks lines told number state (Err (Read (TooManyBlocks n))) = ⊥
+AddsTold blocks lines told number state (Err (Read (TooManyOperations n))) =
     (n ≡ number) × (is_of_block blocks lines told ≡ true) × (MAX_OPS < op_count lines told)
-Adds blocks lines told number state (Err (Read NoMemory)) = Unit {0}
-Adds blocks lines told number state (Err NoBlocks) = ⊥
-Adds blocks lines told number state (Err (NoSuchBlock n)) =
+AddsTold blocks lines told number state (Err (Read NoMemory)) = Unit {0}
+AddsTold blocks lines told number state (Err NoBlocks) = ⊥
+AddsTold blocks lines told number state (Err (NoSuchBlock n)) =
     (n ≡ number) × (is_unread told ≡ false) × (is_of_block blocks lines told ≡ false)
 
 -- so does a row in this state

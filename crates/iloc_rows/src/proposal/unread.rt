@@ -20,7 +20,7 @@ impl Model for LineText {
 }
 
 impl LineText {
-    /// These bytes.
+    /// A copy of `bytes`.
     pub(crate) fn of(alloc: Global, bytes: &[u8]) -> Result<LineText, NoMemory>
         ensures { IfOk result (λ text. text ≡ bytes.now) }
     {

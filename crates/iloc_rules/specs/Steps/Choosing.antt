@@ -7,7 +7,7 @@ use Rattle.iloc_timed.specs.Rows.{row_at}
 use Rattle.iloc_rules.specs.Delays.{Counts, all_count}
 use Rattle.iloc_rules.specs.Greedy.{ready_where, chosen}
 
--- each row so far is the choice, by these priorities, from what was ready, where these count
+-- by `counts`, each row so far is the choice by the priorities `prios` from what was ready
 abbrev pub IsChosenWhere : Counts → List ℕ → Latencies → List Op → List Row → Type 0
 IsChosenWhere counts prios lat ops rows =
     (c : ℕ) → c < length rows → row_at rows c ≡ chosen ops prios (ready_where counts lat ops rows c)

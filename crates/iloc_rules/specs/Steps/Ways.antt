@@ -4,7 +4,7 @@ use Rattle.iloc_ops.specs.declared.op.Op.{Op}
 use Rattle.iloc_timed.specs.declared.latencies.Latencies.{Latencies}
 use Rattle.iloc_rules.specs.Delays.{Counts, IsDelayPairWhere}
 
--- where these count, two delay pairs by way of an operation between i and j are together at least as long as d
+-- by `counts`, two delay pairs by way of an operation between `i` and `j` are together at least as long as `d`
 pub record GoesBy (counts : Counts) (lat : Latencies) (ops : List Op) (i j d : ℕ) : Type 0 where
   pub way : ℕ
   pub first_delay : ℕ

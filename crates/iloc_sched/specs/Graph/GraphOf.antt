@@ -11,6 +11,6 @@ pub record GraphOf : Type 0 where
   pub ops : List Op
   pub latencies : Latencies
 
--- those of a block
+-- the graph of `block` by `rule`
 abbrev pub of_block : MemoryRule → Latencies → List Op → GraphOf
 of_block rule lat block = record { rule = rule; ops = renamed block; latencies = lat }

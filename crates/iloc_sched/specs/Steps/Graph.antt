@@ -40,7 +40,8 @@ pub record IsGraph (graph : Graph) : Type 0 where
 abbrev pub LeadsTo : Graph → ℕ → ℕ → ℕ → Type 0
 LeadsTo graph i j d = (x : ℕ) × (x < graph.count) × (graph.to x ≡ j) × (graph.from x ≡ i) × (d ≤ graph.delay x)
 
--- where these count, each edge is a delay pair, and each delay pair has its edge or goes by way of an operation between
+-- each edge of `graph` is a delay pair of `ops` by `counts`; each delay pair has its edge, or goes by way of an
+-- operation between
 pub record IsGraphWhere (counts : Counts) (lat : Latencies) (ops : List Op) (graph : Graph) : Type 0 where
   pub is_graph : IsGraph graph
   pub size : graph.ops ≡ length ops

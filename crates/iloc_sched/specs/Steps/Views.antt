@@ -39,7 +39,7 @@ unmet_in states = map (λ (s : OperationState). s.unmet) states
 abbrev pub earliest_in : List OperationState → List ℕ
 earliest_in states = map (λ (s : OperationState). s.earliest) states
 
--- these cycles of issue, these states, and these operations in the buckets
+-- the progress with cycles of issue `issued`, with `states`, and with the operations in each `bucket`
 abbrev pub progress_with : List (Option ℕ) → List OperationState → (ℕ → ℕ → Bool) → Progress
 progress_with issued states bucket = record {
   issued = λ j. slice_index_or issued j None;

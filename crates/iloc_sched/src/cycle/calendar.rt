@@ -166,9 +166,9 @@ impl Calendar {
         );
     }
 
-    /// What is in the bucket of a cycle becomes ready, of the words that one word of the summary is for. Where it is 0 there
-    /// are none, and a chain of 10,000 products takes 130 instructions less for each as these are skipped. The first isn't
-    /// tested: whether it is 0 is seldom predicted, and most blocks have no other.
+    /// Makes ready what `bucket` has in word `block` of the summary and in the words below it. A word of the summary
+    /// that is 0 is skipped: on a chain of 10,000 products that saves 130 instructions an operation. The first word
+    /// isn't tested: whether it is 0 is seldom predicted, and most blocks have no other.
     #[inline(always)]
     fn release_block(&mut self, bucket: usize, block: usize)
         requires bucket { bucket < 32 }

@@ -25,7 +25,7 @@ unsafe impl Sync for Issued {}
 impl Issued {
     ghost use Rattle.std.specs.Prelude.{None, Some};
 
-    /// Of so many operations none is issued.
+    /// Of `count` operations, none is issued.
     pub fn none(count: usize) -> Issued
         ensures { result.cycles ≡ replicate count None }
     {

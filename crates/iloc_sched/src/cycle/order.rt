@@ -6,11 +6,11 @@ use crate::cycle::keys::{place_by_keys, sort_keys};
 use iloc_ops::{MAX_OPS, NoMemory};
 use std::alloc::Global;
 
-/// Priorities below so many for each operation are counted, others are sorted: counting takes 17 to 30 instructions for an
-/// operation, sorting 65 to 155 and at least half a mispredicted branch more.
+/// Priorities are counted if all are below `COUNTED` times the number of operations, else sorted: counting takes 17 to 30
+/// instructions for an operation, sorting 65 to 155 and at least half a mispredicted branch more.
 const COUNTED: usize = 16;
 
-/// The operations by rank, and the rank of each. Lists only grow, so they may have numbers more behind those: to fill them with
+/// The operations by rank, and the rank of each. Lists only grow, so numbers of longer blocks may follow: to fill them with
 /// zeros for each block takes 0.25 mispredicted branches and 8 instructions for each operation of a block of ten.
 #[derive(Drop)]
 pub struct Order {

@@ -86,7 +86,7 @@ impl Waiting {
         Ok(())
     }
 
-    /// Operation j waits for so many edges, and until this cycle by the others.
+    /// Sets that operation `j` waits for `unmet` edges, and by the others until the cycle `earliest`.
     fn change(&mut self, j: usize, unmet: u32, earliest: u32)
         requires { j < length self.old.states.items }
         ensures issued { issued_list self.new ≡ issued_list self.old }

@@ -6,7 +6,7 @@ ghost use Rattle.iloc_sched.specs.Steps.Cycle.RankSets.{word_at, AddsBit, TakesB
 use crate::cycle::calendar::{KEPT_OUT, READY, SETS};
 use iloc_ops::NoMemory;
 
-/// Makes a list of so many words without a bit.
+/// Makes `words` a list of `count` zeros.
 pub fn fill_zeros(words: &mut Vec<u64>, count: usize) -> Result<(), NoMemory>
     ensures zero { (i : ℕ) → slice_index words.new.items i ≡ 0 }
     ensures size { OnOk result (length words.new.items ≡ count) }

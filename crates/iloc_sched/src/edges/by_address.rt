@@ -38,7 +38,7 @@ fn delay_after(latencies: &Latencies, first: Kind, second: Kind) -> u32
     }
 }
 
-/// What is known before an operation of registers, and of those that it may have to wait for by memory and outputs.
+/// What is known before an operation: of registers, and of the operations that it may have to wait for by memory and outputs.
 #[derive(Drop)]
 pub(crate) struct LastsByAddress {
     registers: KnownRegisters,
@@ -68,7 +68,7 @@ impl LastsByAddress {
         self.dependences.clear();
     }
 
-    /// Takes operation j, of this kind, and finds those that it has to wait for.
+    /// Takes operation `j`, which is `op` of this `kind`, and finds the operations that it waits for.
     #[inline(always)]
     fn take(&mut self, op: &Op, kind: Kind, j: usize) -> Result<(), NoMemory>
         requires of { kind ≡ kind_of op.now }
@@ -88,7 +88,7 @@ impl LastsByAddress {
 }
 
 impl Edges {
-    /// Adds the edges into operation j from those that it has to wait for by memory and outputs.
+    /// Adds the edges into operation `j` from `sources`, the operations that it waits for by memory and outputs.
     fn add_sources(
         &mut self,
         operations: &Operations,

@@ -14,7 +14,7 @@ use iloc_ops::{MAX_OPS, NoMemory};
 use iloc_rules::Heuristic;
 use std::alloc::Global;
 
-/// Fills a list with so many zeros.
+/// Makes `found` a list of `count` zeros.
 pub(crate) fn fill_zeros(found: &mut Vec<u32>, count: usize) -> Result<(), NoMemory>
     ensures { OnOk result (found.new.items ≡ replicate count 0) }
 {

@@ -34,8 +34,8 @@ pub(crate) fn copy_latencies(found: &mut Vec<u32>, tables: &Tables) -> Result<()
     Ok(found.extend_from_slice(&tables.own)?)
 }
 
-/// Fills a list with the longest chain from each operation: its latency at first, raised by the kept edges. It is final
-/// once the edges out of the operation are gone through, which all lie after those into it.
+/// Fills `found` with the longest chain from each operation: its latency at first, raised by the kept edges. It is
+/// final once the edges out of the operation are visited, which all come after the edges into it.
 #[inline(always)]
 pub(crate) fn fill_chains(found: &mut Vec<u32>, tables: &Tables) -> Result<(), NoMemory>
     requires { IsSound tables.now }

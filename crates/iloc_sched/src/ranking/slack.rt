@@ -11,7 +11,7 @@ use crate::tables::Tables;
 use iloc_ops::NoMemory;
 use std::alloc::Global;
 
-/// Adds other numbers to these, each to the one in its place.
+/// Adds to each number of `sums` the number of `others` in its place.
 fn add_each(sums: &mut Vec<u32>, others: &[u32])
     requires size { length others.now ≡ length sums.old.items }
     requires small { (i : ℕ) → i < length others.now

@@ -8,8 +8,8 @@ use crate::ranking::heuristic::fill_zeros;
 use crate::tables::Tables;
 use iloc_ops::NoMemory;
 
-/// Fills a list with the starts of operations: 0 at first, raised by the kept edges. A start is final once the edges into
-/// the operation are gone through, which all lie before those out of it.
+/// Fills `found` with the start of each operation: 0 at first, raised by the kept edges. It is final once the edges
+/// into the operation are visited, which all come before the edges out of it.
 pub(crate) fn fill_starts(found: &mut Vec<u32>, tables: &Tables) -> Result<(), NoMemory>
     requires { IsSound tables.now }
     ensures { OnOk result (found.new.items

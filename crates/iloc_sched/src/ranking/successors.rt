@@ -55,8 +55,8 @@ fn count_uses(found: &mut Vec<u32>, tables: &Tables, j: usize)
     }
 }
 
-/// Turns zeros into the numbers of operations that wait for each directly, in one pass from the last operation: those that
-/// wait by their kinds are counted by kind, the others by the edges.
+/// Turns the zeros of `found` into the number of operations that wait for each directly, in one pass from the last
+/// operation: who waits by kind is counted by kind, who waits by register is counted by the edges.
 pub(crate) fn count_successors(found: &mut Vec<u32>, tables: &Tables)
     requires sound { IsByTheBook tables.now }
     requires zeros { found.old.items ≡ replicate (length tables.now.edges.heads.items) 0 }

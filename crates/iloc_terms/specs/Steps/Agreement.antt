@@ -26,13 +26,13 @@ IsGoodWith nodes one other k =
     (memory : List ℤ) (d : Meaning) → IsMeaning memory nodes d → is_good (d.word one) ≡ true
     → is_good (d.word other) ≡ true → is_good (d.word k) ≡ true
 
--- where number k is bad, one of those is, whatever the terms mean
+-- whatever the terms mean, if number `k` is a bad address, one of `those` is
 abbrev pub IsBadWith : List Node → List ℕ → ℕ → Type 0
 IsBadWith nodes those k =
     (memory : List ℤ) (d : Meaning) → IsMeaning memory nodes d → not (is_good (d.word k)) ≡ true
     → some_bad d those ≡ true
 
--- where one of these is bad, one of those is, whatever the terms mean
+-- whatever the terms mean, if one of `these` is a bad address, one of `those` is
 abbrev pub BadThere : List Node → List ℕ → List ℕ → Type 0
 BadThere nodes these those =
     (memory : List ℤ) (d : Meaning) → IsMeaning memory nodes d → some_bad d these ≡ true → some_bad d those ≡ true

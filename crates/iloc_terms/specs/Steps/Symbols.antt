@@ -40,7 +40,7 @@ effect_of d (Stores address value) = at_address (good_address (d.word address)) 
 effect_of d (Emits address value) = at_address (good_address (d.word address)) (λ a. E.Emits (d.word value))
 effect_of d Nothing = E.Nothing
 
--- whether one of these addresses isn't good
+-- whether one of `addresses` isn't good
 abbrev pub some_bad : Meaning → List ℕ → Bool
 some_bad d addresses = list_any (λ k. not (is_good (d.word k))) addresses
 

@@ -98,7 +98,7 @@ AreHalves d trie (Some halves) =
 abbrev pub IsSameBut : Meaning → ℕ → ℕ → ℕ → Type 0
 IsSameBut d trie key new = (other : ℕ) → (other == key) ≡ false → d.entry new other ≡ d.entry trie other
 
--- the trie has the words of two, those of the second where both have one
+-- the trie has the words of `under` and of `over`; where both have one, the word of `over`
 abbrev pub IsUnion : Meaning → ℕ → ℕ → Option ℕ → Type 0
 IsUnion d under over None = Unit {0}
 IsUnion d under over (Some new) =
@@ -109,7 +109,7 @@ IsUnion d under over (Some new) =
 abbrev pub HasOnly : Meaning → ℕ → ℕ → Type 0
 HasOnly d trie value = (key : ℕ) → unwrap_or (d.entry trie key) (d.word value) ≡ d.word value
 
--- the memory has the words of a trie above a base, and else those of another memory
+-- the memory `new` has the words of `trie`, at their keys from `base` on, and elsewhere the words of `memory`
 abbrev pub IsOver : Meaning → ℕ → Option ℕ → ℕ → ℕ → Type 0
 IsOver d memory base trie new =
     (z : ℤ) → d.words new z ≡ unwrap_or (d.entry trie (key_of (base_word d base) z)) (d.words memory z)

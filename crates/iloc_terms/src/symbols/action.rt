@@ -28,7 +28,7 @@ pub(crate) enum Action {
 }
 
 impl Action {
-    /// What an operation does with these registers and this memory.
+    /// What `op` does with `registers` and `memory`.
     pub(crate) fn of(
         op: &Op,
         registers: &TermRegisters,

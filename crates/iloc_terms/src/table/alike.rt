@@ -16,7 +16,7 @@ fn goes_before(base: Option<u32>, other: Option<u32>) -> bool {
 }
 
 impl Table {
-    /// Whether a trie has no other word than this one, at keys that differ in so many of the lowest bits.
+    /// Whether `trie` has no other word than `value`, at keys that differ in the lowest `bits` bits alone.
     fn has_only(&self, trie: u32, value: u32, bits: u32) -> bool
         ensures { result ≡ true → (memory : List ℤ) (d : Meaning) → IsMeaning memory self.now d
             → HasOnly d trie value }
@@ -111,8 +111,8 @@ impl Table {
         self.over_before(memory, base, trie, value, reach)
     }
 
-    /// The word at an address of a memory, where it is written there, and the last epochs since then, so many at most,
-    /// have it alone.
+    /// The word at `address` of `memory`, if it is written there, and the epochs since then, at most `epochs`, have it
+    /// alone.
     pub(super) fn stored(&self, memory: u32, address: u32, epochs: usize) -> Option<u32>
         ensures { IfSome result (λ word. (words : List ℤ) (d : Meaning) → IsMeaning words self.now d
             → d.words memory (d.word address) ≡ d.word word) }

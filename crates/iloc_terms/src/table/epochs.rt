@@ -94,8 +94,8 @@ impl Table {
         }
     }
 
-    /// A trie to be written over a memory, without those words of a part of it, with keys of so many bits, that are
-    /// there already.
+    /// A trie to be written over `memory`: `trie` without the words of its `part`, with keys of `bits` bits, that
+    /// `memory` has already.
     fn less_within(
         &mut self,
         memory: u32,
@@ -119,8 +119,8 @@ impl Table {
         }
     }
 
-    /// A memory that may differ from another at a location alone: its last write there is left out, if it
-    /// is one of so many epochs.
+    /// A memory that differs from `memory` at most at `at`: its last write there is left out, if it is in the last
+    /// `epochs` epochs.
     pub(crate) fn without(
         &mut self,
         memory: u32,
@@ -168,8 +168,8 @@ impl Table {
         })
     }
 
-    /// A memory that has the same word at a location as another: of so many epochs those writes are left out that
-    /// are known to be elsewhere, and all that is overwritten there.
+    /// A memory with the word of `memory` at `at`: of the last `epochs` epochs, writes that are known to be elsewhere
+    /// are left out, and all that is overwritten there.
     pub(crate) fn narrowed(
         &mut self,
         memory: u32,

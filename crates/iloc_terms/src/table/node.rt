@@ -63,8 +63,8 @@ pub(crate) enum Node {
     },
 }
 
-/// A number by which forks are kept in order, below 2^31 another one for each. The newer half counts first,
-/// so a new fork mostly comes last, beside those that were looked up just before.
+/// The key by which forks are sorted, another one for each pair of halves below 2^31. The newer half counts first, so a
+/// new fork mostly comes last, beside the ones that were looked up just before.
 pub(crate) fn fork_key(even: u32, odd: u32) -> u64 {
     let newer = u64::from(even.max(odd));
     let older = u64::from(even.min(odd));

@@ -79,7 +79,7 @@ impl Table {
         }
     }
 
-    /// The product of two products of atoms, if that copies so many atoms at most.
+    /// The product of the products `left` and `right`, if that copies at most `most` atoms.
     #[tactic(auto, using(crate::proofs::Terms::MultipliedOut::last_factor, crate::proofs::Terms::MultipliedOut::factor_after))]
     fn joined(&mut self, left: u32, right: u32, most: u32) -> Result<Option<u32>, NoMemory>
         ensures { IfOk result (λ product. Adds self.old self.new (λ _ d. IsProduct d product left right)) }
@@ -118,7 +118,7 @@ impl Table {
         }
     }
 
-    /// The product of a base and a term, if that base has so many terms at most.
+    /// The product of `base` and of `atom` times `by`, if `base` has at most `most` terms.
     fn times_term(
         &mut self,
         base: Option<u32>,
@@ -143,7 +143,7 @@ impl Table {
         Ok(Some(self.sum_of_bases(rest, term)?))
     }
 
-    /// The product of two bases, if each has so many terms at most.
+    /// The product of the bases `left` and `right`, if each has at most `most` terms.
     fn multiplied_out(
         &mut self,
         left: Option<u32>,
@@ -169,7 +169,7 @@ impl Table {
         Ok(Some(self.sum_of_bases(rest, row)?))
     }
 
-    /// How many terms a base has, as far as so many.
+    /// How many terms `base` has, counted up to `most`.
     fn count_terms(&self, base: Option<u32>, most: u32) -> u32 {
         let mut base = base;
         for count in 0..most {

@@ -12,7 +12,7 @@ use iloc_ops::NoMemory;
 /// By how many bits a word is shifted to the right at most: what is left then is its sign.
 const MOST_BITS: u32 = 31;
 
-/// A word as another one shifted to the right by so many bits.
+/// A word as `value` shifted to the right by `bits` bits.
 #[derive(Clone, Copy)]
 struct Shifted {
     value: u32,

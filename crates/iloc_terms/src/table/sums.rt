@@ -87,7 +87,7 @@ impl Table {
         }
     }
 
-    /// The base with these terms: one atom is itself.
+    /// The base `rest` with `atom` times `by`; one atom alone is itself.
     #[tactic(auto, using(crate::proofs::Terms::Sums::one_atom, crate::proofs::Terms::Sums::no_atom))]
     pub(super) fn of_terms(
         &mut self,
@@ -115,7 +115,7 @@ impl Table {
         }
     }
 
-    /// The sum of two bases, if that copies so many terms at most.
+    /// The sum of the bases `left` and `right`, if that copies at most `most` terms.
     fn merged(
         &mut self,
         left: Option<u32>,
@@ -166,7 +166,7 @@ impl Table {
         }
     }
 
-    /// A multiple of a base, if that has so many terms at most.
+    /// The base `base` times `by`, if that has at most `most` terms.
     fn multiple(
         &mut self,
         base: Option<u32>,

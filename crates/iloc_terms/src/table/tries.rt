@@ -92,7 +92,7 @@ impl Table {
         self.put_within(trie, key, value, KEY_BITS)
     }
 
-    /// What a trie has at a key of so many bits.
+    /// What `trie` has at `key`, a key of `bits` bits.
     fn found_within(&self, trie: u32, key: u32, bits: u32) -> Found
         ensures { (memory : List ℤ) (d : Meaning) → IsMeaning memory self.now d → IsFound d trie key result }
     {
@@ -139,7 +139,7 @@ impl Table {
         }
     }
 
-    /// The trie with the words of two at twice their keys, those of the second one above.
+    /// The trie with the words of `even` at twice their keys, and the words of `odd` one above.
     fn fork(&mut self, even: u32, odd: u32) -> Result<u32, NoMemory>
         ensures { IfOk result (λ new. Adds self.old self.new (λ _ d. AreHalves d new (Some (even, odd)))) }
     {
@@ -158,7 +158,7 @@ impl Table {
         }
     }
 
-    /// A trie that may differ from another at a key of so many bits alone: the word there is left out.
+    /// A trie that differs from `trie` at most at `key`, a key of `bits` bits: the word there is left out.
     fn removed_within(&mut self, trie: u32, key: u32, bits: u32) -> Result<u32, NoMemory>
         ensures { IfOk result (λ new. Adds self.old self.new (λ _ d. IsSameBut d trie key new)) }
     {

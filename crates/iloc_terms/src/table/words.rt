@@ -64,7 +64,7 @@ impl Table {
         self.intern(Node::Combined { by, left, right })
     }
 
-    /// The word with these parts.
+    /// The word with the parts `base` and `constant`.
     pub(super) fn of_parts(&mut self, base: Option<u32>, constant: i32) -> Result<u32, NoMemory>
         ensures { IfOk result (λ n. Adds self.old self.new (λ _ d. ArePartsOf d n base constant)) }
     {

@@ -13,6 +13,6 @@ taken_apart (w ∷ ws) ops = record { name = w.name; ops = take w.count ops } �
 abbrev pub all_of : Copies → List Block
 all_of copies = copies.done.items ++ taken_apart copies.unsettled.items copies.ops.items
 
--- from the first state on these blocks were copied
+-- from `start` to `now`, `blocks` were copied
 abbrev pub has_copied : Copies → List Block → Copies → Type 0
 has_copied start blocks now = all_of now ≡ all_of start ++ blocks

@@ -86,7 +86,7 @@ operand_then o more bytes = do
   others ← more found.1
   Some (found.0 ∷ others.0, others.1)
 
--- the numbers of operands that are as these but for their numbers
+-- the numbers of operands that are like the given ones but for their numbers
 abbrev pub operands_at : List Operand → List ℕ → Option (List ℕ × List ℕ)
 operands_at [] bytes = Some ([], bytes)
 operands_at (o ∷ more) bytes = operand_then o (operands_at more) bytes

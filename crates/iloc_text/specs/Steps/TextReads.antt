@@ -9,7 +9,7 @@ use Rattle.iloc_text.specs.Parts.{BeginsLabelled}
 use Rattle.iloc_text.specs.Steps.Open.{HasTaken}
 use Rattle.iloc_text.specs.Steps.Verdicts.{answer_from}
 
--- whatever follows the text, these blocks are those of the lines that were read, and the rest is still to be read
+-- whatever follows `text`, what was taken are the blocks of the lines that were read, and the rest is still to be read
 pub record GoesOn {T : Type 0} (took : T → List Block → T → Type 0) (start : T) (reader : TextReader T) (text : List ℕ)
     : Type 0 where
   pub blocks : List Block
@@ -33,7 +33,7 @@ pub record HasRead {T : Type 0} (took : T → List Block → T → Type 0) (star
   pub counted : reader.length ≡ min (length text) (2 ^ 64 - 1)
   pub stands : length text ≤ MAX_INPUT → StandsAt reader.fault took start reader text
 
--- the part with these blocks begins the text, or a line and a block of it, and with it all is within the limits
+-- `part`, which has `blocks`, begins the text, or a line and a block of it, and with it all is within the limits
 pub record CanTake {T : Type 0} (reader : TextReader T) (part : List ℕ) (blocks : List Block) : Type 0 where
   pub at_line : reader.rest.items ≡ []
   pub faultless : reader.fault ≡ None

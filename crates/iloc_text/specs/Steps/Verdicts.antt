@@ -9,17 +9,17 @@ use Rattle.iloc_text.specs.Lines.{lines_of}
 use Rattle.iloc_text.specs.Steps.Scan.{line_at, is_within}
 use Rattle.iloc_text.specs.Steps.Growth.{with_line, limited}
 
--- the blocks with line n, of which this was found, after these
+-- `blocks` with line `n` after them, in which the first argument was found
 abbrev pub verdict_on : Option (Option (List ℕ) × Option Op) → List Block → ℕ → Result (List Block) ReadFault
 verdict_on None blocks n = Err (BadLine n)
 verdict_on (Some found) blocks n =
     if is_within found.1 then limited (with_line found.0 found.1 blocks) n else Err (NumberTooLarge n)
 
--- the blocks with line n, after these
+-- `blocks` with `line` after them, the line numbered `n`
 abbrev pub verdict : List Block → List ℕ → ℕ → Result (List Block) ReadFault
 verdict blocks line n = verdict_on (line_at line) blocks n
 
--- the blocks with the lines from line n on, after these
+-- `blocks` with the lines from line `n` on after them
 abbrev pub answer_from : List Block → ℕ → List (List ℕ) → Result (List Block) ReadFault
 answer_from blocks n [] = Ok blocks
 answer_from blocks n (line ∷ lines) = elim (verdict blocks line n) as (λ _. Result (List Block) ReadFault)

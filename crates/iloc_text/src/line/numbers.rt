@@ -92,7 +92,7 @@ fn count_digits(digits: u64) -> usize
     (others.trailing_zeros() >> 3) as usize
 }
 
-/// The number of so many digits, which are the lowest bytes, the lowest first; some number where they are none.
+/// The number of `count` digits, the lowest bytes of `digits`, the lowest first; some number where they are no digits.
 #[inline(always)]
 fn number_of(digits: u64, count: usize) -> u32
     requires { count ≤ 4 }

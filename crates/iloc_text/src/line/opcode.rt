@@ -59,8 +59,8 @@ const BY_LETTERS: &[Opcode; 32] = &[
     Opcode::MultI,
 ];
 
-/// The only opcode whose text may be the letters at the front, of which these are the first eight bytes. By the factor each
-/// opcode has a place of its own.
+/// The only opcode whose text may be the letters at the start of a line with `front` as its first eight bytes. By the
+/// factor each opcode has a place of its own.
 #[inline(always)]
 fn opcode_by_letters(front: u64) -> Opcode {
     // The bytes without the bit that each letter has are no letters.

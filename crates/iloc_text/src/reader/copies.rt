@@ -26,7 +26,7 @@ pub struct Copies {
     done: Vec<Block>,
     /// The blocks after them.
     unsettled: Vec<Unsettled>,
-    /// The operations of those.
+    /// The operations of the unsettled blocks.
     ops: Vec<Op>,
     ghost whole: { sum_by (λ w. w.count) unsettled.items ≡ length ops.items },
 }
@@ -55,7 +55,7 @@ impl Copies {
         }
     }
 
-    /// Settles all blocks: those that weren't share the list of their operations.
+    /// Settles all blocks: the ones that weren't share the list of their operations.
     fn settle(&mut self, alloc: Global) -> Result<(), NoMemory>
         ensures all { OnOk result (all_of self.new ≡ all_of self.old) }
         ensures none { OnOk result (self.new.unsettled.items ≡ []) }
@@ -91,7 +91,7 @@ impl Copies {
         Ok(())
     }
 
-    /// Takes these blocks over.
+    /// Takes `blocks` over.
     pub(crate) fn append(&mut self, alloc: Global, mut blocks: Vec<Block>) -> Result<(), NoMemory>
         ensures { OnOk result (all_of self.new ≡ all_of self.old ++ blocks.items) }
     {

@@ -25,7 +25,7 @@ pub struct OpenBlock {
     ghost short: { length block.ops ≤ MAX_OPS },
 }
 
-/// These bytes as a text.
+/// `bytes` as a text.
 fn text_of(bytes: &[u8]) -> &str
     requires { IsUtf8 bytes.now }
     ensures { result.now ≡ bytes.now }
@@ -75,7 +75,7 @@ impl OpenBlock {
         Ok(())
     }
 
-    /// Hands the open block over, and all of these but the last one, which it opens.
+    /// Hands over the open block, and all of `blocks` but the last one, which it opens.
     pub fn hand_on(
         &mut self,
         alloc: Global,

@@ -89,7 +89,7 @@ impl<T: TakeBlocks + Drop> TextReader<T> {
         )
     }
 
-    /// Reads the lines of these bytes behind what was kept, and answers how many were read then.
+    /// Reads the lines of `bytes` after what was kept, and answers how many bytes were read then.
     fn read_behind(&mut self, alloc: Global, bytes: &[u8]) -> Result<u32, ReadFault>
         requires counted { self.old.number + vec_len self.old.rest + length bytes.now ≤ self.old.length }
         requires short { self.old.length ≤ MAX_INPUT }

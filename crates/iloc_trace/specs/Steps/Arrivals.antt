@@ -38,7 +38,7 @@ arrivals lat c [] = []
 arrivals lat c (e ∷ earlier) =
     arrivals lat c earlier ++ (if nat_lt e.due c then [] else option_to_list (arrival_of lat e))
 
--- what these send
+-- what the results of `issued` send
 abbrev pub arrivals_of : Latencies → List Issued → List Arrival
 arrivals_of lat issued = flat_map (λ e. option_to_list (arrival_of lat e)) issued
 
@@ -51,7 +51,7 @@ abbrev pub arrival_line : ℕ → Arrival → ℤ → List ℕ
 arrival_line c a was =
     write_line (record { cycle = c; place = a.place; value = a.value; was = was; issued = a.issued })
 
--- results arrive one after the other, where places have these values
+-- results arrive one after the other, with `value` as what the places hold
 abbrev pub arrival_lines : ℕ → (Place → ℤ) → List Arrival → List ℕ
 arrival_lines c value [] = []
 arrival_lines c value (a ∷ due) =

@@ -13,7 +13,7 @@ class_of K.Mult = C.Product
 class_of K.Output = C.Output
 class_of K.Other = C.Rest
 
--- whether an operation of the first class keeps those of the second out of its row
+-- whether an operation of the first class keeps every one of the second out of its row
 abbrev pub excludes : Class → Class → Bool
 excludes C.Memory C.Memory = true
 excludes C.Product C.Product = true

@@ -51,7 +51,7 @@ IsFirstBit ready kept_out (Some bit) =
 abbrev pub open_bit : List ℕ → ℕ → ℕ → ℕ
 open_bit words k r = min (rank_bit words 32 r) (1 - rank_bit words (33 + k) r)
 
--- the lowest such rank of those within bounds, if there is one
+-- the lowest rank that is open in `words` and `Within` bounds, if there is one
 abbrev pub IsFirstWithin : List ℕ → ℕ → (ℕ → Type 0) → Option ℕ → Type 0
 IsFirstWithin words k Within None = (r : ℕ) → Within r → open_bit words k r ≡ 0
 IsFirstWithin words k Within (Some first) =

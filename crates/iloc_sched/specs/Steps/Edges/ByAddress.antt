@@ -17,7 +17,7 @@ use Rattle.iloc_sched.specs.Steps.Edges.PartialGraph.{HasEdge}
 abbrev pub delay_after : Latencies → Kind → Kind → ℕ
 delay_after lat i j = if reads_stored i j then lat.store else 1
 
--- operation j has an edge from each of these
+-- operation `j` has an edge from each of `sources`
 abbrev pub CoversSources : Latencies → List Op → Graph → ℕ → List ℕ → Type 0
 CoversSources lat ops graph j sources =
     (i : ℕ) → In sources i → HasEdge graph j i (delay_after lat (kind (op_at ops i)) (kind (op_at ops j)))

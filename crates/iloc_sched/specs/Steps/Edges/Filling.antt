@@ -24,7 +24,7 @@ pub record IsFilling (t : Tables) (lasts : Lasts) : Type 0 where
   pub starts : length t.edges.starts.items ≡ length t.ops.items + 1
   pub count : length t.edges.edges.items + length lasts.loads.items ≤ 5 * length t.ops.items
 
--- the tables have these operations of a block, renamed, and the names are those that the next one meets
+-- the tables `t` have the operations `done` of a block, renamed, and `names` has what the next one meets
 pub record IsGathered (done : List Op) (t : Tables) (lasts : Lasts) (names : Names) : Type 0 where
   pub named : Named done names.given (current_of names)
   pub ops : t.ops.items ≡ renamed_by done (numbering done)

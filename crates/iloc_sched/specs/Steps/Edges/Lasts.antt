@@ -32,7 +32,7 @@ pub record IsLasts (ops : List Op) (lasts : Lasts) (j : ℕ) : Type 0 where
   pub loads : (i : ℕ) → In lasts.loads.items i → (i < j) × (is_load (kind (op_at ops i)) ≡ true) × NoStoreBetween ops i j
   pub all_loads : (i : ℕ) → i < j → is_load (kind (op_at ops i)) ≡ true → NoStoreBetween ops i j → In lasts.loads.items i
 
--- operation j of these is the next, and what stands last before it is known
+-- operation `j` of `ops` is the next, and `lasts` has the last operations before it
 pub record IsNext (ops : List Op) (lasts : Lasts) (j : ℕ) : Type 0 where
   pub renamed : IsRenamed ops
   pub few : length ops ≤ MAX_OPS

@@ -13,7 +13,7 @@ use Rattle.iloc_rules.specs.Rule.{counts_by}
 use Rattle.iloc_sched.specs.Graph.Near.{IsNearBy, IsNearPairBy, NoneBetween}
 use Rattle.iloc_sched.specs.Steps.Graph.{Graph, IsLast}
 
--- the edges into the operations before j are all there, and some of those into j
+-- all edges into operations before `j` are in `graph`, and some of the edges into `j`
 pub record IsPartialGraph (rule : MemoryRule) (lat : Latencies) (ops : List Op) (graph : Graph) (j : ℕ) : Type 0 where
   pub size : graph.ops ≡ length ops
   pub rises : (a b : ℕ) → a ≤ b → b ≤ j → graph.start a ≤ graph.start b
@@ -62,7 +62,7 @@ pub record KeepsCapacity (old new : Edges) : Type 0 where
   pub heads : vec_capacity new.heads ≡ vec_capacity old.heads
   pub edges : vec_capacity new.edges ≡ vec_capacity old.edges
 
--- the operations and what leads into those before stay
+-- from `old` to `new`, the number of operations, the starts of the edges of earlier ones and the capacities stay
 pub record KeepsFrame (old new : Edges) : Type 0 where
   pub heads : length new.heads.items ≡ length old.heads.items
   pub starts : new.starts ≡ old.starts

@@ -16,14 +16,14 @@ pub record IsByTheBook (t : Tables) : Type 0 where
   pub own : t.own.items ≡ map (latency t.latencies) t.ops.items
   pub graph : IsGraphOf Book t.latencies t.ops.items (graph_of t.edges)
 
--- the same where those count that do by their rule, and each near pair has its edge
+-- the tables `t` are sound by their own rule of memory, and each near pair has its edge
 pub record IsSound (t : Tables) : Type 0 where
   pub kinds : t.kinds.items ≡ map kind t.ops.items
   pub own : t.own.items ≡ map (latency t.latencies) t.ops.items
   pub graph : IsGraphWhere (counts_by t.rule t.ops.items) t.latencies t.ops.items (graph_of t.edges)
   pub near : IsGraphOf t.rule t.latencies t.ops.items (graph_of t.edges)
 
--- and the operations are those of a block
+-- the tables `t` are sound, and their operations are those of a block
 pub record IsOfBlock (t : Tables) : Type 0 where
   pub sound : IsSound t
   pub block : List Op

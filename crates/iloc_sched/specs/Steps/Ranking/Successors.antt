@@ -21,7 +21,7 @@ abbrev pub waits_by_use : Latencies → List Op → ℕ → ℕ → Bool
 waits_by_use lat ops i j =
     waits_for lat ops i j && not (waits_by_kind (kind (op_at ops i)) (kind (op_at ops j)))
 
--- how many of these later operations wait for one of a kind
+-- how many of the `later` operations wait for one of a kind
 abbrev pub waiting_for : Kind → Later → ℕ
 waiting_for K.Load later = later.stores
 waiting_for K.Store later = later.loads + later.stores + later.outputs
@@ -38,7 +38,8 @@ abbrev pub AreNoted : List Op → Later → ℕ → Type 0
 AreNoted ops later j =
     (k : Kind) → waiting_for k later ≡ count_by (λ i. waits_by_kind k (kind (op_at ops i))) (from_on ops j)
 
--- the operations from j on have their counts, and the others what the edges into those give them
+-- `found` has the counts of the operations from `j` on; of an earlier one, what the edges into operations from `j` on
+-- give it
 pub record AreCounted (lat : Latencies) (ops : List Op) (found : List ℕ) (j : ℕ) : Type 0 where
   pub size : length found ≡ length ops
   pub done : (i : ℕ) → j ≤ i → i < length ops → slice_index found i ≡ successors lat ops i
@@ -55,7 +56,7 @@ adds_one ops graph x =
     not (waits_by_kind (kind (op_at ops (graph.from x))) (kind (op_at ops (graph.to x))))
     && not (leads_into graph (graph.to x) (graph.previous x))
 
--- of the edges into operation j those before x are counted
+-- of the edges into operation `j`, those before `x` are counted in `found`
 pub record IsCounting (ops : List Op) (graph : Graph) (old found : List ℕ) (j x : ℕ) : Type 0 where
   pub size : length found ≡ length old
   pub kept : (i : ℕ) → waits_by_kind (kind (op_at ops i)) (kind (op_at ops j)) ≡ true → slice_index found i ≡ slice_index old i

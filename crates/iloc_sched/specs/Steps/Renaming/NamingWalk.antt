@@ -41,11 +41,11 @@ abbrev pub NamesDefinition : Reg → Reg → ℕ → (Reg → Option ℕ) → �
 NamesDefinition r name given current given' current' =
     (name ≡ record { 0 = given }) × NamesNext r given current given' current'
 
--- the walk is past these operations
+-- the walk is past the operations `done`, with `given` names given and `current` the name of each register
 abbrev pub Named : List Op → ℕ → (Reg → Option ℕ) → Type 0
 Named done given current = Follows (length done) (numbering done) (source done (length done)) given current
 
--- a numbering with these sources added, one after another
+-- a numbering to which `sources` are added, one after another
 abbrev pub also_all : List Source → List Source → List Source
 also_all sources [] = sources
 also_all sources (s ∷ rest) = also_all (also sources s) rest
@@ -54,7 +54,7 @@ also_all sources (s ∷ rest) = also_all (also sources s) rest
 abbrev pub numbering_with : List Op → List Reg → List Source
 numbering_with done used = also_all (numbering done) (map (source done (length done)) used)
 
--- the walk is past these operations and past these uses of the next one, and they have these names
+-- the walk is past the operations `done` and the uses `used` of the next one, which have the names `renamed`
 pub record UsesNamed (done : List Op) (used renamed : List Reg) (given : ℕ) (current : Reg → Option ℕ) : Type 0 where
   pub follows : Follows (length done) (numbering_with done used) (source done (length done)) given current
   pub names : renamed ≡ map (λ r. name_of (numbering_with done used) (source done (length done) r)) used

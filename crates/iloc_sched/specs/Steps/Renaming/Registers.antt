@@ -7,7 +7,7 @@ use Rattle.iloc_sched.specs.declared.registers.OperandRegisters.{OperandRegister
 use Rattle.iloc_sched.specs.declared.registers.Uses.{Uses}
 use Rattle.iloc_sched.specs.declared.registers.Uses.TheVariants.{Nothing, One, Two}
 
--- those that are used, left to right
+-- the registers of `Uses`, left to right
 abbrev pub listed : Uses → List Reg
 listed Nothing = []
 listed (One r) = r ∷ []

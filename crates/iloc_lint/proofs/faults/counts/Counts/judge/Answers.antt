@@ -1,5 +1,5 @@
 use Rattle.iloc_lint.proofs.Common.{◌≡◌, ℕ, ◌+◌, List, [], ◌∷◌, ◌++◌, length, Some, Ok, Err, Result, sym, refl, subst, IsFaulty, Reading, Reads, ReadFault, BadLine, NumberTooLarge, TooManyBlocks, TooManyOperations, empty}
-use Rattle.iloc_lint.specs.Steps.Counted.{Judged, Adds, Count, Exceeds}
+use Rattle.iloc_lint.specs.Steps.Counted.{Judged, AddsReading, Count, Exceeds}
 use Rattle.std.specs.Result.{result_err}
 use Rattle.iloc_lint.specs.declared.faults.counts.Counts.{Counts}
 use Rattle.iloc_lint.proofs.Counted.{empty_counted}
@@ -18,7 +18,7 @@ exceeds before line r n _ reads many = absurd many
 
 added_judged : (before : List Reading) (line : List ℕ) (r : Reading) (n : ℕ) (old new : Counts)
     (result : Result (Unit {0}) ReadFault) → Count before old → length before + 1 ≡ n → Reads line r.label r.op
-    → Adds before r n old new result → Judged before line new (result_err result)
+    → AddsReading before r n old new result → Judged before line new (result_err result)
 added_judged before line r n old new (Ok done) count number reads adds = (r, (reads, adds.1), adds.0)
 added_judged before line r n old new (Err fault) count number reads adds = (
   empty,
