@@ -9,7 +9,7 @@ from curve import Curve
 from listing import PASSED, VERDICT, count
 from svg import Unread
 
-COLOURS = ("#4c9be8", "#e8833a", "#3fae5a", "#a879e0", "#d9a514", "#d6568c")
+COLOURS = ("#4c9be8", "#e8833a", "#3fae5a", "#a879e0", "#d9a514", "#d6568c", "#25aeb0", "#a06a42", "#e5484d")
 SHAPES = 6
 ROWS = 60           # more blocks have no row each
 OURS, LEAST = "ours", "least"
@@ -17,6 +17,7 @@ COUNTED = re.compile(r"block \d+ (\S+) cycles (\d+)")
 COMPARED = re.compile(r"block \d+ (\S+) least (\d+)((?: [a-z]+ \d+)+)")
 TABLE = re.compile(r"block,name,least((?:,[a-z]+)+)")
 TABLE_ROW = re.compile(r"\d+,([^,]+),(\d+)((?:,\d+)+)")
+LISTED = re.compile(rb"block(?:,| \d+ \S+ )")     # how a listing begins
 NOTHING = re.compile(r"  .*|(?:total|fewest|optimal) .*")
 
 HEIGHT = 20         # of a row
@@ -101,7 +102,7 @@ class Column:
 
 
 def columns_of(listings):
-    columns = [Column(listing.name, (k + k // len(COLOURS)) % SHAPES, COLOURS[k % len(COLOURS)],
+    columns = [Column(listing.name, (k % len(COLOURS) + k // len(COLOURS)) % SHAPES, COLOURS[k % len(COLOURS)],
                       [entry.cycles for entry in listing.entries]) for k, listing in enumerate(listings)]
     for shape in (OURS, LEAST):
         known = next((listing for listing in listings if getattr(listing.entries[0], shape) is not None), None)
@@ -194,8 +195,8 @@ class Chart:
 def drawn(given):
     """The picture of files, each by its name, path and bytes."""
     listings = [listing for each in given for listing in read_listings(*each)]
-    if len(listings) < 2:
-        raise Unread("one listing of counts or check can't be compared: give another")
+    if len(listings) < 2 and listings[0].entries[0].ours is None:
+        raise Unread("one listing of counts can't be compared: give another")
     sizes = [len(listing.entries) for listing in listings]
     if len(set(sizes)) > 1:
         raise Unread("the listings have " + ", ".join(map(str, sizes)) + " blocks: only the same ones can be compared")

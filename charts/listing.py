@@ -64,9 +64,10 @@ class Operation:
     def told(self, latencies):
         lines = [self.spelling, f"unit {self.unit}, issued at {self.cycle}, arrives at {self.arrival(latencies)}"]
         if self.number >= 0:
+            lines.append(f"number {self.number}: {self.source}")
+        if self.after:
             waited = "none" if self.after == "-" else self.after.replace(",", " and ")
-            lines += [f"number {self.number}: {self.source}", f"ready at {self.ready}, waited last for {waited}",
-                      f"priority {self.priority}"]
+            lines += [f"ready at {self.ready}, waited last for {waited}", f"priority {self.priority}"]
         return "\n".join(lines)
 
 

@@ -24,6 +24,12 @@ def source_of(block):
                    for k, text in sorted(block.source.items()))
 
 
+def dim_of(block):
+    """What it means that operations of the block are dim, where some are."""
+    issued = {operation.number for operation in block.operations}
+    return "" if issued >= {*block.source} else '<p class="dim">Dim: no row is known to issue it.</p>'
+
+
 def drawing_of(block):
     """The dependence graph; edges for which rows come too early stand out."""
     cycles = {operation.number: operation.cycle for operation in block.operations}
@@ -84,8 +90,8 @@ def section(block):
     chart = Chart(block, block.shown)
     return part("section.html").format(
         number=block.number, title=escape(chart.title()), said=said_of(block), judged="wrong" if block.is_wrong()
-        else "", last=block.last(), top=TOP, height=HEIGHT, source=source_of(block), timeline=chart.picture(),
-        ready=ready_of(block), graph=graph_of(block), trace=escape("\n".join(block.trace)))
+        else "", last=block.last(), top=TOP, height=HEIGHT, source=source_of(block), dim=dim_of(block),
+        timeline=chart.picture(), ready=ready_of(block), graph=graph_of(block), trace=escape("\n".join(block.trace)))
 
 
 def drawn(blocks):

@@ -1,4 +1,6 @@
-"""Listings of `trace`, with those of `graph`, `explain` and `check` of the same blocks: what a page shows of each."""
+"""Listings of `trace`, with those of `graph`, `explain` and `check` of the same blocks: what a page shows of each. Which
+operation of the block each of the rows is they take from `check --json`."""
+import json
 import re
 
 import listing
@@ -12,6 +14,7 @@ WRITE = re.compile(r"write (\d+) (r\d+|word \d+) = -?\d+ was -?\d+ from (\d+)")
 NODE = re.compile(r'        b(\d+)_(\d+) \[label="\d+: (.+?)\\npriority \d+".*')
 EDGE = re.compile(r'        b(\d+)_(\d+) -> b\1_(\d+) \[label="(\d+)"\];')
 DRAWN = re.compile(r"strict digraph blocks \{|    .*|\}")
+RECORD = re.compile(r'\{"block":(\d+),.*\}')
 SAID = re.compile(r"  \S.*")
 TURN = re.compile(r"cycle (?P<first>\d+)(?:-(?P<last>\d+))? ready (?P<ready>\S+) takes (?:-|\d+) ; (?:-|\d+) "
                   r"next (?P<next>-|\d+ (?:held|at) \d+) active (?:-|\S+)")
@@ -24,6 +27,7 @@ class Traced(Listed):
     def __init__(self, number):
         super().__init__(number, "-")
         self.trace, self.source, self.edges, self.said, self.shown = [], {}, [], [], dict(USUAL)
+        self.numbers = []       # of the operations of the block that rows are, as `check --json` has them
         self.turns = []     # of the ready list, as `explain --cycles` has them
 
     def issue(self, line, kind, cycle, unit, spelling):
@@ -67,20 +71,18 @@ class Traced(Listed):
         if all(known):
             self.operations, self.chain, self.path = known, other.chain, other.path
 
-    def number_alike(self):
-        """Gives operations of rows, in order of issue, the numbers of those in the block that are written alike."""
-        left = {}
-        for number, spelling in sorted(self.source.items(), reverse=True):
-            left.setdefault(spelling, []).append(number)
+    def number_by(self, rows):
+        """Gives operations the numbers of those of the block that they are: of each row those of its two slots, or None."""
         for operation in self.operations:
-            if operation.number < 0 and left.get(operation.spelling):
-                operation.number, operation.source = left[operation.spelling].pop(), operation.spelling
+            number = rows[operation.cycle][operation.unit] if operation.cycle < len(rows) else None
+            if number in self.source:
+                operation.number, operation.source = number, self.source[number]
 
     def finish(self):
         """Numbers the operations. Those of a graph are counted from 0 on, and edges lead from one to a later one."""
         if {*self.source} != {*range(len(self.source))} or not all(i < j in self.source for i, j, _ in self.edges):
             raise Unread(f"the graph of block {self.number} lacks an operation")
-        self.number_alike()
+        self.number_by(self.numbers)
         self.cycles = self.end(self.shown)
 
     def last(self):
@@ -90,6 +92,17 @@ class Traced(Listed):
 
     def is_wrong(self):
         return self.verdict not in PASSED
+
+
+def numbers_in(line):
+    """By row the numbers for its two slots, as a line of `check --json` has them."""
+    try:
+        rows = [(zero, one) for zero, one in json.loads(line)["operations"] or []]
+    except (ValueError, KeyError, TypeError):
+        raise Unread(f"this is no line of check --json: {line[:60]}") from None
+    if not all(number is None or isinstance(number, int) for row in rows for number in row):
+        raise Unread(f"the operations of this line are no numbers: {line[:60]}")
+    return rows
 
 
 def read_traces(lines):
@@ -102,7 +115,9 @@ def read_traces(lines):
             number = count((head or node)[1])
             block = blocks.setdefault(number, Traced(number))
             is_judged = VERDICT.fullmatch(line)
-        if node:
+        if record := RECORD.fullmatch(line):
+            blocks.setdefault(count(record[1]), Traced(count(record[1]))).numbers = numbers_in(line)
+        elif node:
             block.source[count(node[2])] = node[3]
         elif edge and block:
             block.edges.append(tuple(map(count, edge.groups()[1:])))

@@ -294,14 +294,14 @@ class Charts(Place):
         self.expect("totals", texts[-6:], ["total", "14", "15", "14", "13", "without those that don't pass"])
 
     def test_compare_tells_columns_apart(self):
-        """Of 36 listings no two have a mark of one shape and colour; a 37th is refused."""
-        for k in range(37):
+        """Of 54 listings no two have a mark of one shape and colour; a 55th is refused."""
+        for k in range(55):
             self.write(f"l{k}", b"block 1 - cycles %d\n" % k)
-        root = self.picture("charts/compare", *(f"l{k}" for k in range(36)))
+        root = self.picture("charts/compare", *(f"l{k}" for k in range(54)))
         row = root.find("g")
         marks = {(mark.tag, mark.get("fill"), shape(mark)) for mark in row if mark.get("fill")}
-        self.expect("marks", len(marks), 36)
-        self.refuses("compare", [f"l{k}" for k in range(37)], b"", "more than 36 listings can't be told apart")
+        self.expect("marks", len(marks), 54)
+        self.refuses("compare", [f"l{k}" for k in range(55)], b"", "more than 54 listings can't be told apart")
 
     def test_page_refuses(self):
         """Listings that were cut off or changed, and those that lack a trace."""
@@ -358,7 +358,7 @@ class Charts(Place):
                             (["one", "other"],
                              "other: line 2 is none of a listing of counts, check or compare: [ nop ; nop ]"),
                             (["one", "digits"], "a number of 5000 digits: 9999999999.."),
-                            (["one"], "one listing of counts or check can't be compared: give another"),
+                            (["one"], "one listing of counts can't be compared: give another"),
                             (["both"], "both: the blocks are listed in more than one way")):
             self.refuses("compare", words, b"", said)
         self.expect("status", self.call("charts/compare")[0], 2)

@@ -79,6 +79,7 @@ ADVISED = (
     (["counts"], WITH_WORDS, "", ""),
     (["run"], b"nop //SIM INPUT: -i 1024 3\n//SIM INPUT\n///SIM INPUT: -i 1024 3\n", "", ""),
     (["run"], b"nope\n//SIM INPUT: -i 1024 3\n", NOT_UNDERSTOOD, ADVISES_LINT + ADVISES_WORDS),
+    (["run"], b"nop\n" * 8190 + WITH_WORDS, "", ADVISES_WORDS),    # in two pieces of what is read
 )
 COMPLETE = ('source made/$0.bash; COMP_WORDS=($0 "$@"); COMP_CWORD=$#; _$0; echo "${COMPREPLY[*]}"')
 
@@ -104,7 +105,7 @@ class Manual(Place):
 
     def test_pages_beside(self):
         """Each option of the help of ilocgrade and ilocview is on its page, and no other; so is each command."""
-        for name, commands in (("ilocgrade", ()), ("ilocview", ("page", "timeline", "graph", "compare"))):
+        for name, commands in (("ilocgrade", ()), ("ilocview", ("page", "timeline", "graph", "compare", "from-llvm"))):
             helps = [self.call(name, *words, "--help")[1].decode() for words in ((), *((word,) for word in commands))]
             options = re.findall(r"^  (?:-\w.*?, )?--([a-z-]+)", "".join(helps), re.MULTILINE)
             items = re.findall(r"^\.It (.*)", self.text(f"man/{name}.1"), re.MULTILINE)

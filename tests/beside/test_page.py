@@ -67,7 +67,7 @@ class Page(Place):
         rows = ("--task", task, "3", "4")
         given = self.read(f"{CLASS}/submissions/ben/both.rows")
         graph = self.listings(("graph",), given=self.read(task))
-        return graph + self.listings(("trace", *rows), ("check", *rows), given=given)
+        return graph + self.listings(("trace", *rows), ("check", *rows), ("check", "--json", *rows), given=given)
 
     def block(self, text, *options):
         return self.listings(("explain", *options), ("explain", "--cycles", *options), ("graph", *options),

@@ -1,12 +1,19 @@
 """Cases of ilocview: it draws what charts/ draws of what the program lists."""
 import os
+import random
 import re
 import shutil
 import sys
+from itertools import islice
 
 from beside.test_charts import page_of
 from comparison import drawn as compared
 from harness.place import Place
+from harness.program import TOP
+from oracle.drawn import lab_block
+from oracle.judge import why_void
+from oracle.machine import words_from
+from oracle.operations import text_of
 
 LAB = ("--load", "3", "--store", "3", "--mult", "2")
 BOOK, TASK, DAN, EVE = ("examples/book.iloc", "examples/class/tasks/both.iloc", "examples/class/dan.iloc",
@@ -15,12 +22,15 @@ BEN, FAY = (f"examples/class/submissions/{name}/both.rows" for name in ("ben", "
 WORDS = ("--at", "1024", "3", "4")      # as the task says
 NO_TOOL = b"ilocview: this needs %s, which is not on the PATH (Debian: %s)\n"
 NOT_TAKEN = "{} isn't an option of ilocfarm {}, whose listing is drawn"
+COMMA = f"""{EVE}: line 6: expected ",", found "r2"
+        add r1 r2 => r3
+               ^"""
 REFUSED = (
     (["timeline", "nosuch"], 4, "nosuch: No such file or directory"),
     (["timeline", "."], 4, ".: Is a directory"),
-    (["timeline", EVE], 1, f"{EVE}: line 6: not understood"),
-    (["page", EVE, BEN], 1, f"{EVE}: line 6: not understood"),
-    (["timeline", EVE, BEN], 1, f"{EVE}: line 6: not understood"),
+    (["timeline", EVE], 1, COMMA),
+    (["page", EVE, BEN], 1, COMMA),
+    (["timeline", EVE, BEN], 1, COMMA),
     (["timeline", TASK, DAN], 1, f"{DAN}: line 2 is none of a listing of schedule or explain: sum:"),
     (["timeline", BOOK, "--block", "2"], 1, f"{BOOK}: the listing has no block 2"),
     (["compare", BOOK, DAN, "two.iloc"], 1, "the listings have 1, 1, 2 blocks: only the same ones can be compared"),
@@ -55,10 +65,28 @@ class View(Place):
         self.draws(["page", DAN, "-i", "8", "3", "-4"], page_of(listing).encode())
         rows = ("--task", TASK, *WORDS)
         listing = self.listings(("graph",), given=self.read(TASK))
-        listing += self.listings(("trace", *rows), ("check", *rows), given=self.read(BEN))
+        listing += self.listings(("trace", *rows), ("check", *rows), ("check", "--json", *rows), given=self.read(BEN))
         self.draws(["page", TASK, BEN], page_of(listing).encode())
         out = re.findall(r'(?:src|href)="(?!#)[^"]*|url\(|@import', self.text("drawn.html"))
         self.expect("links out", out, [])
+
+    def test_operations(self):
+        """On a page of rows each operation of the block leads to the slot that issues it, or is dim."""
+        chance, start = random.Random(60), words_from(0, [])
+        drawn = (lab_block(chance) for _ in range(100))
+        self.write("drawn.iloc", text_of([*islice((ops for ops in drawn if not why_void(ops, start)), 60)]))
+        self.write("drawn.rows", self.listings(("schedule",), given=self.read("drawn.iloc")))
+        explained = self.listings(("explain", "--task", "drawn.iloc"), given=self.read("drawn.rows")).decode()
+        made = self.printed("ilocview", "page", "drawn.iloc", "drawn.rows").decode()
+        self.expect("places", re.findall(r'<li value="(\d+)" data-op="(\d+)\.(\d)">', made),
+                    re.findall(r"^(\d+) cycle (\d+) unit (\d) ", explained, re.MULTILINE))
+        self.expect("dim ones", "Dim: " in made, False)
+        self.write("twice.iloc", b"loadI 1 => r1\nloadI 1 => r2\nadd r1, r2 => r3\noutput 4\n")
+        self.write("twice.rows", b"[ loadI 1 => r1 ; loadI 1 => r2 ]\n[ add r1, r1 => r3 ; output 4 ]\n")
+        made = self.printed("ilocview", "page", "twice.iloc", "twice.rows").decode()
+        self.expect("what can be either", re.findall(r'<li value="(\d)" data-op="(.*?)">', made),
+                    [("0", ""), ("1", ""), ("2", "1.0"), ("3", "1.1")])
+        self.expect("what dim means", made.count('<p class="dim">Dim: no row is known to issue it.</p>'), 1)
 
     def test_timeline(self):
         """With the latencies of its listing, whatever they are; docs/ has two as they are drawn."""
@@ -89,6 +117,16 @@ class View(Place):
         for name, path in (("ben", BEN), ("fay", FAY)):
             self.write(name, self.listings(("check", "--task", TASK, *WORDS), given=self.read(path)))
         self.draws(["compare", "--task", TASK, BEN, FAY], self.printed("charts/compare", "ben", "fay"))
+
+    def test_compare_listings(self):
+        """What `compare` or `counts` listed is drawn as it is; one hand-in is beside ours and the least."""
+        for words in (["compare"], ["compare", "--csv"], ["compare", "--csv", "--nodes", "5"]):
+            self.write("listed", self.listings(words, given=self.read(DAN)))
+            self.draws(["compare", "listed"], self.printed("charts/compare", "listed"))
+        self.draws(["compare", "--task", TASK, BEN], compared(
+            [("both", BEN, self.listings(("check", "--task", TASK, *WORDS), given=self.read(BEN)))]).encode())
+        self.expect("an option", self.call("ilocview", "compare", "--nodes", "5", "listed"),
+                    (2, b"", b"ilocview: --nodes isn't an option of what draws a listing\n"))
 
     def test_compare_names(self):
         """Files are called by what tells them apart: their names, else their folders."""
@@ -125,13 +163,20 @@ class View(Place):
         self.expect("written", [name for name in os.listdir(self.folder) if name.startswith("made")], [])
 
     def test_finds_the_program(self):
-        """Beside the command first, so that one that is called by its path runs its own."""
+        """Beside the command first, so that one that is called by its path runs its own, then built in its clone, then
+        on the PATH."""
         self.script("other/ilocfarm", "#!/bin/sh\necho other\n")
         others = f"{self.path('other')}:{os.environ['PATH']}"
         version = self.call("ilocfarm", "--version")
+        for at in "charts", "grading":
+            shutil.copytree(f"{TOP}/{at}", self.path(f"clone/{at}"))
         for name, at in (("ilocview", "charts"), ("ilocgrade", "grading")):
             self.expect(name, self.call(self.path(f"bin/{name}"), "--version", PATH=others), version)
-            self.expect("by the PATH", self.call(f"{at}/{name}", "--version", PATH=others), (0, b"other\n", b""))
+            asked = f"clone/{at}/{name}", "--version"
+            self.expect("by the PATH", self.call(*asked, PATH=others), (0, b"other\n", b""))
+            self.script("clone/out/ilocfarm", "#!/bin/sh\necho built\n")
+            self.expect("in a clone", self.call(*asked, PATH=others), (0, b"built\n", b""))
+            os.remove(self.path("clone/out/ilocfarm"))
         os.remove(self.path("bin/ilocfarm"))
         path = os.pathsep.join({os.path.dirname(shutil.which("python3")), "/usr/bin"})
         for name, *words in (("ilocview", "timeline", BOOK), ("ilocview", "--version"), ("ilocgrade", "--version")):
@@ -145,7 +190,7 @@ class View(Place):
         for words, status, said in REFUSED:
             ended, out, err = self.call("ilocview", *words)
             self.expect(f"{words}: {err}", (ended, out, err.startswith(b"ilocview: "), err.count(b"\n")),
-                        (status, b"", True, 1))
+                        (status, b"", True, 3 if said == COMMA else 1))
             if said:
                 self.expect(f"{words} says", err.decode(), f"ilocview: {said}\n")
         for words in MISTAKEN:
