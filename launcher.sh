@@ -26,6 +26,41 @@ is_built() {
     made_from | cmp -s - out/built
 }
 
+# Says why the program that was built isn't run.
+say_why() {
+    [ -f out/built ] || return 0
+    made_from | awk '
+        FNR == NR { was[$1] = $0; next }
+        was[$1] == $0 { same += $1 ~ /^crates/ }
+        was[$1] != $0 && !changed { changed = $1 }
+        { delete was[$1] }
+        END {
+            for (name in was) if (!changed) changed = name
+            if (changed !~ /^(crates|HANDLES|out)/) changed = "the toolchain"
+            if (same) print changed " isn\047t as it was when the program was built"
+            else print "this is a copy of where the program was built, and only there is it known to be that of the" \
+                " sources"
+        }' out/built - | while read -r why; do say "$why"; done
+}
+
+# Sets $jobs, how many crates ./build proves side by side, or nothing where rt chooses, and $minutes, about how long it
+# takes. rt plans for up to twice the 0.8 to 2.8 GB that a crate takes: where a processor has 2.5 GB, it may have one.
+plan() {
+    set -- "$(nproc)" "$(cat /proc/meminfo /sys/fs/cgroup/memory.max /sys/fs/cgroup/memory.stat 2>/dev/null | awk '
+        $1 == "MemAvailable:" { free = $2 * 1024 }
+        NF == 1 && $1 ~ /^[0-9]+$/ { limit = $1 }
+        $1 == "anon" { held = $2 }
+        END { if (limit && limit - held < free) free = limit - held; printf "%d", free / 1e8 }')"
+    jobs= side_by_side=$1 short=
+    if [ "$2" -lt $(($1 * 25)) ]; then
+        side_by_side=$(($2 < 50 ? 1 : $2 / 50))
+        short=", or $((22 + 80 / $1)) with $(($1 * 5 / 2 + 1)) GB of memory free"
+    elif [ "$2" -lt $(($1 * 50)) ] && [ -z "${RT_JOBS:-}" ]; then
+        jobs=$1
+    fi
+    minutes=$((22 + 80 / side_by_side))
+}
+
 # The lines of crates.txt for the program's crate and those below it.
 program_crates() {
     awk -F '[:#]' '

@@ -1,5 +1,6 @@
 """./ilocfarm, ./build and ./install in a small repository, with a stand-in for the toolchain's rt."""
 import os
+import re
 import shutil
 import signal
 import subprocess
@@ -14,12 +15,14 @@ TOOLS = ("awk cat chmod cmp cp find flock grep head mkdir mkfifo mktemp mv nproc
 ENDING = (signal.SIGHUP, signal.SIGINT, signal.SIGTERM)
 # It fails with what the file `says` has, and doesn't end where there is a file `hold`. As `rt try` it answers with its
 # words and its input; as `rt ci` it makes a program that does, and prints the number of its build too; `low` it has
-# kept.
+# kept. Where there is a file `kills`, memory is too short for any number of jobs that it is told.
 RT = """#!/bin/sh
 [ "$1" != version ] || exec cat "$TEST/kit"
 echo "$1" >>"$TEST/asked"
+echo "$1 ${RT_JOBS-none}" >>"$TEST/jobs"
 [ ! -e "$TEST/hold" ] || { echo $$ >"$TEST/child"; exec sleep 600; }
 while [ -e "$TEST/slow" ]; do sleep 0.02; done
+[ ! -e "$TEST/kills" ] || [ -z "${RT_JOBS-}" ] || { echo "the check was killed, most likely for memory"; exit 1; }
 [ ! -e "$TEST/says" ] || { cat "$TEST/says" >&2; exit 6; }
 if [ "$1" = try ]; then
     shift 2
@@ -36,7 +39,12 @@ chmod +x crates/ilocfarm/out/ilocfarm
 echo '3 passed, 0 failed'
 """
 CRATES = "# what each uses\nilocfarm may_wait=1: high # last\nlow: clap\nhigh: low thiserror\nhigh_tests: high\n"
-ADVICE = r"\./build proves and builds the program, once, in some \d+ minutes here"
+ADVICE = (r"\./build proves and builds the program, once, in some \d+ minutes here"
+          r"(?:, or \d+ with \d+ GB of memory free)?")
+NOT_PROVED = "ilocfarm: not proved, so not built: out/build.log has what rt said"
+OTHERWISE = "ilocfarm: {} isn't as it was when the program was built\n"
+COPIED = ("ilocfarm: this is a copy of where the program was built, and only there is it known to be that of the "
+          "sources\n")
 UNPROVED = rf"ilocfarm: this answer is of an unproved run, which takes about a minute\. {ADVICE}\n"
 BUILT = "ilocfarm: out/ilocfarm is proved and built, and ./ilocfarm runs it\n"
 
@@ -90,10 +98,18 @@ class Repository(InFolder):
         self.assertEqual(self.ran("run", "--at", "4 5", given="text"), (7, f"build {number}: run --at 4 5: text\n", ""))
         return out
 
-    def answers_unproved(self, **how):
+    def answers_unproved(self, why="", **how):
         status, out, err = self.ran("run", "--at", "4 5", given="text", **how)
         self.assertEqual((status, out), (7, "unproved: run --at 4 5: text\n"))
-        self.assertRegex(err, rf"\A{UNPROVED}ilocfarm: a word\n\Z")
+        self.assertRegex(err, rf"\A{why}{UNPROVED}ilocfarm: a word\n\Z")
+
+    def with_memory_for(self, each):
+        """Has as many processors as share the free memory by so many GB each, and returns how many."""
+        free = int(re.search(r"^MemAvailable: +(\d+)", Path("/proc/meminfo").read_text("ascii"), re.MULTILINE)[1])
+        count = max(1, int(free * 1024 / 1e9 / each))
+        os.remove(f"{self.folder}/tools/nproc")
+        self.script("tools/nproc", f"#!/bin/sh\necho {count}\n")
+        return count
 
     def fails(self, why, *words, **how):
         """No answer, status 125, and as the last line what to do."""
@@ -142,16 +158,16 @@ class Answers(Repository):
                 change(path)
                 if os.path.exists(path):
                     os.utime(path, ns=(times.st_atime_ns, times.st_mtime_ns))
-                self.answers_unproved()
+                self.answers_unproved(OTHERWISE.format("the toolchain" if name == "../KIT-ID" else name))
         with self.subTest("a toolchain that has no file KIT-ID"):
             self.builds(len(changes) + 1)
             self.write("kit", "kit 2")
-            self.answers_unproved()
+            self.answers_unproved(OTHERWISE.format("the toolchain"))
 
     def test_unproved_in_a_copy(self):
         self.builds(1)
         shutil.copytree(self.top, f"{self.folder}/other", symlinks=True)
-        self.answers_unproved(by=f"{self.folder}/other/ilocfarm")
+        self.answers_unproved(COPIED, by=f"{self.folder}/other/ilocfarm")
 
     def test_unproved_after_a_change_in_mid_build(self):
         self.write("slow", "")
@@ -163,6 +179,37 @@ class Answers(Repository):
         said = "ilocfarm: a source changed meanwhile, or the disk is full: look, and run ./build again\n"
         self.assertEqual((status, err), (125, said))
         self.answers_unproved()
+
+    def test_jobs_by_memory(self):
+        """Where each processor has 2.5 GB, but less than rt plans for, each gets a crate; else rt chooses."""
+        for each, is_told in ((1.2, False), (3.5, True), (9, False)):
+            with self.subTest(f"{each} GB a processor"):
+                count = self.with_memory_for(each)
+                status, _, err = self.ran(by="ilocfarm")
+                minutes = 22 + 80 // count if each > 2.5 else "\\d+"
+                also = rf", or {22 + 80 // count} with {count * 5 // 2 + 1} GB of memory free" if each < 2.5 else ""
+                self.assertRegex(err, rf"in some {minutes} minutes here{also}\n")
+                self.ran(by="build")
+                self.assertEqual(self.text("jobs").splitlines()[-1], f"ci {count if is_told else 'none'}")
+                os.remove(f"{self.top}/out/built")
+        with self.subTest("whoever sets RT_JOBS"):
+            self.with_memory_for(3.5)
+            self.ran(by="build", env={"RT_JOBS": "1"})
+            self.assertEqual(self.text("jobs").splitlines()[-1], "ci 1")
+
+    def test_memory_runs_short(self):
+        """A check that is killed is tried again with as many side by side as rt chooses."""
+        self.write("kills", "")
+        count = self.with_memory_for(3.5)
+        status, out, err = self.ran(by="build")
+        short = "ilocfarm: memory was short: once more, with fewer crates side by side\n"
+        self.assertEqual((status, err), (0, short + BUILT))
+        self.assertEqual(self.text("jobs"), f"ci {count}\nci none\n")
+        self.assertIn("check was killed", self.text(f"{self.top}/out/build.log"))
+        os.remove(f"{self.top}/out/built")
+        status, _, err = self.ran(by="build", env={"RT_JOBS": "2"})
+        killed = "a check was killed, most likely since memory was short: free some, or try RT_JOBS=1 ./build"
+        self.assertEqual((status, err), (125, f"{NOT_PROVED}\nilocfarm: {killed}\n"))
 
     def test_in_place_for_the_gate(self):
         out = self.builds(1, "--all")
@@ -272,11 +319,10 @@ class Fails(Repository):
         self.write("says", "rt: low NOT PROVED\n")
         for words in ((), ("--all",)):
             status, out, err = self.ran(*words, by="build")
-            self.assertEqual((status, err),
-                             (125, "ilocfarm: not proved, so not built: out/build.log has what rt said\n"))
+            self.assertEqual((status, err), (125, f"{NOT_PROVED}\n"))
             self.assertRegex(out, r"\A(low NOT PROVED, 1 of 3|rt: low NOT PROVED)\n\Z")
         os.remove(f"{self.folder}/says")
-        self.answers_unproved()
+        self.answers_unproved(OTHERWISE.format("crates/low/src/lib.rt"))
 
     def test_input(self):
         folder = os.open(self.folder, os.O_RDONLY)
