@@ -33,6 +33,8 @@ use std::collections::BTreeMap;
 pub(crate) struct RowClaims {
     /// In the order in which it is listed.
     pub claims: Vec<Claim>,
+    /// The same of what is claimed where none of `claims` is a fact.
+    pub otherwise: Vec<Claim>,
     /// The operation of the block that is named as left out.
     pub left_out: Option<usize>,
     /// The operation of the rows that is named as added.

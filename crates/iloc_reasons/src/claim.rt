@@ -7,6 +7,7 @@ ghost use Rattle.iloc_facts.specs.Facts.{AreAgainst, HasBeenThere, HasLabel, IsF
 ghost use Rattle.iloc_reasons.specs.Steps.Likeness.{TellApart};
 ghost use Rattle.iloc_reasons.specs.Steps.Sides.{AreNoted, source_at};
 
+use crate::counterpart::seen;
 use crate::likeness::Terms;
 use crate::terms::at;
 use iloc_facts::{Fact, Issue, Sides, Sources, have_one_label};
@@ -38,6 +39,8 @@ pub(crate) enum What {
     For { op: usize },
     /// None of the block is like it.
     LikeNone,
+    /// It doesn't read what this one of the block reads, its counterpart.
+    See { op: usize },
 }
 
 /// Whether an operation of this kind waits for the stores that are under way.
@@ -279,6 +282,7 @@ impl Claim {
             What::Beside { other, i, o } => ordered(sides, terms, k, other, i, o),
             What::For { op } => stands_for(sides, terms, k, op),
             What::LikeNone => like_none(sides, terms, k),
+            What::See { op } => seen(sides, k, op),
         }
     }
 }

@@ -62,8 +62,8 @@ fn are_same(sides: &Sides, given: Sources, read: Sources) -> bool
     }
 }
 
-/// Operation k of the rows doesn't read what its counterpart reads, if that is operation i of the block.
-fn seen(sides: &Sides, k: usize, i: usize) -> Option<Fact>
+/// Operation `k` of the rows doesn't read what its counterpart reads, if that is operation `i` of the block.
+pub(crate) fn seen(sides: &Sides, k: usize, i: usize) -> Option<Fact>
     ensures { IfSome result (IsFact sides.now.latencies.now sides.now.block.items sides.now.schedule.now.ops
         sides.now.schedule.now.rows) }
 {

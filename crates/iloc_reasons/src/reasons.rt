@@ -105,26 +105,6 @@ fn added(alloc: Global, sides: &Sides, named: Option<usize>) -> Result<Option<Ad
     }
 }
 
-/// The first facts of rows of which this was chosen to be said, and how many more there are.
-fn found_facts(
-    alloc: Global,
-    sides: &Sides,
-    block: &DataFlow,
-    rows: &DataFlow,
-    read: &BTreeMap<usize, usize>,
-    claims: &[Claim],
-) -> Result<(Vec<Fact>, usize), NoMemory>
-    requires noted { AreNoted sides.now.readings.items read.now }
-    ensures facts { IfOk result (λ listed. All (IsFact sides.now.latencies.now sides.now.block.items sides.now.schedule.now.ops
-        sides.now.schedule.now.rows) listed.0.items) }
-    ensures once { IfOk result (λ listed. AllPairs (λ one other. one ≢ other) listed.0.items) }
-    ensures few { IfOk result (λ listed. length listed.0.items ≤ 8) }
-    ensures more { IfOk result (λ listed. length listed.0.items < 8 → listed.1 ≡ 0) }
-{
-    let terms = terms_of(alloc, sides, block, rows)?;
-    first_facts(alloc, sides, &terms, read, claims)
-}
-
 /// Why the rows of `sides` aren't issued as their block asks for, by the data flow of `block` and of `rows`.
 fn reasons_among(
     alloc: Global,
@@ -137,13 +117,15 @@ fn reasons_among(
 {
     let read = read_by_some(alloc, &sides.readings)?;
     let choice = chosen(alloc, sides, block, rows, &read)?;
-    let (facts, more) = found_facts(alloc, sides, block, rows, &read, &choice.claims)?;
+    let terms = terms_of(alloc, sides, block, rows)?;
+    let (facts, more) = first_facts(alloc, sides, &terms, &read, &choice.claims)?;
     let left_out = left_out(alloc, sides, choice.left_out)?;
     let added = added(alloc, sides, choice.added)?;
-    let facts = if left_out.is_some() || added.is_some() {
-        facts
+    let (facts, more) = if left_out.is_some() || added.is_some() || !facts.is_empty() {
+        (facts, more)
     } else {
-        or_seen(alloc, sides, block, rows, facts)?
+        let (facts, more) = first_facts(alloc, sides, &terms, &read, &choice.otherwise)?;
+        (or_seen(alloc, sides, block, rows, facts)?, more)
     };
     Ok(Reasons {
         left_out,

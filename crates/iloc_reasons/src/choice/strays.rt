@@ -105,6 +105,11 @@ impl<'a> Strays<'a> {
         Ok(())
     }
 
+    /// The operation that is meant to bring `wanted`, and whose result is never read.
+    pub(crate) fn unread(&self, wanted: u64) -> Option<usize> {
+        self.unread.get(&wanted).copied()
+    }
+
     /// Whether operation k defines a register.
     fn brings_in(&self, k: usize, register: Reg) -> bool {
         match self.ops.get(k) {
@@ -117,7 +122,7 @@ impl<'a> Strays<'a> {
     /// near only one that others read or that shares its register, and else only one that nobody reads.
     pub(crate) fn instead(&self, register: Reg, wanted: u64, is_near: bool) -> Option<Stray> {
         let is_known = self.known.get(&register.0).is_some();
-        let unread = self.unread.get(&wanted).copied();
+        let unread = self.unread(wanted);
         let k = unread.or(self.brought.get(&wanted).copied())?;
         if self.brings_in(k, register) {
             return None;

@@ -20,7 +20,8 @@ use std::alloc::Global;
 /// A change that is as unlikely isn't thought of.
 const DEAR: u32 = 6;
 
-/// Of how many missing operations of its label it is looked for causes why an operation isn't one of them.
+/// Of how many missing operations of its label it is looked for causes why an operation isn't one of them, and how many claims
+/// are looked at where no other is a fact.
 const FEW: usize = 8;
 
 /// How much less likely it is that an operation is in another place.
@@ -485,10 +486,46 @@ impl Walk<'_> {
         Ok(if telling.is_empty() { claims } else { telling })
     }
 
+    /// An operation that nobody reads, and that brings what operation `k` was to read at `place` if it is operation `i` of the
+    /// block.
+    fn unread(&self, k: usize, place: usize, i: usize) -> Option<Claim> {
+        if self.known().reads_rightly(k, place) {
+            return None;
+        }
+        let source = source_at(self.block.flow.sources(i), place)?;
+        let what = What::NeverRead;
+        let k = self.strays.unread(at(&self.block.terms, source))?;
+        Some(Claim { k, what })
+    }
+
+    /// What is claimed where none of `all` is a fact: of the first operations that are said to stand for others, that they don't
+    /// read what those read, and that nobody reads what they were to read. They may read older loads, which are like those of the
+    /// block but for their memory.
+    fn otherwise(&self, all: &[Claim]) -> Result<Vec<Claim>, NoMemory> {
+        let mut claims = Vec::new(self.alloc);
+        for claim in all {
+            if let What::For { op } = claim.what
+                && claims.len() < FEW
+            {
+                let k = claim.k;
+                let what = What::See { op };
+                claims.push(Claim { k, what })?;
+                for place in 0..2 {
+                    if let Some(unread) = self.unread(k, place, op) {
+                        claims.push(unread)?;
+                    }
+                }
+            }
+        }
+        Ok(claims)
+    }
+
     /// What is claimed. Of the operations that are left out, the first of which the rows have too few is named.
     pub(crate) fn choice(&self) -> Result<RowClaims, NoMemory> {
+        let claims = self.all_claims()?;
         Ok(RowClaims {
-            claims: self.all_claims()?,
+            otherwise: self.otherwise(&claims)?,
+            claims,
             left_out: self.missing.first_short(),
             added: self.said.unlike,
         })
