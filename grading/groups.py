@@ -3,8 +3,7 @@ import shutil
 from collections import defaultdict
 from dataclasses import replace
 
-from tables import key_of
-from words import say, shown
+from words import key_of, say, shown
 
 GROUP = ("group", "group_name", "group name", "team")     # the column that names a student's
 
@@ -36,8 +35,7 @@ def in_groups(students, table):
 
 def partners(students, names):
     """The names, and those of students who submitted together with these."""
-    wanted = {student.hand_in() for student in students if student.path
-              and {*map(key_of, (student.name, student.id, student.email))} & {*map(key_of, names)}}
+    wanted = {student.hand_in() for student in students if student.path and {*student.keys()} & {*map(key_of, names)}}
     return [*names, *(student.name for student in students if student.hand_in() in wanted)]
 
 

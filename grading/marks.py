@@ -6,7 +6,7 @@ from pathlib import Path
 
 from judge import Task, alone
 from language import PASSING
-from words import count, faults, number, shown
+from words import count, faults, key_of, number, shown
 
 OURS, SAME_WAY = "equal to our own schedule", "wrong in the same way, but for registers and blanks"
 
@@ -49,6 +49,7 @@ class Student:
     id: str = ""                # as a course's site has it
     email: str = ""
     plain: str = ""             # the name, where it may be another's too
+    listed: str = ""            # the name on the roster
     days: int = 0               # late
     attempt: int = None
     files: dict = None          # in a folder for all, by the names that the student gave them
@@ -56,6 +57,11 @@ class Student:
     notes: list = field(default_factory=list)
     row: list = field(default_factory=list)         # a mark a task
     less: float = 0.0           # points, for being late
+
+    def keys(self):
+        """What the student is known by, the surest first."""
+        texts = self.id, self.email, self.name, self.plain, self.listed
+        return [*dict.fromkeys(key_of(text) for text in texts if text)]
 
     def hand_in(self):
         """What was submitted; a group's students have the same."""

@@ -8,11 +8,13 @@ import tempfile
 from contextlib import contextmanager
 from pathlib import Path
 
-from handins.layouts import by_key, differing, key_of
+from handins.layouts import by_key, differing
 from judge import CannotGrade
 from marks import Mark, Student
+from words import key_of
 
 MARKS = "marks.json"
+NAMES = "name", "plain", "listed", "id", "email"     # of a student
 
 
 @contextmanager
@@ -38,11 +40,11 @@ def made_anew(out, submissions):
 
 
 def keep(folder, students):
-    """Keeps the marks of students, so that some can be made anew."""
+    """Keeps the marks of students, so that some can be made anew, and of a path what tells it from other students'."""
     made = [dataclasses.asdict(student) for student in students]
     for mark in (mark for student in made for mark in student["row"]):
         mark["task"] = mark["task"]["name"]
-    (folder / MARKS).write_text(json.dumps(made, default=str), encoding="utf-8")
+    (folder / MARKS).write_text(json.dumps(made, default=lambda path: path.name), encoding="utf-8")
 
 
 def kept(out, tasks):
@@ -54,7 +56,6 @@ def kept(out, tasks):
     for about in found:
         if [mark["task"] for mark in about["row"]] != [task.name for task in tasks]:
             raise CannotGrade(f"{out}: earlier grades are of other tasks")
-        about["path"] = about["path"] and Path(about["path"])
         about["row"] = [Mark(**{**mark, "task": task}) for task, mark in zip(tasks, about["row"])]
     return [Student(**about) for about in found]
 
@@ -71,17 +72,16 @@ def chosen(students, names, earlier):
     wanted, found, again, made, was = {key_of(name): name for name in names}, set(), [], [], []
     known, left = by_key(earlier), {id(other): other for other in earlier}
     for student in students:
-        others = (other for text in (student.id, student.email, student.plain) for other in known[key_of(text)])
+        others = (other for key in student.keys() for other in known[key])
         other = next((other for other in others if id(other) in left and is_same(student, other)), None)
         left.pop(id(other), None)
-        keys = {key_of(text) for each in (student, other) if each for text in (each.name, each.id, each.email)}
+        keys = {key for each in (student, other) if each for key in each.keys()}
         found |= keys
         if keys & {*wanted} or not (other or student.path):
             again.append(student)
             made.append(student)
         elif other:
-            made.append(dataclasses.replace(
-                other, name=student.name, plain=student.plain, id=student.id, email=student.email))
+            made.append(dataclasses.replace(other, **{name: getattr(student, name) for name in NAMES}))
             was.append((made[-1], other.name))
     strange = [name for key, name in wanted.items() if key not in found]
     if strange:

@@ -7,12 +7,11 @@ from collections import Counter
 from contextlib import suppress
 from datetime import datetime
 
-from handins.folder import key_of
 from handins.layouts import DAY, by_key, days_late
 from handins.lenient import MARKS
 from judge import CannotGrade
 from marks import Student
-from words import count, number as plainly, say, shown
+from words import count, key_of, number as plainly, say, shown
 
 ODD = {"points possible", "student, test", "test student", "manual posting"}     # Canvas's lines that are no students
 LATE = ("late", "days late", "lateness (h:m:s)", "status", "submission time", "submission_timestamp")
@@ -100,7 +99,11 @@ class Table:
         """Who is listed and is none of these students; that is said, and who of them isn't listed."""
         found = self.matched(students)
         strange = [student.name for student in students if not any(student is other for other in found.values())]
-        made = [student for number, student in self.students().items() if number not in found]
+        listed = self.students()
+        for number, student in found.items():
+            if student:
+                student.listed = listed[number].name
+        made = [student for number, student in listed.items() if number not in found]
         silent = [student.name for student in made]
         for names, what in (silent, "on the roster submitted nothing"), (strange, "submitted but not on the roster"):
             if names:

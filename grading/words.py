@@ -1,11 +1,17 @@
 """Feedback in sentences that a student reads: those of sentences.ini, about a hand-in."""
 import sys
+import unicodedata
 from configparser import ConfigParser
 from pathlib import Path
 
 SENTENCES = ConfigParser(interpolation=None)
 SENTENCES.read_string(Path(__file__).with_name("sentences.ini").read_text("utf-8"))
 VERDICTS = {**SENTENCES["verdicts"], **SENTENCES["open"]}
+
+
+def key_of(text):
+    """What names somebody or something, as it is compared."""
+    return unicodedata.normalize("NFC", " ".join(text.casefold().split()))
 
 
 def shown(text, most=200):

@@ -9,7 +9,6 @@ import stat
 import subprocess
 import sys
 import tempfile
-import unicodedata
 from contextlib import ExitStack, contextmanager, suppress
 from functools import cache, cached_property
 from glob import glob
@@ -21,7 +20,7 @@ from handins import unpack
 from handins.unpack import MOST_NAMES, MOST_PACKED
 from judge import CannotGrade
 from marks import NoRows
-from words import shown
+from words import key_of, shown
 
 MOST_BYTES = 1 << 20        # of a file, and of what a program prints
 DEPTH = 2                   # of folders in a student's that are looked into
@@ -32,11 +31,6 @@ AGAIN = re.compile(r" ?\(\d{1,3}\)(?=\.|$)")        # how browsers name what was
 OURS = (errno.ENFILE, errno.EMFILE, errno.ENOMEM, errno.EIO, errno.ENOSPC, errno.EDQUOT)
 LOCK = Lock()       # who has it may have something unpacked
 STRANGE = {errno.ELOOP: "It is a link", errno.ENXIO: "It is no regular file", errno.ENOTDIR: "The folder is a link"}
-
-
-def key_of(text):
-    """What names somebody or something, as it is compared."""
-    return unicodedata.normalize("NFC", " ".join(text.casefold().split()))
 
 
 def is_meta(path):

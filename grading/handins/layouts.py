@@ -9,10 +9,10 @@ from collections import Counter, defaultdict
 from contextlib import ExitStack, contextmanager
 from pathlib import Path
 
-from handins.folder import OURS, is_meta, key_of
+from handins.folder import OURS, is_meta
 from judge import CannotGrade
 from marks import Student
-from words import say, shown
+from words import key_of, say, shown
 
 ABOUT = "submission_metadata.yml"       # of Gradescope: who made each submission, and when
 AGAIN = re.compile(r"(.+)-(\d{1,4})((?:\.[^.]*)?)", re.DOTALL)      # how Canvas names what is handed in again
@@ -130,7 +130,7 @@ def by_key(students):
     """By what a table may name a student by who is named so."""
     found = defaultdict(list)
     for student in students:
-        for key in {key_of(text) for text in (student.plain or student.name, student.id, student.email) if text}:
+        for key in student.keys():
             found[key].append(student)
     return found
 

@@ -97,7 +97,7 @@ class Course(Graded):
             self.write(f"export/{path}", self.rows(name))
         words = ("--roster site.csv --by ID --groups groups.csv --per-day 2 --merge site.csv --column Lab "
                  "--column both=Task").split()
-        table = "Student,ID,Lab,Task\nFay,6,{0},{1}\nZoe,7,{0},{1}\nBen,1,{2},{2}\n"
+        table = 'Student,ID,Lab,Task\n"Fox, Fay",6,{0},{1}\nZoe,7,{0},{1}\nBen,1,{2},{2}\n'
         self.write("site.csv", table.format("", "", ""))
         self.write("groups.csv", "name,canvas_user_id,group_name\nFay,6,T\nZoe,7,t\nBen,1,\nJan,9,U\n")
         self.grade(*words, submissions="export")
@@ -109,9 +109,10 @@ class Course(Graded):
             self.expect("zip", sorted(archive.namelist()), ["ben_1_72_both.rows", "fay_LATE_6_71_both.rows"])
             said = archive.read("fay_LATE_6_71_both.rows").decode().splitlines()
             self.expect("zip", said, [line for line in feedback if "Note" not in line])
-        self.write("export/fay_LATE_6_71_both.rows", self.rows())
-        self.grade(*words, "--only", "7", submissions="export")
-        self.expect("merged", self.text("grades/merged.csv"), table.format("8", "10", "0"))
+        for name, rows, points in ("7", "ada", ("8", "10")), ("fox, FAY", "fay", ("5.62", "7.62")):
+            self.write("export/fay_LATE_6_71_both.rows", self.rows(rows))
+            self.grade(*words, "--only", name, submissions="export")
+            self.expect(f"--only {name}", self.text("grades/merged.csv"), table.format(*points, "0"))
 
     def test_teams(self):
         """A repository is a team's whose students a table has; and Moodle's zip has feedback in its folders."""
