@@ -85,13 +85,16 @@ def write_feedback(folder, students, tasks):
              if student.site}       # of a group who submitted
     if not sites:
         return
-    with zipfile.ZipFile(folder.with_suffix(".zip"), "w", zipfile.ZIP_DEFLATED) as archive:
+    with zipfile.ZipFile(folder.with_suffix(".zip"), "w") as archive:
         for site, student in sites.items():
+            files = {site: feedback(student, tasks, False)}
             if site.endswith(("/", "_")):
-                for path in filter(Path.is_file, (folder / safe_name(student.name)).iterdir()):
-                    archive.writestr(site + path.name, path.read_bytes())
-            else:
-                archive.writestr(site, feedback(student, tasks, False))
+                paths = sorted(filter(Path.is_file, (folder / safe_name(student.name)).iterdir()))
+                files = {site + path.name: path.read_bytes() for path in paths}
+            for name, data in files.items():
+                about = zipfile.ZipInfo(name)       # with no time of day
+                about.external_attr = 0o600 << 16
+                archive.writestr(about, data, zipfile.ZIP_DEFLATED)
 
 
 def plain(text):

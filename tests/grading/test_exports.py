@@ -2,9 +2,12 @@
 import random
 import re
 import unicodedata
+from functools import partial
+from itertools import product
 from types import SimpleNamespace
 
 from grading.test_class import BOTH, Graded
+from harness.program import TESTED
 
 FIRST = ("Ann", "José", "李", "Mary Jane", "O'Neil", "=1+1", "Zoë")
 LAST = ("Adams", "de la Cruz", "Łukasz", "X", "Smith-Jones")
@@ -41,11 +44,12 @@ class Site(SimpleNamespace):
     def format(self, text, one, **more):
         return text.format(one=one, late=self.late[one.is_late], **more)
 
-    def files(self, one, rows):
+    def files(self, one, rows, tasks):
         """Paths with what is there. An attempt whose file isn't the last one's is wrong."""
-        for attempt in range(1, one.attempt + 1):
+        for attempt, task in product(range(1, one.attempt + 1), tasks):
             for path, data in zip(self.paths, (rows if attempt == one.attempt else b"[ nop ]\n", b"", b"")):
-                yield self.format(path, one, attempt=attempt, again=f"-{attempt - 1}" * (attempt > 1)), data
+                again = f"-{attempt - 1}" * (attempt > 1)
+                yield self.format(path, one, attempt=attempt, again=again, task=task), data
 
     def table(self, points):
         lines = "".join(self.format(self.line, one, points=points[one.kind]) for one in STUDENTS)
@@ -56,7 +60,7 @@ SITES = {
     # Files of all in one folder; a later attempt has a number. Its table has lines that are no students.
     "canvas": Site(
         again="{one.id}", words=(), by="ID", column="Lab 3 (4711)", late=("", "LATE_"),
-        paths=["{one.short}_{late}{one.id}_7700{attempt}_both{again}.rows"],
+        paths=["{one.short}_{late}{one.id}_7700{attempt}_{task}{again}.rows"],
         head="Student,ID,SIS User ID,SIS Login ID,Section,Lab 3 (4711),Lab 4 (4712)\r\n"
         "    Points Possible,,,,,10.00,(read only)\r\n",
         line='"{one.last}, {one.first}",{one.id},s{one.id},{one.user},A;1,{points},3\r\n',
@@ -64,7 +68,7 @@ SITES = {
     # A folder a submission, and a file of YAML that says whose.
     "gradescope": Site(
         words=DUE, by="SID", column="Score", late=("20", "21"), again="{one.user}@X.edu",
-        paths=["submission_33{one.number:04}/both.rows"],
+        paths=["submission_33{one.number:04}/{task}.rows"],
         head="First Name,Last Name,SID,Email,Score\n",
         line="{one.first},{one.last},{one.id},{one.user}@x.edu,{points}\n",
         about="""\
@@ -82,23 +86,23 @@ submission_33{one.number:04}:
     "github": Site(
         words=(*DUE, "--late", "site.csv"), by="github_username", column="points_awarded", late=("20", "21"),
         again="{one.user}",
-        paths=["lab3-{one.user}/rows/both.rows", "lab3-{one.user}/.git/config", "lab3-{one.user}/README.md"],
+        paths=["lab3-{one.user}/rows/{task}.rows", "lab3-{one.user}/.git/config", "lab3-{one.user}/README.md"],
         head='"roster_identifier","github_username","submission_timestamp","points_awarded"\r\n',
         line='"{one.id}","{one.user}","2026-11-{late} 22:59:00 UTC","{points}"\r\n'),
     # A folder a student; its table has a mark of bytes, semicolons, and words for how late.
     "moodle": Site(
         words=("--late", "site.csv"), by="Identifier", column="Grade", late=("", " - 23 hours 59 mins late"),
         again="{one.id}",
-        paths=["{one.name}_{one.id}_assignsubmission_file/Both.ROWS",
+        paths=["{one.name}_{one.id}_assignsubmission_file/{task}.ROWS",
                "{one.name}_{one.id}_assignsubmission_onlinetext/onlinetext.html"],
         head="\ufeffIdentifier;Full name;Status;Grade;Feedback comments\r\n",
         line='Participant {one.id};{one.name};Submitted for grading{late};{points};"two\nlines"\r\n')}
 
 
 class Exports(Graded):
-    def export(self, site, students):
+    def export(self, site, students, tasks):
         for student in students:
-            for path, data in site.files(student, self.rows(student.kind)):
+            for path, data in site.files(student, self.rows(student.kind), tasks):
                 self.write(f"export/{path}", data)
         if site.about:
             about = (site.format(site.about, student) for student in students)
@@ -109,32 +113,37 @@ class Exports(Graded):
     def test_sites(self):
         """Each student has the right points, days and attempt, and the table one column filled: also who is graded when
         all others are. What is written is the same as if everybody were graded anew, from a zip."""
+        tasks = [f"Both{k}" for k in range(1 if TESTED.is_short else 10)]
+        points = {kind: f"{float(each) * len(tasks):.12g}" for kind, each in POINTS.items()}
+        for task in tasks:
+            self.write(f"tasks/{task}.iloc", self.read(f"{BOTH}/both.iloc"))
+        grade = partial(self.grade, tasks="tasks")
         for name, site in SITES.items():
             with self.subTest(name):
                 self.shell("rm -rf export* grades* late")
                 words = "--roster", "site.csv", "--by", site.by, "--merge", "site.csv", "--column", site.column
                 words += site.words
                 handed_in = [one for one in STUDENTS if one.kind]
-                self.export(site, [one for one in handed_in if one not in LATER])
-                self.grade(*words, submissions="export")
-                self.export(site, handed_in)
+                self.export(site, [one for one in handed_in if one not in LATER], tasks)
+                grade(*words, submissions="export")
+                self.export(site, handed_in, tasks)
                 again = [site.format(site.again, one) for one in LATER]
-                book = self.grade(*words, "--only", *again, submissions="export")
+                book = grade(*words, "--only", *again, submissions="export")
                 self.expect("students", len(book), len(STUDENTS))
                 for line in "30 on the roster submitted nothing:", f"export is read by --layout {name}":
                     self.expect(line, line in self.said, True)
-                self.expect("merged", self.text("grades/merged.csv"), site.table(POINTS))
+                self.expect("merged", self.text("grades/merged.csv"), site.table(points))
                 by_id = {line["id"]: line for line in book.values()} if name != "github" else {}
                 for student in STUDENTS:
                     line = by_id.get(student.id) or book[student.user]
                     days = "1" if student.is_late and student.kind else ""
                     attempt = f"{student.attempt}" if student.kind and name in ("canvas", "gradescope") else ""
                     self.expect(f"{student.name}", (line["total"], line["days late"], line.get("attempt", "")),
-                                (POINTS[student.kind], days, attempt))
+                                (points[student.kind], days, attempt))
                 files = "export/*" if name == "canvas" else "export"
                 self.shell(f"mv grades late; python3 -m zipfile -c export.zip {files}")
-                self.grade(*words, submissions="export.zip")
-                self.expect("anew", self.shell("diff -r -x marks.json -x feedback.zip grades late"), (0, b""))
+                grade(*words, submissions="export.zip")
+                self.expect("anew", self.shell("diff -r grades late"), (0, b""))
 
     def test_tables(self):
         """Whom two lines name is filled nowhere, which is said; what a table lacks is said before anybody is graded."""
