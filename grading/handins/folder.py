@@ -3,19 +3,20 @@ import errno
 import json
 import os
 import re
+import select
 import shutil
-import socket
 import stat
 import subprocess
 import sys
 import tempfile
 from contextlib import ExitStack, contextmanager, suppress
-from functools import cache, cached_property
+from functools import cached_property
 from glob import glob
-from itertools import islice
+from itertools import accumulate, islice
 from pathlib import Path
 from threading import Lock
 
+import judge
 from handins import unpack
 from handins.unpack import MOST_NAMES, MOST_PACKED
 from judge import CannotGrade
@@ -29,7 +30,7 @@ META = {"__MACOSX", ".git", ".github", ".DS_Store", "Thumbs.db", "desktop.ini", 
 AGAIN = re.compile(r" ?\(\d{1,3}\)(?=\.|$)")        # how browsers name what was downloaded before
 # Errors that are no student's.
 OURS = (errno.ENFILE, errno.EMFILE, errno.ENOMEM, errno.EIO, errno.ENOSPC, errno.EDQUOT)
-LOCK = Lock()       # who has it may have something unpacked
+LOCK, IDLE = Lock(), []     # who has it may have something unpacked, by the process that is idle
 STRANGE = {errno.ELOOP: "It is a link", errno.ENXIO: "It is no regular file", errno.ENOTDIR: "The folder is a link"}
 
 
@@ -38,21 +39,48 @@ def is_meta(path):
     return any(part in META or part.startswith("._") for part in path.split("/"))
 
 
-@cache
-def unpacker():
-    """A channel to the process that unpacks archives, in bubblewrap where that works."""
-    bubblewrap = [shutil.which("bwrap"), "--unshare-all", "--new-session", "--cap-drop", "ALL"]
+def begun():
+    """A process that unpacks archives, in bubblewrap where that works."""
+    bubblewrap = [shutil.which("bwrap"), "--unshare-all", "--new-session", "--die-with-parent", "--cap-drop", "ALL"]
     for path in "/usr", *glob("/lib*"), sys.base_prefix, "/etc/ld.so.cache":
         bubblewrap += ["--ro-bind-try", path, path]
     python = [os.path.realpath(sys.executable), "-ISc", Path(unpack.__file__).read_text("utf-8")]
     for words in [[*bubblewrap, "--", *python]] * bool(bubblewrap[0]) + [python]:
-        channel, its = socket.socketpair(socket.AF_UNIX, socket.SOCK_SEQPACKET)
-        with its:
-            subprocess.Popen(words, stdin=its, stdout=subprocess.DEVNULL, stderr=subprocess.DEVNULL, cwd="/",
-                             env={**os.environ, "LC_ALL": "C"}, start_new_session=True)
-        if channel.recv(8):
-            return channel
+        process = subprocess.Popen(words, stdin=subprocess.PIPE, stdout=subprocess.PIPE, stderr=subprocess.DEVNULL,
+                                   cwd="/", env={**os.environ, "LC_ALL": "C"})
+        if process.stdout.readline():
+            return process
     raise CannotGrade("archives can't be unpacked: Python doesn't begin")
+
+
+def answer(process, archives):
+    """What a process finds in archives: of each file archive's number, path and size; what is wrong; and all bytes.
+    Nothing where it ends, and it ends where it doesn't answer."""
+    with suppress(OSError, ValueError), ExitStack() as stack:
+        stack.enter_context(process)
+        stack.callback(process.kill)
+        process.stdin.write(json.dumps([*map(len, archives)]).encode() + b"\n")
+        process.stdin.writelines(archives)
+        process.stdin.flush()
+        while not select.select([process.stdout], [], [], 0.1)[0]:
+            if judge.stopped.is_set():
+                raise KeyboardInterrupt
+        found, wrong = json.loads(process.stdout.readline())
+        data = process.stdout.read(sum(size for *_, size in found))
+        stack.pop_all()
+        return found, wrong, data
+
+
+def unpacked_apart(archives):
+    """The same of the process that has unpacked others; where it ends a new one has to try, which has all limits."""
+    while True:
+        is_new = not IDLE
+        process = begun() if is_new else IDLE.pop()
+        found = answer(process, archives)
+        if found:
+            IDLE.append(process)
+        if found or is_new:
+            return found or ([], [0, f"it takes more than {unpack.SECONDS} s or {unpack.MOST_MEMORY >> 20} MiB"], b"")
 
 
 @contextmanager
@@ -132,28 +160,21 @@ class Folder:
         return self.given is not None or {*self.paths} == {*self.archives()} != set()
 
     def members(self, names):
-        """By path place and size in the store of each file in archives, which are stored one after another."""
-        sizes, self.store = [], tempfile.TemporaryFile()
+        """By path place and size in the store of each file in archives."""
+        archives, self.store = [], tempfile.TemporaryFile()
         with LOCK:
             for name in names:
-                sizes.append(self.store.write(self.read(name, MOST_PACKED)))
-                if sum(sizes) > MOST_PACKED:
+                archives.append(self.read(name, MOST_PACKED))
+                if sum(map(len, archives)) > MOST_PACKED:
                     raise NoRows("refused", f"Archives have more than {MOST_PACKED >> 20} MiB.")
+            found, wrong, data = unpacked_apart(archives)
+            self.store.write(data)
             self.store.flush()
-            try:
-                socket.send_fds(unpacker(), [json.dumps(sizes).encode()], [self.store.fileno()])
-                status = os.waitstatus_to_exitcode(int(unpacker().recv(8)))
-            except (OSError, ValueError) as why:
-                unpacker.cache_clear()
-                raise CannotGrade("the process that unpacks archives was ended") from why
-        if status == unpack.NO_SPACE:
-            raise OSError(errno.ENOSPC, "archives can't be unpacked", tempfile.gettempdir())
-        found, wrong = [], [0, f"it takes more than {unpack.SECONDS} s or {unpack.MOST_MEMORY >> 20} MiB"]
-        if not status:
-            found, wrong = json.loads(os.pread(self.store.fileno(), unpack.MOST_FOUND, unpack.FOUND_AT))
         if wrong:
             raise NoRows("refused", f"{shown(names[wrong[0]])} can't be unpacked: {shown(wrong[1])}.")
-        return {f"{names[number]}/{path}": (at, size) for number, path, at, size in found if not is_meta(path)}
+        ends = accumulate(size for *_, size in found)
+        return {f"{names[number]}/{path}": (end - size, size) for (number, path, size), end in zip(found, ends)
+                if not is_meta(path)}
 
     def unpacked(self):
         """The same of all archives that are there; they are unpacked once."""

@@ -3,12 +3,12 @@ import bz2
 import gzip
 import io
 import json
-import os
 import resource
 import signal
-import socket
 import stat
+import sys
 import tarfile
+import time
 import zipfile
 from functools import partial
 from itertools import islice
@@ -18,10 +18,7 @@ MOST_PACKED = 1 << 24       # bytes
 MOST_NAMES = 1000           # files
 MOST_MEMORY = 1 << 27       # bytes of addresses, of which Python itself has 20 MiB
 SECONDS, CLOCK = 10, 300    # of processor time, and by the clock
-FOUND_AT = 1 << 25          # where what was found is written, after archives and what is in them
-MOST_FOUND = 1 << 20        # bytes of that
-NO_SPACE = 9                # the status of a child that can't write, which is no student's fault
-LIMITS = {resource.RLIMIT_AS: MOST_MEMORY, resource.RLIMIT_CPU: SECONDS, resource.RLIMIT_FSIZE: FOUND_AT + MOST_FOUND}
+MOST_SAID = 1 << 20         # bytes of the line that says what was found
 OPENERS = {b"\x1f\x8b": gzip.open, b"BZh": bz2.open}
 
 
@@ -52,57 +49,44 @@ def unpacked(data, names, left):
     return [(path, opened().read(size)) for path, size, opened in found]
 
 
-def unpack(store, sizes):
-    """Appends what is in a file of archives to it. Of each file the archive's number, path, place and size; and of an
-    archive that can't be unpacked its number and why."""
-    found, start, left = [], 0, MOST_PACKED
-    for number, size in enumerate(sizes):
+def unpack(archives):
+    """Of each file in archives the archive's number, path and bytes; and number and why of one that is refused."""
+    found, left = [], MOST_PACKED
+    for number, data in enumerate(archives):
         try:
-            files = unpacked(os.pread(store.fileno(), size, start), MOST_NAMES - len(found), left)
+            files = unpacked(data, MOST_NAMES - len(found), left)
         except MemoryError:
             raise
         except Exception as why:        # whatever is wrong with it
             return [], [number, f"{why}"]
-        for path, data in files:
-            found.append((number, path, store.seek(0, os.SEEK_END), store.write(data)))
-        start, left = start + size, left - sum(len(data) for _, data in files)
+        found += [(number, *file) for file in files]
+        left -= sum(len(data) for _, data in files)
     return found, None
 
 
-def work(store, sizes):
-    """Unpacks within limits, and ends with status 0 where what was found is written."""
-    status = 1
-    try:
+def limit(kind, most):
+    hard = resource.getrlimit(kind)[1]
+    resource.setrlimit(kind, (most if hard < 0 else min(most, hard), hard))
+
+
+def serve(asked, made):
+    """Answers each line of sizes, which archives of these follow, by a line of what is in them, which all bytes of that
+    follow. It ends where that takes more than it may."""
+    limit(resource.RLIMIT_AS, MOST_MEMORY)
+    made.write(b"begun\n")
+    made.flush()
+    for line in asked:
+        limit(resource.RLIMIT_CPU, int(time.process_time()) + SECONDS)
         signal.alarm(CLOCK)
-        for kind, most in LIMITS.items():
-            if not 0 <= resource.getrlimit(kind)[1] < most:
-                resource.setrlimit(kind, (most, most))
-        found = json.dumps(unpack(store, sizes)).encode()
-        if len(found) > MOST_FOUND:
-            found = json.dumps([[], [0, "names of files are too long"]]).encode()
-        store.seek(FOUND_AT)
-        store.write(found)
-        store.flush()
-        status = 0
-    except OSError:
-        status = NO_SPACE
-    finally:
-        os._exit(status)
-
-
-def serve(channel):
-    """Unpacks files of archives as they are asked for, each in a child of its own, and answers with its status."""
-    channel.send(b"begun")
-    while True:
-        sizes, files, *_ = socket.recv_fds(channel, 1 << 16, 1)
-        if not files:
-            return
-        with open(files[0], "r+b") as store:
-            child = os.fork()
-            if not child:
-                work(store, json.loads(sizes))
-        channel.send(b"%d" % os.waitpid(child, 0)[1])
+        found, wrong = unpack([asked.read(size) for size in json.loads(line)])
+        said = json.dumps([[(number, path, len(data)) for number, path, data in found], wrong])
+        if len(said) > MOST_SAID:
+            found, said = [], json.dumps([[], [0, "names of files are too long"]])
+        made.write(said.encode() + b"\n")
+        made.writelines(data for _, _, data in found)
+        made.flush()
+        signal.alarm(0)
 
 
 if __name__ == "__main__":
-    serve(socket.socket(fileno=0))
+    serve(sys.stdin.buffer, sys.stdout.buffer)
