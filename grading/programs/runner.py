@@ -36,8 +36,8 @@ BUILD = f'{UNPACK}prlimit --fsize={MOST_WRITTEN} "$@" </dev/null >&2 && exec tar
 SECONDS = 60        # for reading a student's folder
 LINES = 10          # of standard error that are shown, after the first
 NEEDED = "Debian's package bubblewrap, 0.8 or later, has to be installed and allowed, or see --unconfined"
-PACKAGES = {"find": "findutils", "getent": "libc-bin", "prlimit": "util-linux", "setpriv": "util-linux", "tar": "tar",
-            "taskset": "util-linux", "timeout": "coreutils"}        # of Debian, by command
+PACKAGES = {"coreutils": "cat chmod env rm test timeout", "dash": "sh", "findutils": "find", "libc-bin": "getent",
+            "tar": "tar", "util-linux": "prlimit setpriv taskset"}      # of Debian, with their commands
 LOOKED = "Memory was looked at ten times a second, and not bounded exactly, since systemd-run doesn't work here."
 STEP = 0.1              # seconds from one look at what is used to the next
 STARVED = 0.1           # of the time that a program has, what it may wait for the processor
@@ -163,9 +163,9 @@ class Runner:
         for _, core in zip(range(asked.jobs), itertools.cycle(sorted(os.sched_getaffinity(0)))):
             self.cores.put(core)
         self.jobs, is_root = 1 if asked.unconfined else asked.jobs, os.geteuid() == 0
-        for name in PACKAGES:
+        for package, name in ((package, name) for package, names in PACKAGES.items() for name in names.split()):
             if not shutil.which(name):
-                raise CannotGrade(f"programs can't be run: {name} is not on the PATH (Debian: {PACKAGES[name]})")
+                raise CannotGrade(f"programs can't be run: {name} is not on the PATH (Debian: {package})")
         scope = ["systemd-run", *["--user"] * (not is_root), "--scope", "--quiet", "--collect",
                  f"-pMemoryMax={asked.memory}M", "-pMemorySwapMax=0", f"-pTasksMax={asked.processes + 16}"]
         for walls in [NoWalls] if asked.unconfined else [Bubblewrap, *[NoWalls] * bool(asked.gradescope and is_root)]:

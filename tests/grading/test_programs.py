@@ -18,9 +18,9 @@ from harness.program import TESTED, TOP, needs, needs_bubblewrap
 PROGRAM = ("--program", "./schedule")
 WARNING = "Without walls any program may have falsified marks, and read and written what its user may."
 LOOKED = "Memory was looked at ten times a second, and not bounded exactly, since systemd-run doesn't work here."
-# Commands that a grading starts; Debian's package of those without which there is none.
-COMMANDS = {"bwrap": "", "cc": "", "find": "findutils", "getent": "libc-bin", "prlimit": "util-linux",
-            "setpriv": "util-linux", "systemd-run": "", "tar": "tar", "taskset": "util-linux", "timeout": "coreutils"}
+# Commands that a grading starts, by Debian's package of those without which there is none.
+COMMANDS = {"": "bwrap cc systemd-run", "coreutils": "cat chmod env rm test timeout", "dash": "sh", "tar": "tar",
+            "findutils": "find", "libc-bin": "getent", "util-linux": "prlimit setpriv taskset"}
 NOBODY = 65534
 TO_NOBODY = [shutil.which("setpriv") or "setpriv", "--reuid", f"{NOBODY}", "--regid", f"{NOBODY}", "--clear-groups"]
 
@@ -96,7 +96,7 @@ class ByRoot(Programs):
     def test_commands(self):
         """Without a command programs run all the same, or it is named with its package."""
         self.hand_in_program("right", "cat rows\n")
-        for name, package in COMMANDS.items():
+        for package, name in ((package, name) for package, names in COMMANDS.items() for name in names.split()):
             path, due = self.path_without(name), f"{name} is not on the PATH (Debian: {package})"
             for words in "submissions", "submissions --unconfined", "submissions/right --gradescope json":
                 status, *said = self.call(*self.user, "ilocgrade", BOTH, *words.split(), *PROGRAM, PATH=path)
@@ -203,11 +203,14 @@ class Unwalled(Programs):
         words = (*PROGRAM, "--unconfined", "--memory", "64")
         self.hand_in_program("kills", "kill -9 $$\n")
         self.hand_in_program("says", "yes >&2\n")
+        for name in "zipped", "zipped too":
+            self.hand_in_program(name, "$ python3 -m zipfile -c x.zip schedule rows; rm schedule rows\ncat rows\n")
         self.hand_in_program("holds", "(python3 -c 'import time\nheld = b\"x\" * (99 << 20), open(\"held\", \"x\")\n"
                              "time.sleep(99)' &)\nuntil [ -e held ]; do sleep 0.1; done; sleep 1; cat rows\n")
         book = self.grade(*words)
         self.expect("said", self.said.splitlines()[-1], f"ilocgrade: {WARNING} {LOOKED}")
-        self.expect("verdict", book["right"]["both verdict"], "lawful")
+        passed = [name for name, line in book.items() if line["both verdict"] == "lawful"]
+        self.expect("passed", passed, ["right", "zipped", "zipped too"])
         self.expect("report", WARNING in self.text("grades/report.html"), True)
         self.expect("feedback", [self.feedback(name)[-1] for name in ("kills", "says", "holds")], [
             "  It ended with signal 9.", "  It printed more than 16 MiB of errors.", "  It used more than 64 MiB."])
