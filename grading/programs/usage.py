@@ -9,18 +9,6 @@ TICKS, PAGE = os.sysconf("SC_CLK_TCK"), os.sysconf("SC_PAGE_SIZE")
 INODE = 1 << 10     # bytes of memory that a file costs, however short
 
 
-def limit(name):
-    """The last number in a file of /proc/sys/net, or 4 MiB where there is none."""
-    with suppress(OSError):
-        return int(Path(f"/proc/sys/net/{name}").read_text().split()[-1])
-    return 1 << 22
-
-
-# The most bytes that a socket may hold: a local one, and one of the network.
-LOCAL = 2 * limit("core/wmem_max")
-INET = sum(max(limit(f"ipv4/tcp_{way}"), 2 * limit(f"core/{way}_max")) for way in ("rmem", "wmem"))
-
-
 def text_of(path):
     """A file of /proc; nothing where the process has ended."""
     with suppress(OSError):
@@ -30,8 +18,18 @@ def text_of(path):
 
 def numbers(path, before=""):
     """The numbers after a pattern in a file of /proc, to the end of their line."""
-    found = re.search(rf"{before}([-0-9 ]*)", text_of(path), re.DOTALL)
+    found = re.search(rf"{before}([-0-9 \t]*)", text_of(path), re.DOTALL)
     return [*map(int, found[1].split())] if found else []
+
+
+def limit(name):
+    """The last number in a file of /proc/sys/net, or 4 MiB where there is none."""
+    return [1 << 22, *numbers(f"/proc/sys/net/{name}")][-1]
+
+
+# The most bytes that a socket may hold: a local one, and one of the network.
+LOCAL = 2 * limit("core/wmem_max")
+INET = sum(max(limit(f"ipv4/tcp_{way}"), 2 * limit(f"core/{way}_max")) for way in ("rmem", "wmem"))
 
 
 def stat(path):
