@@ -21,29 +21,17 @@ def are_by_the_book(block, rows, latencies, origins):
 
 
 def origins_of(block, rows, latencies):
-    """Of rows that aren't by the book the numbers of operations that can be no other's: of one whose term none but it has on
-    either side, if it reads what is numbered as what that one reads; and of the last of its label on both sides."""
-    known = known_by_terms(Reasons(block, rows, latencies))
-    ops, issued = [op for op in block if op.opcode != "nop"], [op for _, op in issued_in(rows)]
-    here = by_label(ops, lambda i: i not in known)
-    there = by_label(issued, lambda k: known[k] is None)
-    return [here[label(op)][0] if origin is None and [len(side.get(label(op), ())) for side in (here, there)] == [1, 1]
-            else origin for op, origin in zip(issued, known)]
-
-
-def known_by_terms(reasons):
-    counts, known = (Counter(reasons.here), Counter(reasons.there)), []
+    """Of rows that aren't by the book the numbers of operations that can be no other's: of one whose term is on either
+    side once, if it reads what is numbered as what that one reads; and of the last of its label on both sides."""
+    reasons, known = Reasons(block, rows, latencies), []
+    terms = Counter(reasons.here), Counter(reasons.there)
     for term, read in zip(reasons.there, reasons.read):
-        origin = reasons.here.index(term) if all(count[term] == 1 for count in counts) else None
+        origin = reasons.here.index(term) if all(count[term] == 1 for count in terms) else None
         is_known = origin is not None and all(k is None or known[k] is not None for k in read)
         sources = [None if k is None else known[k] for k in read]
         known.append(origin if is_known and sources == reasons.given[origin] else None)
-    return known
-
-
-def by_label(ops, is_left):
-    """The numbers of operations that are left, by label."""
-    found = {}
-    for k in filter(is_left, range(len(ops))):
-        found.setdefault(label(ops[k]), []).append(k)
-    return found
+    here = [(label(op), k) for k, op in enumerate(reasons.ops) if k not in known]
+    there = [label(op) for (_, op), origin in zip(reasons.issued, known) if origin is None]
+    left, numbers = [Counter(found for found, _ in here), Counter(there)], dict(here)
+    return [numbers[label(op)] if origin is None and all(count[label(op)] == 1 for count in left) else origin
+            for (_, op), origin in zip(reasons.issued, known)]
