@@ -5,6 +5,7 @@ import os
 import re
 import select
 import shutil
+import signal
 import stat
 import subprocess
 import sys
@@ -72,14 +73,15 @@ def answer(process, archives):
 
 
 def unpacked_apart(archives):
-    """The same of the process that has unpacked others; where it ends a new one has to try, which has all limits."""
+    """The same of the process that has unpacked others; where it ends before its time a new one, with all memory, has to
+    try."""
     while True:
         is_new = not IDLE
         process = begun() if is_new else IDLE.pop()
         found = answer(process, archives)
         if found:
             IDLE.append(process)
-        if found or is_new:
+        if found or is_new or abs(process.returncode) % 128 == signal.SIGXCPU:      # bubblewrap's status is 128 more
             return found or ([], [0, f"it takes more than {unpack.SECONDS} s or {unpack.MOST_MEMORY >> 20} MiB"], b"")
 
 
