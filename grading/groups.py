@@ -1,5 +1,4 @@
 """Groups of students who submit together, as a table has them."""
-import shutil
 from collections import defaultdict
 from dataclasses import replace
 
@@ -37,17 +36,3 @@ def partners(students, names):
     """The names, and those of students who submitted together with these."""
     wanted = {student.hand_in() for student in students if student.path and {*student.keys()} & {*map(key_of, names)}}
     return [*names, *(student.name for student in students if student.hand_in() in wanted)]
-
-
-def mark_once(students, mark, home_of):
-    """Marks students by a call for several: of those who submitted together one, whose marks and feedback all have."""
-    first = {}
-    for student in students:
-        first.setdefault(student.hand_in(), student)
-    mark([*first.values()])
-    for student in students:
-        one = first[student.hand_in()]
-        if one is not student:
-            student.row = [replace(mark, lines=[*mark.lines]) for mark in one.row]
-            if home_of(one.name).is_dir():
-                shutil.copytree(home_of(one.name), home_of(student.name))

@@ -81,7 +81,8 @@ def unpacked_apart(archives):
         found = answer(process, archives)
         if found:
             IDLE.append(process)
-        if found or is_new or abs(process.returncode) % 128 == signal.SIGXCPU:      # bubblewrap's status is 128 more
+        is_late = abs(process.returncode or 0) % 128 == signal.SIGXCPU      # bubblewrap's status is 128 more
+        if found or is_new or is_late:
             return found or ([], [0, f"it takes more than {unpack.SECONDS} s or {unpack.MOST_MEMORY >> 20} MiB"], b"")
 
 

@@ -64,19 +64,16 @@ def unpack(archives):
     return found, None
 
 
-def limit(kind, most):
-    hard = resource.getrlimit(kind)[1]
-    resource.setrlimit(kind, (most if hard < 0 else min(most, hard), hard))
-
-
 def serve(asked, made):
     """Answers each line of sizes, which archives of these follow, by a line of what is in them, which all bytes of that
     follow. It ends where that takes more than it may."""
-    limit(resource.RLIMIT_AS, MOST_MEMORY)
     made.write(b"begun\n")
     made.flush()
     for line in asked:
-        limit(resource.RLIMIT_CPU, int(time.process_time()) + SECONDS)
+        limits = {resource.RLIMIT_AS: MOST_MEMORY, resource.RLIMIT_CPU: int(time.process_time()) + SECONDS}
+        for kind, most in limits.items():
+            hard = resource.getrlimit(kind)[1]
+            resource.setrlimit(kind, (most if hard < 0 else min(most, hard), hard))
         signal.alarm(CLOCK)
         found, wrong = unpack([asked.read(size) for size in json.loads(line)])
         said = json.dumps([[(number, path, len(data)) for number, path, data in found], wrong])

@@ -33,11 +33,11 @@ def covered(bound, hidden):
 class Walls:
     """What all have in common. For root, who owns much of /proc, a user whom nobody else is, nor another grading."""
     sizes, warning = {}, ""     # in bytes, by path of a file system in memory; what is said beside the marks
+    hidden = ()                 # what programs must not be able to read
     others = 0                  # processes of its user that aren't the run's
     top = None                  # the process below which all of a run is, if not the run's first
 
-    def __init__(self, asked, hidden):
-        self.hidden = hidden
+    def __init__(self):
         self.number, self.user = None, []
         if os.geteuid() == 0:
             self.number = next(user for user in random.sample(OWN_USERS, 99) if subprocess.call(
@@ -47,14 +47,15 @@ class Walls:
 
     def reached(self):
         """What of what is hidden a program could read, or nothing."""
-        return ""
+        reads = (path for path in self.hidden if not subprocess.run([*self.user, "test", "-r", path]).returncode)
+        return next((f"{path} can be read, which `chmod 700` prevents" for path in reads), "")
 
 
 class Bubblewrap(Walls):
     """The machine of bubblewrap.words, with the student's folder and a task."""
 
     def __init__(self, asked, hidden):
-        super().__init__(asked, hidden)
+        super().__init__()
         self.sizes = {"/work": asked.memory << 20, "/tmp": 1 << 24, "/dev/shm": 1 << 22}
         bound = [folder for folder in map(os.path.realpath, asked.bind) if os.path.exists(folder)]
         words = Path(f"{HERE}/bubblewrap.words").read_text().format(*self.sizes.values())
@@ -86,7 +87,7 @@ class NoWalls(Walls):
     top = os.getpid()
 
     def __init__(self, asked, hidden):
-        super().__init__(asked, hidden)
+        super().__init__()
         self.hidden = [] if asked.unconfined else hidden
         self.warning = NO_WALLS * bool(asked.unconfined)        # else it is of one student, who has no neighbour
         ctypes.CDLL(None).prctl(SUBREAPER, 1, 0, 0, 0)
@@ -112,7 +113,3 @@ class NoWalls(Walls):
                     os.waitpid(each, 0)
             for words in ["chmod", "-R", "u+rwx", made], ["rm", "-rf", made]:
                 subprocess.run(words, stderr=subprocess.DEVNULL)
-
-    def reached(self):
-        reads = (path for path in self.hidden if not subprocess.run([*self.user, "test", "-r", path]).returncode)
-        return next((f"{path} can be read, which `chmod 700` prevents" for path in reads), "")
