@@ -2,14 +2,12 @@
 import random
 import re
 import time
-from pathlib import Path
 from xml.etree import ElementTree
 
 import stepper
-from cases.test_stored import CASES, read
+from cases.test_stored import stored_runs
 from harness.browser import LEAST_CONTRAST, contrast
 from harness.place import Place
-from harness.program import TOP
 from listing import CHAIN, WRONG, lines_of
 from oracle.drawn import lab_block
 from oracle.operations import text_of
@@ -18,7 +16,7 @@ from traced import read_traces
 
 SVG = "{http://www.w3.org/2000/svg}"
 # A stored case, and its listing.
-BLOCK, EXPLAINED = (read(f"{CASES}/product_and_sum.{ending}", None) for ending in ("in", "explain.out"))
+BLOCK, EXPLAINED = stored_runs()["product_and_sum"].given, stored_runs()["product_and_sum.explain"].out
 ISSUED = ["loadI 4 => r0: unit 0, issued at 0, arrives at 1", "loadI 8 => r1: unit 1, issued at 0, arrives at 1",
           "load r0 => r3: unit 0, issued at 1, arrives at 6", "mult r0, r1 => r2: unit 1, issued at 1, arrives at 4",
           "add r2, r3 => r4: unit 0, issued at 6, arrives at 7", "store r4 => r1: unit 0, issued at 7, arrives at 12",
@@ -136,13 +134,12 @@ class Charts(Place):
 
     def test_timeline_of_rows_explained(self):
         """Each operation as it is issued; a register that is used again blames no latency."""
-        task, handed_in = (f"{TOP}/tests/cases/stored/rows_explained.{ending}" for ending in ("task", "in"))
-        given = Path(handed_in).read_bytes()
-        rows = self.call("ilocfarm", "explain", "--task", task, given=given)[1]
+        words, given = stored_runs()["rows_explained"].words, stored_runs()["rows_explained"].given
+        rows = self.call("ilocfarm", *words, given=given)[1]
         root = self.picture("charts/timeline", given=rows)
         self.expect("tooltip", tooltips(root)[3].splitlines()[0], "add r1, r2 => r1")
         self.expect("title", root.findtext("title"), "block 1: 14 cycles, at least 13")
-        early = self.call("ilocfarm", "explain", "--task", task, given=given.replace(b"[ ]\n", b""))
+        early = self.call("ilocfarm", *words, given=given.replace(b"[ ]\n", b""))
         self.refuses("timeline", (), early[1], "the rows of block 1 are not lawful: row 3: add r1, r2 => r1 reads r1, "
                      "which row 1: load r9 => r1 brings in row 6; row 3: add r1, r2 => r1 reads r2, "
                      "which row 2: loadAI r9, 4 => r2 brings in row 7")

@@ -4,14 +4,15 @@ import os
 import resource
 import select
 import subprocess
+from pathlib import Path
 
 from bench import measure
-from cases.test_stored import CASES, read
+from cases.test_stored import stored_runs
 from harness.program import ALL, SECONDS, TESTED, Run, ending, folder, listed, refused, stored, told
 from harness.suite import Check, table
 from language import MOST_BLOCKS, MOST_BYTES
 
-FIRST = read(f"{CASES}/first.in", b"")
+FIRST = stored_runs()["first"].given
 ROWS = (b"[ loadI 1024 => r0 ; loadI 7 => r1 ]\n[ store r1 => r0 ; nop ]\n" + b"[ nop ; nop ]\n" * 4
         + b"[ output 1024 ; nop ]\n")
 LAWFUL = b"block 1 - lawful cycles 7 ours 7 least 7\ntotal 7 ours 7 least 7\n"
@@ -57,8 +58,8 @@ def inputs(command):
     def unread(name, by):
         return refused(f"device/{name}/{command}", b"", UNREAD, 4, [command], by=by)
 
-    name = "first.out" if command in ("run", "simulate") else f"first.{command}.out"
-    given, out = (FIRST + ROWS, LAWFUL) if command == "check" else (FIRST, read(f"{CASES}/{name}", b""))
+    name = "first" if command in ("run", "simulate") else f"first.{command}"
+    given, out = (FIRST + ROWS, LAWFUL) if command == "check" else (FIRST, stored_runs()[name].out)
     yield listed(f"device/one_byte_at_a_time/{command}", given, out, [command], by=bytewise)
     yield refused(f"device/input_without_end/{command}", b"", b"input longer than 16777216 bytes", 1, [command],
                   by=redirected("</dev/zero"))
@@ -97,7 +98,7 @@ def with_room(size, stream="stdout"):
             how = {stream: file, "restore_signals": False,
                    "preexec_fn": lambda: resource.setrlimit(resource.RLIMIT_FSIZE, (size, size))}
             status, out, err = ending(words, given, **how)
-        held = read(path, b"")
+        held = Path(path).read_bytes()
         return (status, held, err) if stream == "stdout" else (status, out, held)
     return by
 

@@ -1,10 +1,8 @@
 """The cases of stored/.
 
-NAME.in is an input, and NAME.args the words after the program's name, one a line (none: `run`). Where there is a file
-NAME.task, the words `--task` and its path follow them. NAME.status is the exit status (none: 0), NAME.out what standard
-output must have (none: some text), NAME.err what standard error must have (none: nothing where the status is 0, else
-some text). NAME.TAG.out is what other words must print of the same input: those of NAME.TAG.args (none: the one word
-TAG).
+Below `= NAME` is an input, and below `- STATUS WORDS` what the program prints of it then, on standard error where it
+refuses the text or the words. Where there is a text below `- task`, the words `--task` and its path follow the others.
+A run is named by its case; those after its first one by their words too.
 
 From these follow more cases, since a rule of the program says so:
 - NAME/spaced has blanks round each line end and no last line end, which change no answer;
@@ -12,51 +10,44 @@ From these follow more cases, since a rule of the program says so:
 - a text that is refused is refused by every command alike;
 - what `schedule`, `counts`, `compare` and `optimize` print doesn't depend on the number of workers.
 """
-import os
+from functools import cache
 from pathlib import Path
 
-from harness.program import ALL, FARMED, Run
-from harness.suite import table
+from harness.program import ALL, FARMED, Run, stored
+from harness.suite import sections, table
 
-CASES = os.path.join(os.path.dirname(os.path.abspath(__file__)), "stored")
-
-
-def read(path, otherwise):
-    if not os.path.exists(path):
-        return otherwise
-    return Path(path).read_bytes()
+WITH_LISTING = ("0", "5")     # the statuses of runs that say nothing on standard error
 
 
-def words_of(path, otherwise):
-    return read(path, otherwise).decode().split("\n")[:-1]
+@cache
+def stored_runs():
+    """The runs of each case, by their names."""
+    cases = [case for path in Path(__file__).with_name("stored").glob("*.cases") for case in sections(path)]
+    runs = [run for case in cases for run in runs_of(*case)]
+    named = {run.name: run for run in runs}
+    assert len(named) == len(runs), "two cases of one name"
+    assert {name for (name,), *_ in cases} <= {*named}, "a case without a run"
+    return named
+
+
+def runs_of(head, given, parts):
+    (name,), task, tag = head, [], None
+    for (kind, *words), text in parts:
+        data = text.encode("latin-1")
+        if kind == "task":
+            task = ["--task", stored(f"{name}.task", data)]
+        else:
+            tag = "" if tag is None else "." + "_".join(words).replace("--", "")
+            outputs = (data, b"") if kind in WITH_LISTING else (b"", data)
+            yield Run(name + tag, words + task, given.encode("latin-1"), *outputs, int(kind))
 
 
 def stored_cases():
-    for name in sorted(f[:-3] for f in os.listdir(CASES) if f.endswith(".in")):
-        base = os.path.join(CASES, name)
-        words = words_of(base + ".args", b"run\n")
-        if os.path.exists(base + ".task"):
-            words += ["--task", base + ".task"]
-        given = read(base + ".in", b"")
-        status = int(read(base + ".status", b"0"))
-        out, err = read(base + ".out", None), read(base + ".err", None if status else b"")
-        case = Run(name, words, given, out, err, status)
-        yield from spelled_twice(case)
-        yield from as_simulated(case)
-        yield from refused_by_all(case)
-        for tag in sorted(tags_of(name)):
-            words = words_of(f"{base}.{tag}.args", tag.encode() + b"\n")
-            out = read(f"{base}.{tag}.out", b"")
-            for other in spelled_twice(Run(f"{name}.{tag}", words, given, out, b"", 0)):
-                yield other
-                yield from by_workers(other)
-
-
-def tags_of(name):
-    for file in os.listdir(CASES):
-        parts = file.split(".")
-        if len(parts) == 3 and parts[0] == name and parts[2] == "out":
-            yield parts[1]
+    for run in stored_runs().values():
+        yield from refused_by_all(run)
+        yield from as_simulated(run)
+        for spelled in spelled_twice(run):
+            yield from by_workers(spelled)
 
 
 def again(case, mark, words, given=None):
@@ -85,7 +76,8 @@ def refused_by_all(case):
 
 
 def by_workers(case):
-    if case.words[0] in FARMED:
+    yield case
+    if case.status == 0 and case.words[0] in FARMED:
         for workers in range(1, 9):
             yield again(case, f"workers_{workers}", [*case.words, "--workers", str(workers)])
 

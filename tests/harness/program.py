@@ -71,7 +71,7 @@ def unlike(what, got, due):
 
 
 class Run(Case):
-    """How the program ends with these words on this input. `None` for an output is some text."""
+    """How the program ends with these words on this input."""
 
     def __init__(self, name, words, given, out, err, status, by=ending):
         super().__init__(name)
@@ -79,9 +79,8 @@ class Run(Case):
 
     def passes(self):
         got = dict(zip(("status", "standard output", "standard error"), self.by(self.words, self.given)))
-        wrong = [f"{what}: {short(got[what])} in place of {'some text' if due is None else short(due)}"
-                 for what, due in zip(got, (self.status, self.out, self.err))
-                 if (not got[what] if due is None else got[what] != due)]
+        wrong = [f"{what}: {short(got[what])} in place of {short(due)}"
+                 for what, due in zip(got, (self.status, self.out, self.err)) if got[what] != due]
         if wrong:
             self.fail("; ".join(wrong))
 

@@ -1,6 +1,8 @@
 """Cases for unittest: those of a table, and checks that give what is wrong."""
+import re
 import time
 import unittest
+from pathlib import Path
 
 SHOWN = 5       # faults of one check
 
@@ -38,6 +40,16 @@ def plain(text):
     """What a text in a file of cases stands for: bytes that can't be shown are there by their numbers, and `\\` before
     a line end is for none."""
     return text.encode().decode("unicode_escape")
+
+
+def sections(path):
+    """The cases of a file. Each is below a line `= HEAD`, and its texts are parted by lines `- WORDS`: its head, its
+    first text, and the words and text of each other one. A blank line before `= ` and lines from `#` on are no text."""
+    cases = re.split(r"^\n?= ", re.sub(r"^#.*\n", "", Path(path).read_text("ascii"), flags=re.M), flags=re.M)
+    for head, case in (case.split("\n", 1) for case in cases[1:]):
+        first, *others = re.split(r"^-(| .*)\n", case, flags=re.M)
+        parts = zip(others[::2], others[1::2])
+        yield head.split(), plain(first), [(words.split(), plain(text)) for words, text in parts]
 
 
 def rows_of(path):

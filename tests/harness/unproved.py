@@ -11,7 +11,7 @@ import subprocess
 import tempfile
 from pathlib import Path
 
-from cases.test_stored import CASES, stored_cases
+from cases.test_stored import stored_cases
 from harness.program import TOP
 from judged.test_json import undecided_cases
 from judged.test_rows import LISTED
@@ -21,9 +21,9 @@ STORED = (
     "results_of_a_constant", "results_of_two_registers", "words_are_patterns", "places_of_faults",
     "each_block_has_its_own_memory", "numbers_of_each_length", "addresses_wrap_to_faults/simulated_slowly",
     "first.schedule", "first.schedule/workers_3", "first.counts_store_1", "first.compare_csv", "first.lint",
-    "first.counts_csv", "orders_of_the_dot_product", "orders_of_the_dot_product.schedule_order",
-    "orders_of_the_dot_product.schedule_slack", "orders_of_the_dot_product.schedule_successors",
-    "products_that_want_one_row.optimize_100000", "products_that_want_one_row.compare_1",
+    "first.counts_csv", "orders_of_the_dot_product", "orders_of_the_dot_product.schedule_priority_order",
+    "orders_of_the_dot_product.schedule_priority_slack", "orders_of_the_dot_product.schedule_priority_successors",
+    "products_that_want_one_row.optimize_nodes_100000", "products_that_want_one_row.compare_nodes_1",
     "load_then_store_of_its_value.explain", "block_without_operations.graph", "explained_by_address",
     "drawn_by_address", "trace_of_changes", "trace_of_faults", "reasons", "rows_explained", "rows_traced",
     "outputs_of_checks", "table_of_checks", "version", "help_of_check",
@@ -55,7 +55,7 @@ def fill(folder, cases):
     for case in cases:
         Path(folder, named(case)).write_bytes(case.given)
         for word in case.words:
-            if word.startswith(CASES):
+            if os.path.isabs(word):
                 data[os.path.basename(word)] = word
         words = [os.path.basename(word) if word in data.values() else word for word in case.words]
         Path(folder, f"{named(case)}.args").write_text("".join(f"{word}\n" for word in words), "ascii")

@@ -1,10 +1,9 @@
 """Rows with their blocks and the verdicts due, and lines of schedules that are refused; memory has 9 at 4, else 0."""
 import re
-from pathlib import Path
 from typing import NamedTuple
 
 from harness.program import TOP, Run, ending, told, unlike
-from harness.suite import Check, plain, rows_of, table
+from harness.suite import Check, rows_of, sections, table
 from language import MOST_BLOCKS, MOST_BYTES, MOST_OPERATIONS, USUAL
 from oracle.book import MOST_FACTS
 from oracle.judge import ENTRY, NOT_SAME, entries_of, operations_of, status_of, total, why_void, wrong_ending
@@ -221,12 +220,8 @@ class Listed(NamedTuple):
 
 def listed_rows():
     """The cases of rows.cases, by name."""
-    cases = re.split(r"^= ", Path(f"{TOP}/tests/judged/rows.cases").read_text("ascii"), flags=re.MULTILINE)[1:]
-    for case in cases:
-        head, rest = re.sub("^#.*\n", "", case, flags=re.MULTILINE).split("\n", 1)
-        text, *listings = re.split(r"^-\n", rest, flags=re.MULTILINE)
-        name, *options = head.split()
-        yield name, Listed(plain(text), options, *(listing.rstrip("\n") + "\n" for listing in listings))
+    for (name, *options), text, listings in sections(f"{TOP}/tests/judged/rows.cases"):
+        yield name, Listed(text, options, *(listing for _, listing in listings))
 
 
 LISTED = dict(listed_rows())
