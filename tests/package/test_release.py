@@ -17,6 +17,7 @@ from pages.test_links import dead_links
 
 CLONED = ("build", "install", "launcher.sh", "package", "packaging", "charts", "cluster", "docs", "examples", "grading",
           "man", "CHANGELOG.md", "README.md", ".gitignore", "HANDLES", "crates.txt")
+PROMISES = "share/doc/ilocfarm/docs/PROMISES.md"
 WHEN = 1795959508               # 29 November 2026, 13:38:28 in Greenwich
 WHO, ADDRESS = "A & B|C", "a@b.example"
 GIT = {"GIT_CONFIG_NOSYSTEM": "1"}
@@ -62,6 +63,7 @@ class Clones(InFolder):
         for name in CLONED:
             copy = shutil.copytree if os.path.isdir(f"{TOP}/{name}") else shutil.copy2
             copy(f"{TOP}/{name}", self.path(f"one/{name}"))
+        self.script("one/tests/pages/promises.py", "#!/bin/sh\necho Promises\n")
         self.git("one", "init", "--quiet", "--initial-branch=main")
         self.commits("one")
 
@@ -136,15 +138,16 @@ class Release(Clones):
         os.rename(self.path(self.names()[0].removesuffix(".tar.gz")), self.path("unpacked"))
 
     def installed(self):
-        """The files that ./install installs."""
+        """The files that ./install installs, and the page of promises."""
         self.expect("install", self.call("./install", self.path("installed"), TESTED.program, at="one")[0], 0)
-        return files_below(self.path("installed"))
+        return files_below(self.path("installed")) | {PROMISES}
 
     def test_archive(self):
         """It has what ./install installs, and works where it is moved."""
         self.packages("one")
         self.unpacks("one")
         self.expect("files", files_below(self.path("unpacked")), self.installed())
+        self.expect("promises", self.text(f"unpacked/{PROMISES}"), "Promises\n")
         os.makedirs(self.path("a folder"))
         os.rename(self.path("unpacked"), self.path("a folder/of mine"))
         drawn = self.call("a folder/of mine/bin/ilocview", "timeline", *LAB, "one/examples/book.iloc")

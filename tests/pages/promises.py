@@ -1,13 +1,13 @@
 #!/usr/bin/env python3
-"""What each public contract promises, collected from the sources into docs/PROMISES.md.
+"""Prints what each public contract promises, by the sources: the page that a package has as docs/PROMISES.md.
 
-    tests/pages/promises.py --write
+    tests/pages/promises.py
 
 A row is a public call with an `ensures`, or a public type whose comment has a promise. Its sentence is the paragraph
 of its `///` that begins with `Promise:`, or the first one where none does. Its definitions are the modules of specs/
 that its clauses cite; below the rows are all that these and the public ghost items reach, in the crates below too.
 What is public is read from `pub use` and `pub mod` in src/lib.rt. Definitions of the toolchain's libraries are left
-out. test_promises.py compares the page with the sources.
+out.
 """
 import os
 import re
@@ -17,11 +17,10 @@ from pathlib import Path
 
 TOP = os.path.dirname(os.path.dirname(os.path.dirname(os.path.abspath(__file__))))
 CRATES = os.path.join(TOP, "crates")
-PAGE = os.path.join(TOP, "docs", "PROMISES.md")
 HEAD = """# Promises
 
 What each public contract promises, crate by crate: the call, its promise, the clauses that carry it, and the \
-definitions that these cite, modules of `specs/`. `tests/pages/promises.py --write` makes this page from the sources. \
+definitions that these cite, modules of `specs/`. `tests/pages/promises.py` makes this page from the sources. \
 [PROOFS.md](PROOFS.md) says how to read it, and what isn't promised.
 """
 WORD = re.compile(r"[^\W\d][\w-]*")
@@ -217,32 +216,11 @@ def section(crate, order):
     return "\n".join([f"## {crate.name}", "", crate.title, "", *table, f"They rest {'; '.join(parts)}.", ""])
 
 
-def sections():
-    """By crate what the page has to say of it, lowest first."""
+def page():
     names = re.findall(r"^(\w+)(?: [^:\n]*)?:", read(os.path.join(TOP, "crates.txt")), re.MULTILINE)
     libraries = [name for name in names if os.path.exists(os.path.join(CRATES, name, "src", "lib.rt"))]
-    return {name: section(Crate(name), names) for name in libraries if not name.endswith("_tests")}
-
-
-def faults():
-    """By crate what is wrong with its section of the page: a contract without a sentence, or another text; else ''."""
-    page = read(PAGE)
-    found = {part.split("\n", 1)[0]: f"## {part}".strip() for part in page.split("\n## ")[1:]}
-    due = sections()
-    for name, text in due.items():
-        silent = re.findall(r"^\| (`[\w:]+`) \|  \|", text, re.MULTILINE)
-        if silent:
-            yield name, f"no promise in the comment of {', '.join(silent)}"
-        else:
-            yield name, "" if found.get(name) == text.strip() else "it promises other things: promises.py --write"
-    yield "the page", "" if page.startswith(HEAD) and list(found) == list(due) else "it has other crates"
-
-
-def main():
-    if sys.argv[1:] != ["--write"]:
-        sys.exit(__doc__)
-    Path(PAGE).write_text("\n".join([HEAD, *sections().values()]), "utf-8")
+    return "\n".join([HEAD, *(section(Crate(name), names) for name in libraries if not name.endswith("_tests"))])
 
 
 if __name__ == "__main__":
-    main()
+    sys.stdout.buffer.write(page().encode())

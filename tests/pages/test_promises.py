@@ -1,27 +1,26 @@
-"""docs/PROMISES.md has for each crate what its sources promise (promises.py), README names calls that are there, and
-charts/tables.json is what crates/iloc_tables prints (its stdout, which ./build --all compares)."""
+"""Each public contract has a promise (promises.py), README names contracts that are there, and charts/tables.json is
+what crates/iloc_tables prints (its stdout, which ./build --all compares)."""
 import re
 import unittest
 
-from pages.promises import PAGE, TOP, faults, read
+from pages.promises import TOP, page, read
 
 
 class Promises(unittest.TestCase):
-    def test_page(self):
-        for crate, why in faults():
+    def test_promises(self):
+        """Each contract has a sentence, and those that README's table names are of their crate."""
+        named, crate = {}, ""
+        table = re.findall(r"^\| *(?:`(iloc_\w+)`)? *\| .* \| (`[^|]*`) \|$", read(f"{TOP}/README.md"), re.M)
+        for other, calls in table:
+            crate = other or crate
+            named.setdefault(crate, set()).update(re.findall(r"`([\w:]+)`", calls))
+        for section in page().split("\n## ")[1:]:
+            crate = section.split("\n", 1)[0]
             with self.subTest(crate):
-                self.assertFalse(why)
+                promises = dict(re.findall(r"^\| `([\w:]+)` \| (.*?) \|", section, re.M))
+                self.assertEqual([call for call, promise in promises.items() if not promise], [])
+                self.assertLessEqual(named.pop(crate, set()), {*promises})
+        self.assertEqual(named, {})
 
     def test_tables(self):
         self.assertEqual(read(f"{TOP}/charts/tables.json"), read(f"{TOP}/crates/iloc_tables/stdout"))
-
-    def test_readme(self):
-        """Each contract that README's table names is a row of the page, in the section of its crate."""
-        page = {part.split("\n", 1)[0]: part for part in read(PAGE).split("\n## ")}
-        rows = re.findall(r"^\| *(?:`(iloc_\w+)`)? *\| .* \| (`[^|]*`) \|$", read(f"{TOP}/README.md"), re.M)
-        crate = ""
-        for named, calls in rows:
-            crate = named or crate
-            for call in re.findall(r"`([\w:]+)`", calls):
-                with self.subTest(f"{crate}: {call}"):
-                    self.assertIn(f"\n| `{call}` |", page[crate])
