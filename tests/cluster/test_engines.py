@@ -120,7 +120,7 @@ class Engines(Place):
         self.start_slurm()
         count = self.write_blocks()
         self.script("hanging", '#!/bin/sh\nif [ "$SLURM_ARRAY_TASK_ID" = 2 ] && mkdir hung 2>/dev/null; then\n'
-                               '    ilocfarm "$@" | head -c 1000; sleep 600\nfi\nexec ilocfarm "$@"\n')
+                               '    ilocfarm "$@" | head -c 1000; exec sleep 600\nfi\nexec ilocfarm "$@"\n')
         again = [f"--array=1-{count}", "cluster/job", "pieces", "./hanging", "counts"]
         status, job, err = self.call("sbatch", "--parsable", *again)
         self.expect("sbatch", (status, err), (0, b""))

@@ -151,11 +151,13 @@ class Pieces(Place):
         self.expect("joined", self.join(), (3, b"", b"cluster/join: piece 2 ended with 3: ilocfarm: out of memory\n"))
 
     def test_killed_piece(self):
+        """The job is killed, or the program in it."""
         self.split_each()
-        self.script("killed",
-                    '#!/bin/sh\n[ $PIECE != 2 ] || { echo block 1; kill -KILL $PPID; exit 1; }\nexec ilocfarm "$@"\n')
-        self.run_pieces(1, 2, 3, program="./killed")
-        self.expect("joined", self.join(), (3, b"", b"cluster/join: not run to their end: 2\n"))
+        for killed in "$$", "$PPID":
+            self.script("killed", f'#!/bin/sh\n[ $PIECE != 2 ] || {{ echo block 1; kill -KILL {killed}; exit 1; }}\n'
+                                  'exec ilocfarm "$@"\n')
+            self.run_pieces(1, 2, 3, program="./killed")
+            self.expect("joined", self.join(), (3, b"", b"cluster/join: not run to their end: 2\n"))
         self.expect("status", self.run_pieces(2), [0])
         self.expect("joined", self.join(), self.call("ilocfarm", "counts", given=self.read("blocks")))
 
