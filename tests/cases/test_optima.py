@@ -1,5 +1,5 @@
 """`optimize`, `compare --nodes` and `check --nodes`, by the book and with addresses compared: beside an exact search,
-beside `check`, and on blocks that are hard to search or aren't searched."""
+beside `check`, and on blocks as compilers make them, that are hard to search, or that aren't searched."""
 import json
 import random
 import re
@@ -16,6 +16,7 @@ from oracle.optimum import fewest, odd_latencies, small_block
 from oracle.printed import Listing
 from oracle.reader import read
 from oracle.scheduler import Schedule, all_count
+from studies.families import families_of
 
 ENTRY = re.compile(rb"^cycles ([0-9]+)\n// bound ([0-9]+)( optimal)?$", re.MULTILINE)
 NUMBERS = ("cycles", "ours", "best", "bound", "least")      # that `check` has of a block
@@ -195,6 +196,17 @@ def long_ones():
         yield from unlawful(end, listing)
 
 
+def of_families(size):
+    """Of blocks as compilers make them nearly every schedule is proved optimal, and more of those of few operations."""
+    blocks = [ops for family in families_of(size).values() for ops in family]
+    listing = Listing(blocks)
+    found = found_in(optimized(listing, 1000), listing)
+    for longest, least in ((MOST_SEARCHED, 0.99), (40, 0.995)):
+        optimal = [cycles == bound for ops, (cycles, bound, _) in zip(blocks, found) if len(ops) <= longest]
+        if sum(optimal) < least * len(optimal):
+            yield f"{sum(optimal)} of {len(optimal)} blocks of up to {longest} operations are proved optimal"
+
+
 def longest():
     """The longest block takes the time of its six schedules."""
     text = text_of([hard_block(MOST_OPERATIONS)])
@@ -214,6 +226,7 @@ def optimum_checks():
     for rule in (all_count, by_address):
         for check, count in counts:
             yield Check(f"optima/{check.__name__}/{rule.__name__}", check, count // less, rule)
+    yield Check("optima/of_families", of_families, 50 // less)
     for check in (known, by_one_node, long_ones, longest):
         yield Check(f"optima/{check.__name__}", check)
 
