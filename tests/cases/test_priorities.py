@@ -1,8 +1,8 @@
 """Somebody's own priorities (`--priorities`): how a file spells them, and what is said of one that has none."""
 import os
 
-from harness.program import Run, folder, listed, stored
-from harness.suite import table
+from harness.program import TOP, Run, folder, listed, stored
+from harness.suite import rows_of, table
 from language import MOST_BYTES
 from oracle.scheduler import ORDERS
 
@@ -17,23 +17,6 @@ GOOD = {
     "zeros_first": b"01 0000000000003 00\n\n007\n", "greatest": b"1 4294967295 0\n\n4294967295\n",
     "lines_without_numbers_after_them": b"1 3 0\n\n7\n\n \t\r\n\n",
 }
-BAD = {
-    "empty": (b"", "block 1 operation 0: no number"),
-    "too_few": (b"1 3\n\n7\n", "block 1 operation 2: no number"),
-    "too_many": (b"1 3 0 5\n\n7\n", "block 1 operation 3: no such operation"),
-    "for_nops_too": (b"1 3 3 0\n0\n7\n", "block 1 operation 3: no such operation"),
-    "for_a_block_without_operations": (b"1 3 0\n9\n7\n", "block 2 operation 0: no such operation"),
-    "line_missing": (b"1 3 0\n\n", "block 3 operation 0: no number"),
-    "line_too_many": (b"1 3 0\n\n7\n\n0\n", "block 4 operation 0: no such operation"),
-    "word": (b"1 three 0\n\n7\n", "block 1 operation 1: no number from 0 to 4294967295"),
-    "below_zero": (b"1 -3 0\n\n7\n", "block 1 operation 1: no number from 0 to 4294967295"),
-    "plus": (b"1 +3 0\n\n7\n", "block 1 operation 1: no number from 0 to 4294967295"),
-    "fraction": (b"1 3.0 0\n\n7\n", "block 1 operation 1: no number from 0 to 4294967295"),
-    "commas": (b"1,3,0\n\n7\n", "block 1 operation 0: no number from 0 to 4294967295"),
-    "any_bytes": (b"1 3 \xff\x00\n\n7\n", "block 1 operation 2: no number from 0 to 4294967295"),
-    "too_large": (b"1 3 0\n\n4294967296\n", "block 3 operation 0: no number from 0 to 4294967295"),
-    "far_too_large": (b"1 3 0\n\n" + b"9" * 100 + b"\n", "block 3 operation 0: no number from 0 to 4294967295"),
-}
 
 
 def faults():
@@ -42,7 +25,8 @@ def faults():
             ("missing", none, "no such file", NO_DEVICE), ("under_a_file", f"{good}/x", "opening failed", NO_DEVICE),
             ("folder", folder(), "reading failed", NO_DEVICE),
             ("long", stored("long", b" " * (MOST_BYTES + 1)), "input longer than 16777216 bytes", NOT_READ),
-            *((name, stored(name, text), said, NOT_READ) for name, (text, said) in BAD.items())):
+            *((name, stored(name, text.encode("latin-1")), said, NOT_READ)
+              for text, name, said in rows_of(f"{TOP}/tests/cases/priorities.tsv"))):
         for words in TAKING:
             yield Run(f"priorities/{name}/{'_'.join(words)}", [*words, "--priorities", file], THREE_BLOCKS, b"",
                       f"ilocfarm: priorities: {said}\n".encode(), status)

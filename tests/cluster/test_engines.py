@@ -3,37 +3,13 @@ import getpass
 import os
 import socket
 import subprocess
+from pathlib import Path
 
 from harness.place import Place, shown_on, until
+from harness.program import TOP
 
 SLURM = ("munged", "mungekey", "slurmctld", "slurmd", "sbatch", "scancel", "sinfo", "squeue")
 HERE = "127.0.0.1"
-# All of it runs as the user who runs the test, and keeps its files in DIR.
-CONFIGURATION = """\
-ClusterName=one
-SlurmctldHost={host}({here})
-SlurmctldPort={ports[0]}
-SlurmdPort={ports[1]}
-SlurmUser={user}
-SlurmdUser={user}
-AuthType=auth/munge
-AuthInfo=socket={dir}/munge.socket
-ProctrackType=proctrack/linuxproc
-TaskPlugin=task/none
-StateSaveLocation={dir}/state
-SlurmdSpoolDir={dir}/spool
-SlurmctldPidFile={dir}/slurmctld.pid
-SlurmdPidFile={dir}/slurmd.pid
-SlurmctldLogFile={dir}/slurmctld.log
-SlurmdLogFile={dir}/slurmd.log
-SelectType=select/cons_tres
-SelectTypeParameters=CR_Core
-ReturnToService=2
-KillWait=1
-MpiDefault=none
-NodeName={host} NodeAddr={here} CPUs={cpus} State=UNKNOWN
-PartitionName=all Nodes=ALL Default=YES MaxTime=INFINITE State=UP
-"""
 BLOCKS = 3000
 
 
@@ -69,9 +45,10 @@ class Engines(Place):
         os.chmod(self.folder, 0o711)       # munged needs its socket within reach of all
         for name in ("", "/state", "/spool"):
             os.mkdir(folder + name, 0o755)
-        with open(f"{folder}/slurm.conf", "w", encoding="ascii") as file:
-            file.write(CONFIGURATION.format(host=host, here=HERE, ports=free_ports(2), user=getpass.getuser(),
-                                            dir=folder, cpus=os.cpu_count()))
+        # All of it runs as the user who runs the test, and keeps its files in the folder.
+        form = Path(f"{TOP}/tests/cluster/slurm.conf").read_text("ascii")
+        self.write("slurm/slurm.conf", form.format(host=host, here=HERE, ports=free_ports(2), user=getpass.getuser(),
+                                                   dir=folder, cpus=os.cpu_count()))
         self.environment["SLURM_CONF"] = f"{folder}/slurm.conf"
         self.expect("mungekey", self.call("mungekey", "--create", f"--keyfile={folder}/key")[0], 0)
         self.start("munged", "--foreground", f"--key-file={folder}/key", f"--socket={folder}/munge.socket",

@@ -1,46 +1,17 @@
 """Texts that are cut at any byte, have any byte at any place, or are drawn: how each command ends, by the oracle."""
 import random
 import re
+from pathlib import Path
 
 from cases.test_lint import WRONG
-from harness.program import COMMANDS, TESTED, ending, unlike
-from harness.suite import Check, table
+from harness.program import COMMANDS, TESTED, TOP, ending, unlike
+from harness.suite import Check, plain, table
 from oracle.odd import odd_text
 from oracle.printed import printed
 
 # Each form of a line and of an operation, blanks of each kind and none, leading zeros, the greatest numbers; and a
 # bad line at the end.
-FORMS = b"""\
-
- \t\r
-// a comment alone, of any bytes \x00\x0b\xff: \xe2\x86\x92
-nop
-\tnop // after an operation
- first :
-second_1:\tloadI 2147483647 => r2147483647 // label, operation and comment
-loadI 1024 => r0//close
-store r2147483647 => r0\r
-output 1024
-load r0 => r1
-add r1, r1 => r2
-sub r1,r2=>r3
-mult\tr3 , r3\t=>\tr4
-lshift r4, r3 => r5
-rshift r04, r003 => r0006
-addI r6, 0012 => r7
-subI r7, 4 => r8
-multI r8, 3 => r9
-lshiftI r9, 33 => r10
-rshiftI r10, 1 => r11
-storeAI r11 => r0, 4
-loadAI r0, 4 => r12
-output 1028
-nop: // a label alone
-r1 : load r1 => r2
-B:nop
-x9_: output 2
-A: B: nop
-"""
+FORMS = plain(Path(f"{TOP}/tests/hostile/forms.text").read_text("ascii")).encode("latin-1")
 SHORT = b"a1 :loadI 8=>r1//x\n\tstore r1 => r1\r\nB_: addI r1, 2 => r3\nloadAI r2,8 => r2\n output 8\nnop"
 # A byte of each kind that the grammar knows, and some that it doesn't.
 KINDS = b"\x00\n\x0b\r +,/08:=>A_rz\x80"

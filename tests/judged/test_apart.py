@@ -5,35 +5,14 @@ import re
 from pathlib import Path
 
 from harness.program import TOP, Run, ending, folder, stored, told, unlike
-from harness.suite import Check, table
-from judged.test_rows import LISTED, SAME, UNLIKE, VERDICTS, WORDS, texts_of
+from harness.suite import Check, rows_of, table
+from judged.test_rows import JUDGED, LISTED, UNLIKE, WORDS, texts_of
 from language import MOST_BYTES
 from oracle.reader import NO_SUCH_BLOCK
 
 ROW_STARTS = (b"[", b"block ", b"cycles", b"total")
 CLASS = f"{TOP}/examples/class"
 PASSED, NOT_READ, NO_DEVICE, FAILED = 0, 1, 4, 5
-
-# What students hand in for examples/class/tasks/both.iloc in place of a schedule.
-CHEATS = {
-    "task_of_their_own": b"// mine\noutput 1\n[ output 1 ; nop ]\n",
-    "fault": b"[ output 1 ; nop ]\n",
-    "nothing": b"",
-    "comments": b"// done\n",
-    "empty_row": b"[ nop ; nop ]\n",
-    "claim": b"cycles 1\n",
-    "head": b"block 1 both\n",
-    "another_label": b"both:\n[ nop ; nop ]\n",
-    "end_of_the_task": b"total 0\nboth:\noutput 1\n[ output 1 ; nop ]\n",
-    "block_without_a_head": b"[ nop ; nop ]\nblock 1 both\n[ nop ; nop ]\n",
-    "second_block": b"block 2 mine\n[ nop ; nop ]\n",
-    "words_stored_over": b"[ loadI 1024 => r0 ; nop ]\n[ store r0 => r0 ; nop ]\n",
-    "outputs_alone": b"[ output 1032 ; nop ]\n[ output 1036 ; nop ]\n",
-    "constants": b"[ loadI 7 => r1 ; loadI 1032 => r2 ]\n[ store r1 => r2 ; nop ]\n" + b"[ nop ; nop ]\n" * 4
-                 + b"[ output 1032 ; nop ]\n[ output 1036 ; nop ]\n",
-    "operation": b"nop\n",
-    "zero_byte": b"\x00[ nop ; nop ]\n",
-}
 
 
 def parts(text):
@@ -54,7 +33,7 @@ def as_together(text):
 
 
 def all_as_together():
-    for text in [*texts_of(SAME, UNLIKE, VERDICTS), *(listed.text for listed in LISTED.values())]:
+    for text in [*texts_of(JUDGED, UNLIKE), *(listed.text for listed in LISTED.values())]:
         yield from as_together(text)
 
 
@@ -98,7 +77,9 @@ def without_a_name():
 
 def apart_cases():
     yield Check("apart/as_together", all_as_together)
-    yield from (Check(f"apart/cheat_{name}", is_refused, rows) for name, rows in CHEATS.items())
+    # What students hand in for the task in place of a schedule.
+    for rows, name in rows_of(f"{TOP}/tests/judged/cheats.tsv"):
+        yield Check(f"apart/cheat_{name}", is_refused, rows.encode("latin-1"))
     yield Check("apart/cut_anywhere", cut_anywhere)
     two = stored("two.iloc", b"a: output 4\nb: output 4\n")
     yield Run("apart/before_a_head", [*WORDS, "--task", two], b"// 9\nhello\nblock 1 a\n", b"",

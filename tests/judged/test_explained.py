@@ -8,7 +8,7 @@ from harness.suite import Check, table
 from judged.labs import Given
 from judged.students import longer_waits, one_a_row, other_priorities, ours, own_names, units_exchanged
 from judged.test_apart import parts
-from judged.test_rows import SAME, UNLIKE, VERDICTS, texts_of
+from judged.test_rows import JUDGED, UNLIKE, texts_of
 from language import USUAL
 from oracle.drawn import lab_block, made_block
 from oracle.judge import proposed
@@ -67,7 +67,7 @@ def as_checked(text):
 
 
 def rows_as_checked():
-    for text in texts_of(SAME, UNLIKE, VERDICTS):
+    for text in texts_of(JUDGED, UNLIKE):
         yield from as_checked(text)
 
 

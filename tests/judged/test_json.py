@@ -5,7 +5,7 @@ import random
 from harness.program import Run, ending, told
 from harness.suite import Check, table
 from judged.students import RIGHT, WRONG
-from judged.test_rows import LISTED, SAME, SHOWN, UNLIKE, UNREAD, VERDICTS, WORDS, texts_of
+from judged.test_rows import JUDGED, LISTED, SHOWN, UNLIKE, UNREAD, WORDS, texts_of
 from judged.test_students import handed_in
 from oracle import alike
 from oracle.judge import NOT_SAME, proposed
@@ -93,9 +93,9 @@ def undecided_cases():
 def json_cases():
     yield from (listed.case(f"json/{name}", listed.in_json) for name, listed in LISTED.items() if listed.in_json)
     yield from undecided_cases()
-    yield Check("judged/json/tables", are_the_same, texts_of(SAME, VERDICTS, UNLIKE))
-    yield Check("judged/json/lawful", are_the_same, texts_of(SAME, VERDICTS), "--lawful")
-    yield Check("judged/json/outputs", are_the_same, texts_of(SAME, VERDICTS, SHOWN), "--outputs")
+    yield Check("judged/json/tables", are_the_same, texts_of(JUDGED, UNLIKE))
+    yield Check("judged/json/lawful", are_the_same, texts_of(JUDGED), "--lawful")
+    yield Check("judged/json/outputs", are_the_same, texts_of(JUDGED, SHOWN), "--outputs")
     yield Check("judged/json/listed", are_the_same, [listed.text for listed in LISTED.values()])
     yield Check("judged/json/drawn", are_the_same,
                 [handed_in(seed, "usual", kind).decode() for seed, kind in enumerate((*RIGHT, *WRONG))])

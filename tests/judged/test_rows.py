@@ -14,151 +14,6 @@ WORDS, MEMORY = ["check", "--at", "4", "9"], words_from(4, [9])
 # In lines, and in a table.
 VERDICT = re.compile(r"^(?:block \d+ \S+ |\d+,[^,]+,)(\w+)", re.MULTILINE)
 
-LOADS_AND_STORES = "loadI 1024 => r1\nloadAI r1, 4 => r2\nmult r2, r2 => r3\nstoreAI r3 => r1, 8\noutput 1032\n"
-SQUARE = "loadI 4 => r1\nload r1 => r2\nmult r2, r2 => r3\nstore r3 => r1\noutput 4\n"
-LOADED = "loadI 8 => r1\nload r1 => r2\n"       # an unknown word in r2, and 8 in r1
-TWICE_DOUBLED = LOADED + "add r2, r2 => r3\nadd r3, r3 => r4\n"
-SUM = LOADED + "lshiftI r2, 2 => r3\naddI r3, 12 => r4\nstore r4 => r1\n"
-# Two stores with one unknown base, and loads beside them.
-TWO_STORES = LOADED + "storeAI r1 => r2, 4\nstoreAI r2 => r2, 8\n"
-LOADS_ELSEWHERE = TWO_STORES + "loadAI r2, 12 => r3\nstore r3 => r1\n"
-FORWARDED = TWO_STORES + "store r2 => r1\n"
-UNUSED_LOAD = LOADED + "load r2 => r3\noutput 8\n"
-TWO_OUTPUTS = "output 4\noutput 8\n"
-FAULTS_FIRST = "output 1\noutput 8\n"
-# It faults on every memory.
-BIG_ADDRESS = "loadI 100000 => r0\nloadI 6 => r1\nloadI 7 => r2\nmult r1, r2 => r3\nstore r3 => r0\noutput 100000\n"
-PRODUCT = BIG_ADDRESS.replace("100000", "1024")
-# 4 in r1, and three unknown words in r2, r3 and r4.
-THREE = "loadI 4 => r1\nload r1 => r2\nloadAI r1, 4 => r3\nloadAI r1, 8 => r4\n"
-STORED = "store r5 => r1\n"
-# Of three unknown words two computations in r5 that are the same polynomial.
-POLYNOMIALS = {
-    "sums_in_another_order": ("add r2, r3 => r5\nadd r5, r4 => r5\n", "add r3, r4 => r5\nadd r2, r5 => r5\n"),
-    "sum_and_back": ("add r2, r3 => r5\nsub r5, r3 => r5\n", "addI r2, 0 => r5\n"),
-    "negated_difference": ("sub r2, r3 => r5\n", "sub r3, r2 => r5\nsub r9, r5 => r5\n"),
-    "difference_of_a_difference": ("sub r3, r4 => r5\nsub r2, r5 => r5\n", "add r2, r4 => r5\nsub r5, r3 => r5\n"),
-    "known_factor": ("add r2, r3 => r5\nmultI r5, 3 => r5\n",
-                     "multI r2, 3 => r6\nmultI r3, 3 => r7\nadd r6, r7 => r5\n"),
-    "factor_that_wraps": ("lshiftI r2, 31 => r5\nadd r5, r5 => r5\n", "addI r9, 0 => r5\n"),
-    "products_in_another_order": ("mult r2, r3 => r5\nmult r5, r4 => r5\n", "mult r3, r4 => r5\nmult r2, r5 => r5\n"),
-    "multiplied_out": ("add r3, r4 => r5\nmult r2, r5 => r5\n",
-                       "mult r2, r3 => r6\nmult r2, r4 => r7\nadd r6, r7 => r5\n"),
-    "difference_of_squares": ("add r2, r3 => r6\nsub r2, r3 => r7\nmult r6, r7 => r5\n",
-                              "mult r2, r2 => r6\nmult r3, r3 => r7\nsub r6, r7 => r5\n"),
-    "product_for_an_unknown_shift": ("lshift r2, r3 => r5\n",
-                                     "loadI 1 => r6\nlshift r6, r3 => r6\nmult r2, r6 => r5\n"),
-    "zero_shifted_left": ("lshift r9, r3 => r5\n", "addI r9, 0 => r5\n"),
-    "zero_shifted_right": ("rshift r9, r3 => r5\n", "addI r9, 0 => r5\n"),
-    "shifts_to_the_right": ("rshiftI r2, 1 => r5\nrshiftI r5, 2 => r5\n", "rshiftI r2, 3 => r5\n"),
-    "sign_alone": ("rshiftI r2, 20 => r5\nrshiftI r5, 20 => r5\n", "rshiftI r2, 31 => r5\n"),
-}
-# Accesses at two unknown addresses, and others that fault on the same memories and leave the same words.
-ACCESSES = {
-    "stores_of_one_word_exchanged": ("store r2 => r3\nstore r2 => r4\n", "store r2 => r4\nstore r2 => r3\n"),
-    "stores_of_one_word_to_two_words_each": (
-        "store r2 => r3\nstoreAI r2 => r3, 4\nstore r2 => r4\nstoreAI r2 => r4, 4\n",
-        "storeAI r2 => r4, 4\nstore r2 => r3\nstore r2 => r4\nstoreAI r2 => r3, 4\n"),
-    "load_past_stores_of_one_word": ("store r2 => r3\nstore r2 => r4\nload r3 => r5\n" + STORED,
-                                     "store r2 => r4\nstore r2 => r3\nstore r2 => r1\n"),
-}
-# A block, somebody's operations that do the same, six cycles apart, and the verdict.
-SAME = {
-    "itself": (LOADS_AND_STORES, LOADS_AND_STORES, "lawful"),
-    "other_registers": (LOADS_AND_STORES, "loadI 1024 => r9\nloadAI r9, 4 => r7\nmult r7, r7 => r8\n"
-                                          "storeAI r8 => r9, 8\noutput 1032\n", "lawful"),
-    "one_register_for_all_words": (LOADS_AND_STORES, "loadI 1028 => r1\nload r1 => r1\nmult r1, r1 => r1\n"
-                                                     "loadI 1032 => r2\nstore r1 => r2\noutput 1032\n", "same"),
-    "product_for_a_shift": (SUM, LOADED + "multI r2, 4 => r3\naddI r3, 12 => r4\nstore r4 => r1\n", "same"),
-    "product_of_a_sum": (SUM, LOADED + "addI r2, 3 => r3\nmultI r3, 4 => r4\nstore r4 => r1\n", "same"),
-    "sums_for_a_shift": (SUM, TWICE_DOUBLED + "addI r4, 12 => r4\nstore r4 => r1\n", "same"),
-    "accesses_with_one_base": (LOADS_ELSEWHERE, LOADED + "loadAI r2, 12 => r3\nstoreAI r2 => r2, 8\n"
-                                                         "storeAI r1 => r2, 4\nstore r3 => r1\n", "same"),
-    "word_that_was_stored": (TWO_STORES + "loadAI r2, 8 => r3\nstore r3 => r1\n", FORWARDED, "same"),
-    "load_that_cannot_fault": (LOADED + "output 8\n", "output 8\n", "same"),
-    "itself_with_a_fault": (BIG_ADDRESS, BIG_ADDRESS, "lawful"),
-    "outputs": (TWO_OUTPUTS, TWO_OUTPUTS, "lawful"),
-    "square": (SQUARE, SQUARE, "lawful"),
-    **{name: (THREE + one + STORED, THREE + other + STORED, "same") for name, (one, other) in POLYNOMIALS.items()},
-    **{name: (THREE + one, THREE + other, "same") for name, (one, other) in ACCESSES.items()},
-}
-
-# A block, and somebody's operations that do something else on some memory.
-UNLIKE = {
-    "another_sum": (SUM, TWICE_DOUBLED + "addI r4, 13 => r4\nstore r4 => r1\n"),
-    "word_that_was_not_stored": (LOADS_ELSEWHERE, FORWARDED),
-    # A store to a known address stays where it is, before one to an unknown one.
-    "stores_exchanged": (LOADED + "store r1 => r1\nstore r9 => r2\n", LOADED + "store r9 => r2\nstore r1 => r1\n"),
-    # A load whose result nobody uses can fault, where its address isn't known.
-    "load_added": ("output 8\n", UNUSED_LOAD),
-    "all_left_out_but_the_output": (LOADS_AND_STORES, "output 1032\n"),
-    "stored_elsewhere": (LOADS_AND_STORES, LOADS_AND_STORES.replace("r1, 8", "r1, 12")),
-}
-
-# A block, somebody's operations, the verdict, and what is listed below it.
-VERDICTS = {
-    "output_too_many": (SQUARE, SQUARE + "output 8\n", "differs", "output 2: 0 for none"),
-    "output_before_the_store": (SQUARE, "loadI 4 => r1\noutput 4\nload r1 => r2\nmult r2, r2 => r3\nstore r3 => r1\n",
-                                "differs", "output 1: 9 for 81"),
-    "word_too_many": (SQUARE, SQUARE + "loadI 0 => r4\nstore r3 => r4\n", "differs", "word 0: 81 for 0"),
-    "fault": (SQUARE, "loadI 4 => r1\nload r1 => r2\nload r2 => r3\noutput 4\n", "differs", "fault"),
-    # Of a block that faults nothing is seen of rows, but they may be by the book.
-    "no_fault": ("output 1\n", "output 8\n", "void", "the block faults: output 1"),
-    "another_fault": (FAULTS_FIRST, "loadI 1 => r1\nload r1 => r2\n", "void", "the block faults: output 1"),
-    "fault_without_the_product": (BIG_ADDRESS, "loadI 100000 => r0\noutput 100000\n", "void",
-                                  "the block faults: store r3 => r0"),
-    "fault_with_another_product": (BIG_ADDRESS, BIG_ADDRESS.replace("loadI 7", "loadI 8"), "void",
-                                   "the block faults: store r3 => r0"),
-    "fault_last": ("output 8\noutput 1\n", "output 8\n", "void", "the block faults: output 1"),
-    "nothing_shown": (LOADED, "loadI 8 => r1\n", "void", "the block shows nothing"),
-    # The product of 9 and 9, but of nothing else.
-    "refuted_product": (SQUARE, SQUARE.replace("mult r2, r2", "multI r2, 9"), "differs",
-                        "output 1: 9 for 1 with --at 4 1"),
-    # Of two stores the first goes where a word of memory says.
-    "refuted_stores": (LOADED + "loadI 5 => r3\nstore r3 => r2\nstore r1 => r1\n",
-                       LOADED + "loadI 5 => r3\nstore r1 => r1\nstore r3 => r2\n", "differs",
-                       "word 8: 5 for 8 with --at 8 8"),
-    "refuted_load": (UNUSED_LOAD, LOADED + "output 8\n", "differs", "no fault with --at 8 1"),
-    # One of two words that follow each other is even, though that isn't seen.
-    "even_product": (LOADED + "addI r2, 1 => r3\nmult r2, r3 => r4\nlshiftI r4, 31 => r5\nstore r5 => r1\n",
-                     LOADED + "store r9 => r1\n", "agrees"),
-    # By 33 bits a word is shifted by 1, and two shifts by 16 aren't one by 32.
-    "shift_by_33": (THREE + "rshiftI r2, 33 => r5\n" + STORED, THREE + "rshiftI r2, 31 => r5\n" + STORED, "differs",
-                    "word 4: 0 for 4"),
-    "two_shifts_by_16": (THREE + "rshiftI r2, 16 => r5\nrshiftI r5, 16 => r5\n" + STORED,
-                         THREE + "rshiftI r2, 32 => r5\n" + STORED, "differs", "word 4: 9 for 0"),
-    "no_result_yet": ("loadI 4 => r1\nadd r1, r1 => r3\nstore r3 => r1\n",
-                      "add r1, r1 => r3\nloadI 4 => r1\nstore r3 => r1\n", "differs", "word 4: 0 for 8"),
-}
-
-# A block, somebody's operations, the verdict with `--outputs`, and what is listed below it.
-SHOWN = {
-    "scratch_store": (SQUARE, SQUARE.replace("output", "loadI 2000 => r9\nstore r2 => r9\noutput"), "prints"),
-    "spilled": (SQUARE, "loadI 4 => r1\nload r1 => r2\nloadI 2000 => r9\nstore r2 => r9\nload r9 => r3\n"
-                        "mult r3, r3 => r3\nstore r3 => r1\noutput 4\n", "prints"),
-    "word_that_nobody_prints": (SQUARE + "storeAI r3 => r1, 8\n", SQUARE, "prints"),
-    "last_store_missing": ("output 4\nloadI 4 => r1\nstoreAI r1 => r1, 4\n", "output 4\n", "prints"),
-    "store_after_the_output": (SQUARE, SQUARE + "loadI 0 => r4\nstore r3 => r4\n", "prints"),
-    # The same in all, memory too.
-    "known_product": (PRODUCT, "loadI 1024 => r0\nloadI 42 => r1\nstore r1 => r0\noutput 1024\n", "same"),
-    # Another word is in memory at the output, or an address is bad where the block's is good.
-    "store_missing": (SQUARE, SQUARE.replace("store r3 => r1\n", ""), "differs", "output 1: 9 for 81"),
-    "scratch_store_that_faults": (SQUARE, SQUARE + "storeAI r1 => r1, 1\n", "differs", "fault"),
-    "output_of_another_word": ("output 65532\n", "output 65528\n", "differs", "output 1: 0 for 2 with --at 65532 2"),
-    # A store that nobody reads can fault, where its address isn't known.
-    "fault_left_out": (LOADED + "store r1 => r2\noutput 8\n", "output 8\n", "differs", "no fault with --at 8 1"),
-    # A word is kept where a word of memory may say that another goes.
-    "spilled_under_a_pointer": (LOADED + "loadI 5 => r3\nstore r3 => r2\nstore r1 => r1\noutput 8\n",
-                                LOADED
-                                + "loadI 5 => r3\nloadI 2000 => r9\nstore r1 => r9\nstore r3 => r2\nload r9 => r4\n"
-                                "store r4 => r1\noutput 8\n", "differs", "output 1: 5 for 8 with --at 8 2000"),
-    # The word that is stored is there already.
-    "word_put_back": ("loadI 4 => r1\nload r1 => r2\nstore r2 => r1\noutput 4\n", "output 4\n", "same"),
-    "even_product": tuple(text + "output 8\n" for text in VERDICTS["even_product"][:2]) + ("agrees",),
-    "store_alone": (LOADED + "store r1 => r1\n", "nop\n", "void", "the block shows nothing"),
-    "fault_last": ("output 8\noutput 1\n", "output 8\n", "void", "the block faults: output 1"),
-}
-
 # Lines that can't be read only among rows: alone after a block they would be of the block.
 OF_A_BLOCK = {"output 0", "nop", "b:", "add r1, r2 => r3"}
 TOO_LARGE = {"block 2147483648 b": "2147483648", "block 99999999999999999999 a": "99999999999999999999",
@@ -180,28 +35,13 @@ UNREAD_ROWS = {
     "numbered": ("0: [ output 4 ]\n1: [ nop ]", 4, 0, 0, "[", "0"),
     "misspelled_claim": ("[ output 4 ]\ncycles: 1\n// 9", 5, 1, 1, "a number", ":"),
 }
-# The last line of each is the third.
-NO_BLOCK = ["a:\nb:\n[ nop ; nop ]", "a:\nb:\ncycles 0", "a:\n[ nop ; nop ]\nblock 1 a", "a:\ncycles 0\nblock 1 a",
-            "a:\nb:\nblock 0 a",
-            "a:\nb:\nblock 0 b", "a:\nb:\nblock 3 c", "a:\nblock 1 a\nblock 1 a", "a:\nblock 1 a\nblock 1 b",
-            "a:\nblock 1 b\nblock 1 a", "a:\nb:\nblock 2147483647 a", "a:\nb:\nblock 65535 a"]
 # The first block of two, its name, and another one in its head.
 MISNAMED = [("a:", "a", "b"), ("a:", "a", "-"), ("nop", "-", "a"), ("a:", "a", "A"), ("a:", "a", "ab"),
             ("ab:", "ab", "a")]
 # Lines before the head of the only block, of which the last can't be read, with what is wanted and found there.
 BEFORE_THE_HEAD = [("[ output 2147483648 ]", "a number up to 2147483647", "2147483648"),
                    ("total 1\nhello", "[", "hello"), ("cycles 2147483648", "a number up to 2147483647", "2147483648")]
-# The last line of each can't be read, and is of no block.
-UNREAD_OF_NONE = ["a:\nb:\n[ output 2147483648 ]", "a:\nb:\ncycles 2147483648", "a:\nb:\nblock 2147483648 b",
-                  "a:\nb:\n[ nop\nblock 1 a"]
-BAD, LARGE, NONE = "not understood", "number above 2147483647", NO_SUCH_BLOCK
-NOTHING_TO_JUDGE = ["", "\n", "// none", "total 0\n", "// none\n\ntotal 7 // seven", "[ nop ; nop ]",
-                    "block 1 a\ncycles 0",
-                    "\ncycles 0\n", "block 99999999999 a", "[ output 2147483648 ; nop ]", "[ nop ; nop ]\n[ nop ]"]
-# The text, the line of its earliest fault, and the fault.
-EARLIEST = [("a:\nb:\nblock 2 b\n[ nop ; nop ]\nblock 1 a", 5, NONE), ("add r1 r2 => r3\n[ nop ; nop ]\nfoo", 1, BAD),
-            ("a:\nfoo\nblock 2 a\n", 2, BAD), ("a:\nb:\ntotal 1\nfoo\nblock 3 c", 4, BAD),
-            ("a:\ncycles 1\nfoo\nblock 3 c", 4, NONE), ("a:\noutput 2147483648\nfoo\n[ nop ; nop ]", 2, LARGE)]
+BAD, NONE = "not understood", NO_SUCH_BLOCK
 
 
 class Listed(NamedTuple):
@@ -224,7 +64,16 @@ def listed_rows():
         yield name, Listed(text, options, *(listing for _, listing in listings))
 
 
+def changed_rows(kind):
+    """By name the cases of this kind in changed.cases: a block, somebody's operations, the verdict, and lines below."""
+    for (of, name), block, ((verdict, theirs), *below) in sections(f"{TOP}/tests/judged/changed.cases"):
+        if of == kind:
+            yield name, (block, theirs, *verdict, *"".join(text for _, text in below).splitlines())
+
+
 LISTED = dict(listed_rows())
+JUDGED, UNLIKE, SHOWN = (dict(changed_rows(kind)) for kind in ("judged", "unlike", "outputs"))
+LOADS_AND_STORES, SQUARE = JUDGED["itself"][0], JUDGED["square"][0]
 # Lines among rows that can't be read, with what is wanted where each stops, and what is found there.
 UNREAD = {line: said for line, *said in rows_of(f"{TOP}/tests/judged/unread.tsv")}
 
@@ -280,7 +129,7 @@ def other_statuses():
     """With `--lawful`, `--operations` or both the same is listed, and nothing passes but rows by the book, or of just
     the block's operations, or both."""
     passed = set()
-    for block, theirs, verdict, *_ in [*SAME.values(), *VERDICTS.values()]:
+    for block, theirs, verdict, *_ in JUDGED.values():
         given = (block + spread(theirs)).encode()
         _, out, err = ending(WORDS, given)
         keeps = operations_of(read(block.encode())[0].ops) == operations_of(read(theirs.encode())[0].ops)
@@ -296,7 +145,7 @@ def other_statuses():
 
 def outputs_alone():
     """With `--outputs` each verdict is right of emitted words and faults; `--lawful` changes the status alone."""
-    for block, theirs, verdict, *_ in [*SAME.values(), *VERDICTS.values(), *SHOWN.values()]:
+    for block, theirs, verdict, *_ in [*JUDGED.values(), *SHOWN.values()]:
         given = (block + spread(theirs)).encode()
         is_right = verdict == "same" and not why_void(read(given)[0].ops, MEMORY, outputs=True)
         status, out, err = end = ending([*WORDS, "--outputs"], given)
@@ -310,7 +159,7 @@ def refused(name, text, fault):
 
 
 def judged_cases():
-    for name, (block, theirs, *said) in [*SAME.items(), *VERDICTS.items()]:
+    for name, (block, theirs, *said) in JUDGED.items():
         yield judged(name, block + spread(theirs), *said)
     for name, (block, theirs) in UNLIKE.items():
         yield Check(f"judged/unlike_{name}", isnt_passed, block + spread(theirs))
@@ -338,14 +187,8 @@ def refusals():
                   b"ilocfarm: --at is not a multiple of 4\n", 2)
     for line in UNREAD.keys() - OF_A_BLOCK:
         yield refused(f"unread_at_once: {line!r}", f"a: output 0\n{line}", f"line 2: {BAD}")
-    for text in UNREAD_OF_NONE:
-        yield refused(f"unread_of_none: {text!r}", text, f"line 3: {BAD}")
-    for text in NO_BLOCK:
-        yield refused(f"no_block: {text!r}", text, f"line 3: {NONE}")
-    for text in NOTHING_TO_JUDGE:
-        yield refused(f"no_blocks: {text!r}", text, "no blocks")
-    for text, line, fault in EARLIEST:
-        yield refused(f"earliest: {text!r}", text, f"line {line}: {fault}")
+    for text, fault in rows_of(f"{TOP}/tests/judged/refused.tsv"):
+        yield refused(f"refused: {text!r}", text, fault)
 
 
 def unread(name, text, out, *words):

@@ -7,7 +7,7 @@ from pathlib import Path
 from cases.test_drawn import ODD
 from cases.test_stored import stored_cases
 from harness.program import TESTED, TOP, ending, short, stored, told
-from harness.suite import Check, table
+from harness.suite import Check, plain, table
 from hostile.test_texts import KINDS, changed_texts
 from judged.labs import Given
 from judged.students import RIGHT, WRONG, early, ours
@@ -26,26 +26,7 @@ BLOCKS = 8      # of a file
 FILES, ALL_FILES, OF_OWN = 500, 5000, 12
 SEEDS, ALL_SEEDS, EARLY = 5, 100, 10
 # Blocks and schedule lines of each form, with blanks of each kind and none, leading zeros and comments.
-LINES = b"""\
-a: loadI 1028 => r1 // of a block
-\tload r1 => r2
-B_2 : storeAI r1 => r0, 1032
-output 1032
- // no schedule line yet: [ nop ; nop ]
-[nop;nop]//close
-block 1 a
- [ loadI 01028 => r07 ; nop ]\r
-\t[\tload r7=>r2 ;\rmultI r7, 3 => r9\t] // \xff
-cycles\t006
-
-block 2\tB_2 // the next
-[ storeAI r0=>r0 , 1032 ; loadI 2147483647 => r2147483647 ]
-[ nop ; nop ]
-[ nop ; output 1032 ]
-cycles 4
-cycles 7
-total 2147483647
-"""
+LINES = plain(Path(f"{TOP}/tests/judged/lines.text").read_text("ascii")).encode("latin-1")
 SHORT_LINES = b"a:output 8\nb:\nblock 1 a\n[output 8;nop]\ncycles 1\nblock 2 b//x\n[ nop; nop ]\ntotal 1"
 
 
