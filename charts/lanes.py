@@ -116,14 +116,7 @@ class Chart:
 
 
 def drawn(lines, wanted, latencies):
-    """The picture of a listing's block of this number, with these latencies where the listing shows no others."""
+    """The picture of a listing's block of this number, with the latencies of its schedule."""
     block = read_block(lines, wanted)
-    if block.reasons:
-        found, *why = block.reasons
-        raise svg.Unread(f"the rows of block {block.number} are {found}" + f": {'; '.join(why)}" * bool(why))
-    latencies = block.latencies(latencies)
-    if block.is_headed and not block.verdict:
-        block.check(latencies)
-    else:
-        block.cycles = block.end(latencies)
+    block.cycles = block.end(latencies)
     return Chart(block, latencies).picture()

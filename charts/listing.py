@@ -1,8 +1,8 @@
-"""Listings of `schedule` and `explain`, and rows as `check` reads them, for the scripts that draw them."""
+"""Listings of `explain`, and rows as `check` reads them, for the scripts that draw them."""
 import re
 from dataclasses import dataclass, field
 
-from language import LONGEST_LATENCY, MOST_OPERATIONS, PASSING, ROLES, USUAL, kind_of
+from language import LONGEST_LATENCY, MOST_OPERATIONS, PASSING, USUAL, kind_of
 from svg import Unread
 
 COLOURS = {"load": "#6cb6ff", "store": "#b392f0", "mult": "#f0a35e", "output": "#6fce7c", "other": "#b9c0c8"}
@@ -13,18 +13,15 @@ PASSED = ("", *PASSING)     # no verdict, or one that passes
 MOST_CYCLES = MOST_OPERATIONS * LONGEST_LATENCY     # of a schedule
 HEADER = re.compile(r"block (\d+) (\S+)")
 COMMENT = re.compile(r"//.*")
-CYCLES = re.compile(r"cycles (\d+)(?: least (\d+).*)?")
+CYCLES = re.compile(r"cycles \d+(?: least (\d+).*)?")
 CHAINED = re.compile(r"chain (?:-|(\d+(?: \d+)*))")
-PATHED = re.compile(r"path (?:-|\d+(?: (?:[+=~]?\d+))*)")
+PATHED = re.compile(r"path (?:-|\d+(?: [+=]?\d+)*)")
 EXPLAINED = re.compile(r"(\d+) cycle (\d+) unit ([01]) ready (\d+) after (-|\d+(?:,\d+)*) priority (\d+) "
-                       r"earliest \d+ slack \d+ held (?:-|free|\d+) (.+?) ; (.+)")
-NUMBER = re.compile(r"\d+")
+                       r"earliest \d+ slack \d+ held (?:-|\d+) (.+?) ; (.+)")
 VERDICT = re.compile(r"block (\d+) (\S+) ([a-z]+) cycles (\d+) ours (\d+)(?: best \d+ bound \d+)? least (\d+)"
                      r"(?: claimed \d+)?")
 WRONG_ROW = re.compile(r"(?:added \d+: |see |line \d+, )?row (\d+): .+")
-NOTHING = re.compile(r"total \d+.*|row \d+: the choice would take .+")     # of which nothing is drawn
-UNLAWFUL = re.compile(r"not lawful|undecided")
-REASON = re.compile(r"(?:row|line|left out|added|see|and) .+")
+NOTHING = re.compile(r"total \d+.*")     # of which nothing is drawn
 
 
 @dataclass
@@ -46,14 +43,6 @@ class Operation:
 
     def arrival(self, latencies):
         return self.cycle + latencies.get(self.kind(), 1)
-
-    def registers(self, wanted):
-        """Those that the operation uses, `u`, or defines, `d`, as it is in the block, where the listing says that."""
-        return [name for name, role in zip(NUMBER.findall(self.source or self.spelling), ROLES.get(self.opcode(), ()))
-                if role == wanted]
-
-    def defined(self):
-        return next(iter(self.registers("d")), None)
 
     def place(self):
         return f"{self.cycle}.{self.unit}"
@@ -79,11 +68,10 @@ class Listed:
     operations: list = field(default_factory=list)
     rows: int = 0
     is_headed: bool = True
-    cycles: int = 0
+    cycles: int = 0     # to be set by the latencies
     least: str = ""
     chain: list = field(default_factory=list)
     path: list = field(default_factory=list)
-    reasons: list = field(default_factory=list)     # why the rows aren't lawful
     verdict: str = ""
     wrong: dict = field(default_factory=dict)       # by row what is said of it below the verdict
 
@@ -111,45 +99,17 @@ class Listed:
             self.operations.append(made)
             self.rows = max(self.rows, made.cycle + 1)
         elif found := CYCLES.fullmatch(line):
-            self.cycles, self.least = count(found[1]), found[2] or ""
+            self.least = found[1] or ""
         elif found := CHAINED.fullmatch(line):
             self.chain = [count(digits) for digits in (found[1] or "").split()]
         elif PATHED.fullmatch(line):
             self.path = [count(digits) for digits in line.split()[1:] if digits.isdecimal()]
-        elif UNLAWFUL.fullmatch(line) or self.reasons and REASON.fullmatch(line):
-            self.reasons.append(line)
         else:
             return False
         return True
 
     def end(self, latencies):
         return max((operation.arrival(latencies) for operation in self.operations), default=0)
-
-    def latencies(self, asked):
-        """Those that an explanation shows, since an operation is ready when the last of its delays ends, and of other
-        kinds those asked for. A delay on a store by a load or a store may be one of memory, which says nothing."""
-        issued, shown = {operation.number: operation for operation in self.operations}, dict(asked)
-        for operation in self.operations:
-            for awaited in (issued.get(count(k)) for k in NUMBER.findall(operation.after)):
-                if not awaited:
-                    raise Unread(f"operation {operation.number} waited for {operation.after}, which the listing hasn't")
-                if awaited.kind() == "mult" or operation.kind() != "store":
-                    shown[awaited.kind()] = operation.ready - awaited.cycle
-        return shown
-
-    def check(self, latencies):
-        """Refuses latencies that the listing can't have: it has other cycles then, or reads a register too early. In
-        the order of the block a register holds what was defined last; in a listing without it each is defined once."""
-        explained = any(operation.source for operation in self.operations)
-        arrivals = {} if explained else {operation.defined(): operation.arrival(latencies)
-                                         for operation in self.operations}
-        too_early = False
-        for operation in sorted(self.operations, key=lambda operation: operation.number):
-            too_early = too_early or any(arrivals.get(name, 0) > operation.cycle for name in operation.registers("u"))
-            if explained:
-                arrivals[operation.defined()] = operation.arrival(latencies)
-        if too_early or self.end(latencies) != self.cycles:
-            raise Unread("these are not the latencies of the listing: give them by --load, --store and --mult")
 
 
 def count(digits):
@@ -179,14 +139,14 @@ def read_blocks(lines):
             blocks.append(block := Listed(count(found[1]), found[2]))
             latest[block.number] = block
         elif text and not block.take(text) and not NOTHING.fullmatch(text):
-            raise Unread(f"line {at} is none of a listing of schedule or explain: {line}")
+            raise Unread(f"line {at} is none of a schedule, as is `[ nop ; output 4 ]`: {line}")
     return [block for block in blocks if block.is_headed or block.rows]
 
 
 def read_block(lines, wanted):
     found = next((block for block in read_blocks(lines) if block.number == wanted), None)
     if not found:
-        raise Unread(f"the listing has no block {wanted}")
+        raise Unread(f"there is no block {wanted}")
     return found
 
 
@@ -199,9 +159,3 @@ def add_latencies(made):
 def lines_of(data):
     """Only a newline ends a line, as it does for the program."""
     return data.decode("utf-8", "replace").removesuffix("\n").split("\n")
-
-
-def lines():
-    """Those of standard input."""
-    with open(0, "rb", closefd=False) as given:
-        return lines_of(given.read())

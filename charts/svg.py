@@ -2,18 +2,24 @@
 import html
 import itertools
 import re
-import sys
 
 # Lines are on the page's own ground, so they are neither light nor dark; text is one or the other, as the page is.
 INK = "#7d8590"
 GRID = "#7d859055"
 TEXT = {"light": "#59636e", "dark": "#9198a1"}
+
+
+def dark(selector):
+    """The style of texts on a dark page."""
+    return f"@media (prefers-color-scheme: dark) {{ {selector} {{ fill: {TEXT['dark']}; }} }}"
+
+
 # What is written into a filled box.
 ON_FILL = "#0b0f14"
 STYLE = ("text { font: 12px ui-monospace, 'DejaVu Sans Mono', Menlo, Consolas, monospace; }"
          f" .ink {{ fill: {TEXT['light']}; }} .on {{ fill: {ON_FILL}; }} .head {{ font-weight: bold; }}"
          f" .grid {{ stroke: {GRID}; }} .axis {{ stroke: {INK}; }}"
-         f" @media (prefers-color-scheme: dark) {{ .ink {{ fill: {TEXT['dark']}; }} }}")
+         f" {dark('.ink')}")
 # No letter of the fonts above is wider.
 LETTER = 7.4
 NO_XML = re.compile("[^\t\n\r -\ud7ff\ue000-\ufffd\U00010000-\U0010ffff]")
@@ -83,15 +89,3 @@ def picture(width, height, title, parts):
     head = (f'<svg xmlns="http://www.w3.org/2000/svg" width="{number(width)}" height="{number(height)}" '
             f'viewBox="0 0 {number(width)} {number(height)}" role="img">')
     return "\n".join([head, element("title", escape(title)), element("style", STYLE), *parts, "</svg>"]) + "\n"
-
-
-def draw(script, drawn):
-    """Writes the picture that `drawn` makes, and gives the status of the script."""
-    try:
-        made = drawn()
-        with open(1, "w", encoding="utf-8", closefd=False) as out:
-            out.write(made)
-    except (Unread, OSError) as why:
-        print(f"{script}: {why}", file=sys.stderr)
-        return 1 if isinstance(why, Unread) else 4
-    return 0

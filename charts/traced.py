@@ -1,5 +1,5 @@
-"""Listings of `trace`, with those of `graph`, `explain` and `check` of the same blocks: what a page shows of each. Which
-operation of the block each of the rows is they take from `check --json`."""
+"""Listings of `trace`, with those of `graph`, `explain` and `check` of the same blocks: what a page shows of each.
+`check --json` says which operation of the block each of the rows is."""
 import json
 import re
 
@@ -72,7 +72,7 @@ class Traced(Listed):
             self.operations, self.chain, self.path = known, other.chain, other.path
 
     def number_by(self, rows):
-        """Gives operations the numbers of those of the block that they are: of each row those of its two slots, or None."""
+        """Gives each operation the number of that of the block which it is: `rows` has two for each row, or None."""
         for operation in self.operations:
             number = rows[operation.cycle][operation.unit] if operation.cycle < len(rows) else None
             if number in self.source:

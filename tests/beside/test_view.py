@@ -7,13 +7,17 @@ import sys
 from itertools import islice
 
 from beside.test_charts import page_of
+import lanes
 from comparison import drawn as compared
 from harness.place import Place
 from harness.program import TOP
+from language import USUAL
+from listing import lines_of
 from oracle.drawn import lab_block
 from oracle.judge import why_void
 from oracle.machine import words_from
 from oracle.operations import text_of
+from svg import TEXT, dark, element
 
 LAB = ("--load", "3", "--store", "3", "--mult", "2")
 BOOK, TASK, DAN, EVE = ("examples/book.iloc", "examples/class/tasks/both.iloc", "examples/class/dan.iloc",
@@ -31,8 +35,8 @@ REFUSED = (
     (["timeline", EVE], 1, COMMA),
     (["page", EVE, BEN], 1, COMMA),
     (["timeline", EVE, BEN], 1, COMMA),
-    (["timeline", TASK, DAN], 1, f"{DAN}: line 2 is none of a listing of schedule or explain: sum:"),
-    (["timeline", BOOK, "--block", "2"], 1, f"{BOOK}: the listing has no block 2"),
+    (["timeline", TASK, DAN], 1, f"{DAN}: line 2 is none of a schedule, as is `[ nop ; output 4 ]`: sum:"),
+    (["timeline", BOOK, "--block", "2"], 1, f"{BOOK}: there is no block 2"),
     (["compare", BOOK, DAN, "two.iloc"], 1, "the listings have 1, 1, 2 blocks: only the same ones can be compared"),
     (["compare", "none.iloc"], 1, "none.iloc: there is no block"),
     (["page", "input.iloc"], 1, "input.iloc: expected `//SIM INPUT: -i ADDRESS WORD ..`, found `3 4`"),
@@ -43,6 +47,18 @@ REFUSED = (
     (["timeline", BOOK, "--either-slot"], 2, NOT_TAKEN.format("--either-slot", "explain")),
     (["timeline", BOOK, "-i", "1024", "3"], 2, NOT_TAKEN.format("--memory", "explain")),
     (["timeline", BOOK, "-o", "nosuch/book.svg"], 4, "nosuch/book.svg: No such file or directory"),
+)
+# Texts that aren't blocks, and what is said of each.
+UNREAD = (
+    (b"loadI 1 -> r1\n", 'expected "=>", found "-"', 8),
+    (b"LOADI 1 => r1\n", 'no such opcode "LOADI": loadI?', 0),
+    (b"loadI #4 => r1\n", 'expected a number, found "#"', 6),
+    (b"load @a => r1\n", 'expected a register, found "@": for rarp and @x write r0 or a register, and a number, as in '
+     "examples/book.iloc", 5),
+    (b"store r1 => 4\n", 'expected a register, found "4"', 12),
+    (b"\xef\xbb\xbfnop\n", "the text begins with a byte-order mark: save it without one", 0),
+    (b"\xff\xfen\0o\0p\0", "the text is in UTF-16: save it as UTF-8", 0),
+    (b"[ nop ; output 4 ]\n", 'expected an operation or "//", found "[": ROWS come after their BLOCKS', 0),
 )
 MISTAKEN = ([], ["draw", BOOK], ["graph"], ["timeline", BOOK, "--load", "17"], ["graph", BOOK, "--block", "1"])
 
@@ -94,37 +110,42 @@ class View(Place):
         self.draws(["timeline", DAN], self.read("docs/timeline.svg"))
         self.write("two.iloc", self.read(BOOK) + b"second: load r1 => r2\noutput 4\n")
         listing = self.listings(("explain", "--load", "9"), given=self.read("two.iloc"))
-        options = ("--block", "2", "--load", "9")
-        self.draws(["timeline", "two.iloc", *options], self.printed("charts/timeline", *options, given=listing))
+        made = lanes.drawn(lines_of(listing), 2, {**USUAL, "load": 9})
+        self.draws(["timeline", "two.iloc", "--block", "2", "--load", "9"], made.encode())
         rows = self.read(BEN).rstrip(b"\n")     # without its last line's end
         self.write("a b.rows", rows)
         listing = rows + b"\n" + self.listings(("check", "--task", TASK, *WORDS), given=self.read("a b.rows"))
-        self.draws(["timeline", TASK, "a b.rows"], self.printed("charts/timeline", given=listing))
+        self.draws(["timeline", TASK, "a b.rows"], lanes.drawn(lines_of(listing), 1, USUAL).encode())
 
     def test_graph(self):
         self.needs("dot")
         dot = self.listings(("graph", *LAB), given=self.read(BOOK))
-        self.draws(["graph", *LAB, BOOK], self.printed("dot", "-Tsvg", given=dot))
+        head, title, rest = self.printed("dot", "-Tsvg", given=dot).partition(b"<title>blocks</title>\n")
+        style = element("style", dark(f"text[fill='{TEXT['light']}']")).encode() + b"\n"
+        self.draws(["graph", *LAB, BOOK], head + title + style + rest)
 
     def test_compare(self):
         """One file by each priority, several by their cycles, and schedules of one task by what `check` says."""
-        self.write("all", self.listings(("compare", "--nodes", "100"), given=self.read(BOOK)))
-        self.draws(["compare", "--nodes", "100", BOOK], self.printed("charts/compare", "all"))
+        listing = self.listings(("compare", "--nodes", "100"), given=self.read(BOOK))
+        self.draws(["compare", "--nodes", "100", BOOK], compared([("", BOOK, listing)]).encode())
         options = ("--priority", "order", "--load", "2")
-        for name, path in (("dan", DAN), ("book", BOOK)):
-            self.write(name, self.listings(("counts", *options), given=self.read(path)))
-        self.draws(["compare", DAN, BOOK, *options], self.printed("charts/compare", "dan", "book"))
-        for name, path in (("ben", BEN), ("fay", FAY)):
-            self.write(name, self.listings(("check", "--task", TASK, *WORDS), given=self.read(path)))
-        self.draws(["compare", "--task", TASK, BEN, FAY], self.printed("charts/compare", "ben", "fay"))
+        listed = ((name, path, self.listings(("counts", *options), given=self.read(path)))
+                  for name, path in (("dan", DAN), ("book", BOOK)))
+        self.draws(["compare", DAN, BOOK, *options], compared(listed).encode())
+        self.draws(["compare", "--task", TASK, BEN, FAY], compared(self.checked(BEN, FAY)).encode())
+
+    def checked(self, *paths):
+        """What `check` says of hand-ins, by their students."""
+        for path in paths:
+            listing = self.listings(("check", "--task", TASK, *WORDS), given=self.read(path))
+            yield path.split("/")[-2] if len(paths) > 1 else "both", path, listing
 
     def test_compare_listings(self):
         """What `compare` or `counts` listed is drawn as it is; one hand-in is beside ours and the least."""
         for words in (["compare"], ["compare", "--csv"], ["compare", "--csv", "--nodes", "5"]):
             self.write("listed", self.listings(words, given=self.read(DAN)))
-            self.draws(["compare", "listed"], self.printed("charts/compare", "listed"))
-        self.draws(["compare", "--task", TASK, BEN], compared(
-            [("both", BEN, self.listings(("check", "--task", TASK, *WORDS), given=self.read(BEN)))]).encode())
+            self.draws(["compare", "listed"], compared([("", "listed", self.read("listed"))]).encode())
+        self.draws(["compare", "--task", TASK, BEN], compared(self.checked(BEN)).encode())
         self.expect("an option", self.call("ilocview", "compare", "--nodes", "5", "listed"),
                     (2, b"", b"ilocview: --nodes isn't an option of what draws a listing\n"))
 
@@ -193,6 +214,12 @@ class View(Place):
                         (status, b"", True, 3 if said == COMMA else 1))
             if said:
                 self.expect(f"{words} says", err.decode(), f"ilocview: {said}\n")
+        for text, said, column in UNREAD:
+            self.write("unread", text)
+            shown = "".join(chr(byte) if 32 <= byte < 127 else "?" for byte in text.rstrip(b"\n"))
+            said = f"ilocview: unread: line 1: {said}\n    {shown}\n    {' ' * column}^\n".encode()
+            for words in (["page"], ["timeline"], ["graph"], ["compare"]):
+                self.expect(f"{words} {text}", self.call("ilocview", *words, "unread"), (1, b"", said))
         for words in MISTAKEN:
             status, out, err = self.call("ilocview", *words)
             self.expect(f"{words}", (status, out, err.startswith(b"usage: ilocview")), (2, b"", True))

@@ -7,7 +7,7 @@ COUNT blocks of each family of families.py, 20 where it isn't given. A row has t
 blocks are shorter with the option, how many longer, and how many shorter than any schedule by the book, since
 `optimize` proves that one takes more; the mean of what a block gains; and how far all cycles with the option exceed
 the bounds that the search proves with it. FOLDER gets a listing of each of the three with a line for each family,
-which has the mean cycles, for `charts/compare`. The status is 1 where over 1 % of the blocks are longer.
+which has the mean cycles, for `ilocview compare`. The status is 1 where over 1 % of the blocks are longer.
 """
 from operator import attrgetter
 from pathlib import Path
