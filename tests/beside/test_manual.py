@@ -3,7 +3,7 @@ import os
 import re
 import subprocess
 
-from harness.place import COMMAND, Place
+from harness.place import COMMAND, COMMANDS, Place
 from harness.program import SECONDS, TESTED, TOP
 from harness.terminal import terminal
 from language import MAX_NUMBER, MOST_BLOCKS, MOST_BYTES, MOST_OPERATIONS
@@ -27,6 +27,8 @@ COMPLETIONS = {
     "ilocview page --l": "--load",
     "ilocview timeline blocks --priority ": " ".join(ORDERS),
     "ilocview page ": "",
+    "ilocpieces j": "job join",
+    "ilocpieces split blocks --p": "--priorities",
     "ilocgrade tasks --le": "--lenient",
     "ilocgrade --policy b": "best",
     "ilocgrade tasks ": "",
@@ -99,13 +101,14 @@ class Manual(Place):
     def test_page_has_no_slips(self):
         """Whatever mandoc says, but that a page which isn't installed here is named."""
         self.needs("mandoc")
-        for name in ("ilocfarm", "ilocgrade", "ilocview"):
+        for name in COMMANDS:
             said = self.call("mandoc", "-T", "lint", f"man/{name}.1")[1].decode().splitlines()
             self.expect(name, [line for line in said if "referenced manual not found" not in line], [])
 
     def test_pages_beside(self):
-        """Each option of the help of ilocgrade and ilocview is on its page, and no other; so is each command."""
-        for name, commands in (("ilocgrade", ()), ("ilocview", ("page", "timeline", "graph", "compare", "from-llvm"))):
+        """Each option of the help of the other commands is on its page, and no other; so is each command."""
+        for name, commands in (("ilocgrade", ()), ("ilocview", ("page", "timeline", "graph", "compare", "from-llvm")),
+                               ("ilocpieces", ("split", "job", "join"))):
             helps = [self.call(name, *words, "--help")[1].decode() for words in ((), *((word,) for word in commands))]
             options = re.findall(r"^  (?:-\w.*?, )?--([a-z-]+)", "".join(helps), re.MULTILINE)
             items = re.findall(r"^\.It (.*)", self.text(f"man/{name}.1"), re.MULTILINE)
@@ -158,7 +161,7 @@ class Manual(Place):
 
     def test_completes_on_a_terminal(self):
         self.make()
-        for name in ("ilocfarm", "ilocgrade", "ilocview"):
+        for name in COMMANDS:
             os.symlink(f"made/{name}.zsh", self.path(f"_{name}"))
         for name, (words, source) in SHELLS.items():
             self.needs(name)

@@ -1,4 +1,4 @@
-"""Cases of cluster/ under GNU parallel and Slurm, with the real programs."""
+"""Cases of ilocpieces under GNU parallel and Slurm, with the real programs."""
 import getpass
 import os
 import socket
@@ -62,7 +62,7 @@ class Engines(Place):
         """A file of some thousand blocks, of different lengths."""
         example = self.read("examples/dot.iloc")
         self.write("blocks", b"".join(b"b%d: %s%s" % (k, b"nop\n" * (k % 7), example) for k in range(BLOCKS)))
-        count = int(self.call("cluster/split", "blocks", "pieces", "--bytes", "600000")[1])
+        count = int(self.call("ilocpieces", "split", "blocks", "pieces", "--bytes", "600000")[1])
         if count < 4:
             self.fail(f"{count} pieces are too few")
         return count
@@ -73,10 +73,10 @@ class Engines(Place):
     def test_parallel_pieces(self):
         self.needs("parallel")
         count = self.write_blocks()
-        line = f"seq {count} | parallel --bar PIECE={{}} cluster/job pieces ilocfarm schedule --mult 4 2>bar"
+        line = f"seq {count} | parallel --bar PIECE={{}} ilocpieces job pieces ilocfarm schedule --mult 4 2>bar"
         self.expect("parallel", self.shell(line), (0, b""))
         self.expect("the bar is full", f"100% {count}:0=".encode() in self.read("bar"), True)
-        self.expect("joined", self.call("cluster/join", "pieces"), self.one_run("schedule", "--mult", "4"))
+        self.expect("joined", self.call("ilocpieces", "join", "pieces"), self.one_run("schedule", "--mult", "4"))
 
     def test_parallel_fault(self):
         """The status of parallel is the number of jobs that failed, and join names the first fault."""
@@ -85,9 +85,9 @@ class Engines(Place):
         text = self.read("pieces/3.iloc").replace(b"mult r2, r3", b"mult r2 r3")
         self.write("pieces/3.iloc", text)
         self.write("blocks", b"".join(self.read(f"pieces/{number}.iloc") for number in range(1, count + 1)))
-        self.expect("parallel", self.shell(f"seq {count} | parallel PIECE={{}} cluster/job pieces ilocfarm run"),
+        self.expect("parallel", self.shell(f"seq {count} | parallel PIECE={{}} ilocpieces job pieces ilocfarm run"),
                     (1, b""))
-        status, out, err = self.call("cluster/join", "pieces")
+        status, out, err = self.call("ilocpieces", "join", "pieces")
         self.expect("joined", (status, out, err.splitlines(True)[0]), self.one_run("run"))
 
     def test_slurm_killed_task(self):
@@ -98,7 +98,7 @@ class Engines(Place):
         count = self.write_blocks()
         self.script("hanging", '#!/bin/sh\nif [ "$SLURM_ARRAY_TASK_ID" = 2 ] && mkdir hung 2>/dev/null; then\n'
                                '    ilocfarm "$@" | head -c 1000; exec sleep 600\nfi\nexec ilocfarm "$@"\n')
-        again = [f"--array=1-{count}", "cluster/job", "pieces", "./hanging", "counts"]
+        again = [f"--array=1-{count}", "--output=log", "--wrap", "ilocpieces job pieces ./hanging counts"]
         status, job, err = self.call("sbatch", "--parsable", *again)
         self.expect("sbatch", (status, err), (0, b""))
         job = job.decode().strip()
@@ -107,9 +107,10 @@ class Engines(Place):
         self.until("task 2 hangs", lambda: os.path.exists(self.path("hung")))
         self.expect("scancel", self.call("scancel", f"{job}_2"), (0, b"", b""))
         self.until("no task is left", lambda: self.call("squeue", "--noheader")[1] == b"")
-        self.expect("joined", self.call("cluster/join", "pieces"), (3, b"", b"cluster/join: not run to their end: 2\n"))
+        missing = b"ilocpieces: not run to their end: 2\n"
+        self.expect("joined", self.call("ilocpieces", "join", "pieces"), (3, b"", missing))
         self.expect("sbatch", self.call("sbatch", "--quiet", "--wait", *again), (0, b"", b""))
-        self.expect("joined", self.call("cluster/join", "pieces"), self.one_run("counts"))
+        self.expect("joined", self.call("ilocpieces", "join", "pieces"), self.one_run("counts"))
 
     def test_documented(self):
         """The commands of docs/CLUSTER.md print what is shown there."""

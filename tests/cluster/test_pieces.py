@@ -1,4 +1,4 @@
-"""Cases of cluster/split, cluster/job and cluster/join without an engine: each piece is run in turn."""
+"""Cases of ilocpieces without an engine: each piece is run in turn."""
 import os
 import random
 import re
@@ -38,11 +38,11 @@ def random_file(draw):
 class Pieces(Place):
     def split(self, *options):
         """Cuts the file `blocks`, and gives the number of pieces."""
-        return int(self.printed("cluster/split", "blocks", "pieces", *options))
+        return int(self.printed("ilocpieces", "split", "blocks", "pieces", *options))
 
     def run_pieces(self, *numbers, words=("counts",), program="ilocfarm"):
         """The statuses of their runs."""
-        return [self.call("cluster/job", "pieces", program, *words, PIECE=str(number))[0] for number in numbers]
+        return [self.call("ilocpieces", "job", "pieces", program, *words, PIECE=str(number))[0] for number in numbers]
 
     def split_each(self, text=b"a: nop\nb: nop\nc: nop\n"):
         """Cuts a text into its blocks."""
@@ -50,7 +50,7 @@ class Pieces(Place):
         return self.split("--blocks", "1")
 
     def join(self):
-        return self.call("cluster/join", "pieces")
+        return self.call("ilocpieces", "join", "pieces")
 
     def joined_is_one_run(self, words, count):
         self.run_pieces(*range(1, count + 1), words=words)
@@ -119,7 +119,7 @@ class Pieces(Place):
             self.joined_is_one_run([command], 1)
 
     def test_from_a_pipe(self):
-        self.expect("pieces", self.shell("cluster/split <(printf 'a: nop\\nb:') pieces --blocks 1"), (0, b"2\n"))
+        self.expect("pieces", self.shell("ilocpieces split <(printf 'a: nop\\nb:') pieces --blocks 1"), (0, b"2\n"))
         self.expect("pieces", [self.read(f"pieces/{number}.iloc") for number in (1, 2)], [b"a: nop\n", b"b:"])
 
     def test_more_than_one_run_takes(self):
@@ -134,21 +134,21 @@ class Pieces(Place):
         self.write("blocks", block * 3)
         self.expect("pieces", self.split(), 3)
         self.write("blocks", b"a: nop\nb: // " + b"-" * 16_777_216 + b"\nc:\n")
-        said = b"cluster/split: the block from line 2 on has more than 16777216 bytes, which no run takes\n"
-        self.expect("split", self.call("cluster/split", "blocks", "more"), (1, b"", said))
+        said = b"ilocpieces: the block from line 2 on has more than 16777216 bytes, which no run takes\n"
+        self.expect("split", self.call("ilocpieces", "split", "blocks", "more"), (1, b"", said))
         self.expect("folder", os.path.exists(self.path("more")), False)
 
     def test_missing_pieces(self):
         self.expect("pieces", self.split_each(b"a: nop\n" * 7), 7)
         self.run_pieces(2, 6)
-        self.expect("joined", self.join(), (3, b"", b"cluster/join: not run to their end: 1,3-5,7\n"))
+        self.expect("joined", self.join(), (3, b"", b"ilocpieces: not run to their end: 1,3-5,7\n"))
 
     def test_failed_piece(self):
         self.split_each()
         self.script("failing",
                     "#!/bin/sh\n[ $PIECE != 2 ] || { echo ilocfarm: out of memory >&2; exit 3; }\nexec ilocfarm $@\n")
         self.expect("statuses", self.run_pieces(1, 2, 3, program="./failing"), [0, 3, 0])
-        self.expect("joined", self.join(), (3, b"", b"cluster/join: piece 2 ended with 3: ilocfarm: out of memory\n"))
+        self.expect("joined", self.join(), (3, b"", b"ilocpieces: piece 2 ended with 3: ilocfarm: out of memory\n"))
 
     def test_killed_piece(self):
         """The job is killed, or the program in it."""
@@ -157,7 +157,7 @@ class Pieces(Place):
             self.script("killed", f'#!/bin/sh\n[ $PIECE != 2 ] || {{ echo block 1; kill -KILL {killed}; exit 1; }}\n'
                                   'exec ilocfarm "$@"\n')
             self.run_pieces(1, 2, 3, program="./killed")
-            self.expect("joined", self.join(), (3, b"", b"cluster/join: not run to their end: 2\n"))
+            self.expect("joined", self.join(), (3, b"", b"ilocpieces: not run to their end: 2\n"))
         self.expect("status", self.run_pieces(2), [0])
         self.expect("joined", self.join(), self.call("ilocfarm", "counts", given=self.read("blocks")))
 
@@ -165,7 +165,7 @@ class Pieces(Place):
         self.split_each()
         self.run_pieces(1, 2)
         self.run_pieces(3, words=("counts", "--load", "1"))
-        self.expect("joined", self.join(), (3, b"", b"cluster/join: piece 3 was run as ['counts', '--load', '1'], "
+        self.expect("joined", self.join(), (3, b"", b"ilocpieces: piece 3 was run as ['counts', '--load', '1'], "
                                                 b"and piece 1 as ['counts']\n"))
 
     def test_broken_pieces(self):
@@ -178,30 +178,57 @@ class Pieces(Place):
                  b"piece 2 has 1 blocks, and its listing others"),
                 ("3.result/out", b"block 1 c cycles 0\ntotal 0 least 0\n",
                  b"the pieces' last lines differ: total 0, .."),
-                ("index", b"1 1 1\n2 x 1\n", b"pieces/index: line 2 is none that cluster/split writes"),
-                ("index", b"", b"pieces/index: line 1 is none that cluster/split writes")):
+                ("index", b"1 1 1\n2 x 1\n", b"pieces/index: line 2 is none that ilocpieces split writes"),
+                ("index", b"", b"pieces/index: line 1 is none that ilocpieces split writes")):
             self.run_pieces(1, 2, 3)
             self.write(f"pieces/{name}", text)
-            self.expect(name, self.join(), (3, b"", b"cluster/join: " + said + b"\n"))
+            self.expect(name, self.join(), (3, b"", b"ilocpieces: " + said + b"\n"))
 
     def test_first_fault(self):
         """The first fault decides, whatever became of the pieces after it."""
         self.split_each(b"a: nop\n// b\nb: nop\nadd\nc: add\n")
         self.run_pieces(1, 2)
-        said = b"ilocfarm: line 4: not understood\ncluster/join: this is line 2 of pieces/2.iloc\n"
+        said = b"ilocfarm: line 4: not understood\nilocpieces: this is line 2 of pieces/2.iloc\n"
         self.expect("joined", self.join(), (1, b"", said))
         self.run_pieces(3)
         self.expect("joined", self.join(), (1, b"", said))
+
+    def test_priorities(self):
+        """Each piece has the lines of its blocks, the last one all that are left; faults are those of one run."""
+        text, most = b"a: nop\nloadI 1 => r1\nadd r1, r1 => r2\nb:\nc: output 4\nd: output 8\n", b"7 8\n\r\n9"
+        self.write("blocks", text)
+        self.write("my own", most)
+        count = self.split("--blocks", "1", "--priorities", "my own")
+        self.expect("lines", [self.read(f"pieces/{k}.my own") for k in (1, 2, 3, 4)], [b"7 8\n", b"\r\n", b"9", b""])
+        said = b"ilocpieces: this is %s of pieces/%d.iloc\n"
+        for numbers, changed, told in (
+                (b"7 8\n\n9\n4\n", text, b""), (most, text, said % (b"block 1", 4)),
+                (b"7 8\n\n9 9\n4\n5", text, said % (b"block 1", 3)), (b"7\n\n9\n4\n5", text, said % (b"block 1", 1)),
+                (b"7 8\n\n9\n4\n5", text, said % (b"block 2", 4)), (b"7\n", text + b"nope\n", said % (b"line 2", 4))):
+            self.write("my own", numbers)
+            self.write("blocks", changed)
+            self.call("rm", "-r", "pieces")
+            self.expect("pieces", self.split("--blocks", "1", "--priorities", "my own"), count)
+            for command in ("counts", "compare"):
+                self.run_pieces(1, 2, 3, 4, words=(command, "--priorities", "pieces/%.my own"))
+                status, out, err = self.call("ilocfarm", command, "--priorities", "my own", given=changed)
+                self.expect(f"{command} by {numbers}", self.join(), (status, out, err + told))
+        self.write("other/my own", b"")
+        for names in (["iloc"], ["result"], ["my own", "other/my own"]):
+            words = [word for name in names for word in ("--priorities", name)]
+            said = ("ilocpieces: files of priorities need names of their own, other than iloc and result: "
+                    f"{', '.join(name.split('/')[-1] for name in names)}\n")
+            self.expect(f"{names}", self.call("ilocpieces", "split", "blocks", "more", *words), (1, b"", said.encode()))
 
     def test_mistakes(self):
         self.write("blocks", b"a: nop\n")
         for words in (["split"], ["split", "blocks", "more", "--bytes", "0"],
                       ["split", "blocks", "more", "--blocks", "65536"], ["join"],
                       ["join", "--all", "pieces"], ["job", "pieces", "ilocfarm", "counts"], ["job", "pieces"]):
-            status, out, err = self.call(f"cluster/{words[0]}", *words[1:])
+            status, out, err = self.call("ilocpieces", *words)
             self.expect(f"{words}", (status, out, bool(err)), (2, b"", True))
         self.split()
         for words in (["split", "blocks", "pieces"], ["split", "none", "more"], ["join", "none"]):
-            status, out, err = self.call(f"cluster/{words[0]}", *words[1:])
-            self.expect(f"{words}", (status, out, err.startswith(f"cluster/{words[0]}: ".encode())), (4, b"", True))
+            status, out, err = self.call("ilocpieces", *words)
+            self.expect(f"{words}", (status, out, err.startswith(b"ilocpieces: ")), (4, b"", True))
         self.expect("nothing was made", sorted(os.listdir(self.path("pieces"))), ["1.iloc", "index"])

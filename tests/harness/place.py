@@ -5,10 +5,12 @@ import subprocess
 import tempfile
 import time
 import unittest
+from itertools import zip_longest
 from pathlib import Path
 
 from harness.program import SECONDS, TESTED, TOP, needs, short
 
+COMMANDS = tuple(sorted(os.listdir(f"{TOP}/bin")))
 # The commands that a page shows, each after `$ `, with the lines below it; on a page they are indented. A line that
 # ends with `\` or `|` goes on.
 COMMAND = re.compile(r"^\$ ((?:.*[\\|]\n)*.*)\n((?:(?!\$ ).*\n)*)", re.MULTILINE)
@@ -54,6 +56,15 @@ class InFolder(unittest.TestCase):
         self.addCleanup(lambda: (begun.kill(), begun.communicate()))
         return begun
 
+    def follows(self, shown):
+        """Commands with what is shown below them, typed one after another into a shell, print just that."""
+        self.expect("commands are shown", bool(shown), True)
+        typed = "".join(f"{command}\nprintf '\\0'\n" for command, _ in shown)
+        printed = self.shell(typed)[1].split(b"\0")
+        for (command, below), got in zip_longest(shown, printed[:-1], fillvalue=b"it isn't run"):
+            with self.subTest(command):
+                self.expect(command, got, below.encode())
+
     def expect(self, what, got, wanted):
         if got != wanted:
             self.fail(f"{what}: {short(got, 600)} in place of {short(wanted, 600)}")
@@ -65,9 +76,8 @@ class Place(InFolder):
     def setUp(self):
         super().setUp()
         os.mkdir(self.path("bin"))
-        os.symlink(TESTED.program, self.path("bin/ilocfarm"))
-        os.symlink(f"{TOP}/grading/ilocgrade", self.path("bin/ilocgrade"))
-        os.symlink(f"{TOP}/charts/ilocview", self.path("bin/ilocview"))
+        for name in COMMANDS:
+            os.symlink(TESTED.program if name == "ilocfarm" else f"{TOP}/bin/{name}", self.path(f"bin/{name}"))
         for name in ("charts", "cluster", "docs", "examples", "grading", "install", "man", "CHANGELOG.md", "README.md"):
             os.symlink(f"{TOP}/{name}", self.path(name))
         self.environment = {**os.environ, "PATH": f"{self.path('bin')}:{os.environ['PATH']}", "LC_ALL": "C.UTF-8"}
@@ -91,21 +101,15 @@ class Place(InFolder):
     def shell(self, line):
         """Status, and both outputs as one, as on a terminal."""
         done = subprocess.run(["bash", "-c", line], cwd=self.folder, env=self.environment, stdin=subprocess.DEVNULL,
-                              stdout=subprocess.PIPE, stderr=subprocess.STDOUT, timeout=SECONDS)
+                              stdout=subprocess.PIPE, stderr=subprocess.STDOUT, timeout=5 * SECONDS)
         return done.returncode, done.stdout
 
-    def follows(self, shown):
-        """Commands with what is shown below them, run one after another, print just that."""
-        self.expect("commands are shown", bool(shown), True)
-        for command, below in shown:
-            with self.subTest(command):
-                self.expect(command, self.shell(command)[1], below.encode())
 
-
-def shown_on(page):
-    """The commands of a page of the repository, with what is shown below them."""
+def shown_on(page, but=()):
+    """The commands of a page of the repository but those with one of these words, and what is shown below them."""
     blocks = EXAMPLE.findall(Path(f"{TOP}/{page}").read_text("utf-8"))
-    return [shown for block in blocks for shown in COMMAND.findall(re.sub("^    ", "", block, flags=re.MULTILINE))]
+    shown = [shown for block in blocks for shown in COMMAND.findall(re.sub("^    ", "", block, flags=re.MULTILINE))]
+    return [(command, below) for command, below in shown if not any(word in command for word in but)]
 
 
 def crates_of(name):

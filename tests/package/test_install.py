@@ -6,11 +6,10 @@ import subprocess
 import unittest
 from pathlib import Path
 
-from harness.place import Place
+from harness.place import COMMANDS, Place
 from harness.program import TESTED, TOP
 from pages.test_links import dead_links
 
-COMMANDS = ("ilocfarm", "ilocgrade", "ilocview")
 # Of each command.
 FORMS = ("bin/{}", "share/man/man1/{}.1", "share/bash-completion/completions/{}", "share/zsh/site-functions/_{}",
          "share/fish/vendor_completions.d/{}.fish")
@@ -67,7 +66,7 @@ class Install(Place):
         self.expect("the list", self.text("a prefix/share/ilocfarm/installed").splitlines(), sorted(wanted))
         self.expect("dead links", list(dead_links(self.path("a prefix/share/doc/ilocfarm/**/*.md"))), [])
         for made, source in (("bin/ilocfarm", TESTED.program), ("share/man/man1/ilocfarm.1", "man/ilocfarm.1"),
-                             ("share/ilocfarm/cluster/join", "cluster/join")):
+                             ("share/ilocfarm/cluster/join.py", "cluster/join.py")):
             self.expect(f"{made} as it is", self.read(f"a prefix/{made}") == self.read(source), True)
         self.works(self.path("a prefix"))
         self.removes("a prefix")

@@ -11,8 +11,7 @@ from harness.program import TOP
 
 FLOOR = (3, 9)
 READS = (3, 6)      # a script is read by this one as far as to say that it is too old
-SCRIPTS = ("charts/compare", "charts/ilocview", "charts/timeline", "cluster/join", "cluster/split", "grading/ilocgrade",
-           "man/make")
+SCRIPTS = ("charts/ilocview", "cluster/ilocpieces", "grading/ilocgrade", "man/make")
 SAYS = f"needs Python {FLOOR[0]}.{FLOOR[1]} or later, and this is "
 PAGES = {"charts/floor.py": "if sys.version_info < ({}, {}):\n", "packaging/control": "python3 (>= {}.{})",
          "README.md": "Python {}.{}", "docs/INSTALL.md": "Python {}.{}", "install": "Python {}.{}",
@@ -20,8 +19,7 @@ PAGES = {"charts/floor.py": "if sys.version_info < ({}, {}):\n", "packaging/cont
 TASK, ROWS = "examples/class/tasks/both.iloc", "examples/class/submissions/ben/both.rows"
 # What is run, by bash.
 LINES = (
-    "charts/compare counts counts", "charts/timeline < explain",
-    "cluster/split examples/dot.iloc pieces", "cluster/job pieces ilocfarm counts", "cluster/join pieces",
+    "ilocpieces split examples/dot.iloc pieces", "ilocpieces job pieces ilocfarm counts", "ilocpieces join pieces",
     f"ilocview page {TASK} {ROWS}", f"ilocview timeline {TASK} {ROWS}", "ilocview compare examples/dot.iloc",
     "ilocgrade examples/class/tasks examples/class/submissions --pictures all --lenient",
     "cat grades/report.html grades/gradebook.csv grades/feedback/*/*",
@@ -95,7 +93,7 @@ class Floor(Place):
     def test_modules_of_others(self):
         """Packages that somebody installed may have the names of our modules."""
         usual = self.made()
-        modules = {os.path.basename(path).removesuffix(".py") for folder in ("charts", "grading", "man")
+        modules = {os.path.basename(path).removesuffix(".py") for folder in ("charts", "cluster", "grading", "man")
                    for path in glob.glob(f"{TOP}/{folder}/*") if os.path.isdir(path) or path.endswith(".py")}
         self.expect("modules", {"svg", "options", "completions", "programs"} <= modules, True)
         for name in modules:
@@ -105,9 +103,6 @@ class Floor(Place):
 
     def made(self):
         """What each script makes of the examples."""
-        given = self.read("examples/dot.iloc")
-        for command in ("counts", "explain", "trace"):
-            self.write(command, self.call("ilocfarm", command, given=given)[1])
         self.script("programs/ada/schedule", "#!/bin/sh\nexec cat both.rows\n")
         self.write("programs/ada/both.rows", self.read("examples/class/submissions/ada/both.rows"))
         self.call("rm", "-rf", "pieces", "grades", "programmed", "made")

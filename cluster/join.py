@@ -1,24 +1,4 @@
-#!/usr/bin/env python3
-"""Prints the listing that one run of ilocfarm would have printed of a file that cluster/split cut into pieces.
-
-    cluster/join FOLDER
-
-Takes what cluster/job left in FOLDER for each piece. The blocks' numbers count on over the pieces, and totals are
-added. Joined are run, simulate, trace, schedule, counts, compare, optimize and explain, without --task; others are
-refused by their names. Where a piece's text was refused, standard error has the program's line with the line of the
-whole file, and names the piece. Nothing is printed where a piece before that is missing, failed or was run with other
-words; the pieces to be run again are named as `sbatch --array` takes them.
-
-Status: 0 done, 1 the text is refused, 2 a mistake in the command line, 3 a piece is missing or failed, the command's
-listings can't be joined or Python is too old, 4 reading or writing failed.
-"""
-import os
-import sys
-
-sys.dont_write_bytecode = True
-sys.path.insert(1, os.path.join(os.path.dirname(os.path.realpath(__file__)), "..", "charts"))
-import floor        # ends it where Python is too old
-import argparse
+"""Joins the listings that runs of ilocfarm made of pieces of a file into that of one run."""
 import re
 from contextlib import suppress
 from dataclasses import dataclass
@@ -32,7 +12,7 @@ ENDINGS = {"run": [], "simulate": [], "trace": [], "schedule": ["total"], "count
 TABLES = ("counts", "compare")
 NUMBER = re.compile(rb"^block ([0-9]{1,9})(?![0-9])", re.MULTILINE)
 NUMBER_IN_TABLE = re.compile(rb"^([0-9]{1,9})(?=,)", re.MULTILINE)
-FAULT = re.compile(r"ilocfarm: line ([0-9]{1,9}): (.*)\n")
+FAULT = re.compile(r"ilocfarm: (line|.*\bblock) ([0-9]{1,9})\b(.*)\n")
 INDEXED = re.compile(r"([0-9]{1,9}) ([0-9]{1,18}) ([0-9]{1,5})\n")
 DONE, REFUSED = 0, 1
 
@@ -64,14 +44,15 @@ class Piece:
         with suppress(FileNotFoundError, ValueError):
             return int(self.text("status"))
 
-    def fault(self):
-        """What stopped the program, with the line of the whole file."""
+    def fault(self, before):
+        """Whether the text stopped the program or the priorities did, and where, in lines and blocks of the whole file,
+        of which so many blocks are `before` the piece."""
         said = FAULT.fullmatch(self.text("err"))
         if self.status != REFUSED or not said:
             raise Unjoined(f"piece {self.number} ended with {self.status}: {self.text('err').rstrip()}")
-        line = int(said[1])
-        return (f"ilocfarm: line {self.line + line - 1}: {said[2]}\n"
-                f"cluster/join: this is line {line} of {self.folder}/{self.number}.iloc\n")
+        is_text, at = said[1] == "line", int(said[2])
+        return is_text, (f"ilocfarm: {said[1]} {at + (self.line - 1 if is_text else before)}{said[3]}\n"
+                         f"ilocpieces: this is {said[1].split()[-1]} {at} of {self.folder}/{self.number}.iloc\n")
 
 
 @dataclass
@@ -110,7 +91,7 @@ def pieces_of(folder):
     found = [*map(INDEXED.fullmatch, lines)]
     if not all(found) or not found:
         line = [*map(bool, found), False].index(False) + 1
-        raise Unjoined(f"{folder}/index: line {line} is none that cluster/split writes")
+        raise Unjoined(f"{folder}/index: line {line} is none that ilocpieces split writes")
     return [Piece(folder, *map(int, found.groups())) for found in found]
 
 
@@ -122,8 +103,9 @@ def runs(numbers):
 
 
 def check_run(pieces):
-    """Each piece was run to its end, with the same words; or one was refused, and all before it were."""
-    missing = [piece.number for piece in pieces if piece.status is None]
+    """Each piece was run to its end, with the same words. Of a piece whose text is refused only those before it were; a
+    fault of priorities is found once all texts are read."""
+    missing, faults, before = [piece.number for piece in pieces if piece.status is None], [], 0
     for piece in pieces:
         if piece.status is None:
             raise Unjoined(f"not run to their end: {','.join(runs(missing))}")
@@ -131,7 +113,13 @@ def check_run(pieces):
         if words != usual:
             raise Unjoined(f"piece {piece.number} was run as {words.split()}, and piece 1 as {usual.split()}")
         if piece.status != DONE:
-            raise Refused(piece.fault())
+            is_text, said = piece.fault(before)
+            faults.append(said)
+            if is_text:
+                raise Refused(said)
+        before += piece.blocks
+    if faults:
+        raise Refused(faults[0])
 
 
 def added(lines):
@@ -154,23 +142,3 @@ def join(pieces, out):
         before += piece.blocks
     out.writelines(endings)
     out.flush()
-
-
-def main():
-    parser = argparse.ArgumentParser(prog="cluster/join", description=__doc__,
-                                     formatter_class=argparse.RawDescriptionHelpFormatter)
-    parser.add_argument("folder", metavar="FOLDER")
-    asked = parser.parse_args()
-    try:
-        join(pieces_of(asked.folder), sys.stdout.buffer)
-    except Refused as why:
-        print(why, end="", file=sys.stderr)
-        return 1
-    except (Unjoined, OSError) as why:
-        print(f"cluster/join: {why}", file=sys.stderr)
-        return 3 if isinstance(why, Unjoined) else 4
-    return 0
-
-
-if __name__ == "__main__":
-    sys.exit(main())
