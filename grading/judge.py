@@ -38,13 +38,17 @@ def found(name):
 
 
 class Version(argparse.Action):
-    """Prints what `ilocfarm --version` prints, since it is installed with the program."""
+    """Prints what `ilocfarm --version` prints, since it is installed with the program; and of a package the commit."""
 
     def __call__(self, parser, asked, *_):
+        commit = Path(__file__).with_name("commit")     # ./package writes it
         try:
-            parser.exit(subprocess.call([found(getattr(asked, "ilocfarm", program)), "--version"]))
+            status = subprocess.call([found(getattr(asked, "ilocfarm", program)), "--version"])
         except NoAnswer as why:
             parser.exit(3, f"{parser.prog}: {why}\n")
+        if commit.exists():
+            print(f"{parser.prog} is of commit {commit.read_text('ascii').strip()}")
+        parser.exit(status)
 
 
 def call(words, given):

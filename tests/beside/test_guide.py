@@ -9,7 +9,7 @@ PICTURES = ("compare.svg", "timeline.svg")
 
 class Guide(Place):
     def test_guide(self):
-        self.follows([shown for shown in shown_on("docs/GRADING.md") if "--program" not in shown[0]])
+        self.follows(shown_on("docs/GRADING.md", but=("--program", "graph.svg")))
         for name in PICTURES:
             if self.read(f"docs/{name}") != self.read(name):
                 self.fail(f"docs/{name} is not what the guide's commands make")
@@ -18,6 +18,10 @@ class Guide(Place):
         needs_bubblewrap()
         self.shell("cp -r examples/class/tasks examples/class/submissions .")
         self.follows([shown for shown in shown_on("docs/GRADING.md") if "programs" in shown[0]])
+
+    def test_guide_on_graphs(self):
+        self.needs("dot")
+        self.follows([shown for shown in shown_on("docs/GRADING.md") if "graph.svg" in shown[0]])
 
     def test_other_guides(self):
         self.follows(shown_on("docs/COMPARING.md"))

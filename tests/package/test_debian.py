@@ -3,37 +3,29 @@ import os
 import subprocess
 import unittest
 
-from harness.place import shown_on
-from harness.program import TESTED, TOP, needs
-from package.test_install import COMMANDS, LAB
+from harness.place import COMMANDS, shown_on
+from harness.program import TESTED, needs
 from package.test_release import Clones
 
 # The oldest with the C library that the program needs, and a newer one.
 SYSTEMS = ("bookworm",) if TESTED.is_short else ("bookworm", "trixie")
 SECONDS = 900       # for a step
 PATH = "/usr/local/sbin:/usr/local/bin:/usr/sbin:/usr/bin:/sbin:/bin"
-SETTINGS = {"LC_ALL": "C.UTF-8", "HOME": "/home/student", "DEBIAN_FRONTEND": "noninteractive", "MANPAGER": "cat"}
+SETTINGS = {"PATH": PATH, "LC_ALL": "C.UTF-8", "HOME": "/home/student", "DEBIAN_FRONTEND": "noninteractive",
+            "MANPAGER": "cat"}
 # apt asks nothing, and leaves out what is only recommended.
 APT = 'APT::Get::Assume-Yes "true"; APT::Install-Recommends "false"; quiet "2";\n'
 UNPACKED = "/home/student/my tools/iloc"
-TASK, BEN, FAY = ("class/tasks/both.iloc", "class/submissions/ben/both.rows", "class/submissions/fay/both.rows")
-# What a user types in the folder of the examples, and what it prints.
-FIRST = ("ilocfarm run < first.iloc", "block 1 -\n7\n")
+# By page which of its commands aren't run, by words that they have: those for root, and of programs that aren't there.
+PAGES = {"README.md": ("apt ", "/usr/"), "docs/GRADING.md": ("--program", "graph.svg"), "docs/STUDENTS.md": (),
+         "docs/COMPARING.md": (), "docs/CLUSTER.md": ("sbatch", "large", "> files", ".out")}
+PICTURES = ("compare.svg", "timeline.svg")      # that docs/GRADING.md has made
+FIRST = ("ilocfarm run < examples/first.iloc", "block 1 -\n7\n")
 TYPED = (
-    FIRST,
-    ("ilocfarm schedule < first.iloc | ilocfarm check --task first.iloc | head -n 1",
-     "block 1 - lawful cycles 7 ours 7 least 7\n"),
-    (f"ilocfarm check --task {TASK} 3 4 < {FAY} | head -n 1",
-     "block 1 both lawful cycles 21 ours 16 least 16 claimed 20\n"),
-    ("ilocgrade class/tasks class/submissions -o ~/grades",
-     "10 students, 1 task, 4 of 10 passed: /home/student/grades/report.html\n"),
-    ("cd ~/grades && ls . feedback/ben && rm -r ~/grades",
-     ".:\nfeedback\ngradebook.csv\nmarks.json\nreport.html\n\nfeedback/ben:\nboth.html\nboth.svg\nfeedback.txt\n"),
-    ("ilocview graph book.iloc 2>&1; echo $?",
+    ("ilocview graph examples/book.iloc; echo $?\n",
      "ilocview: this needs dot, which is not on the PATH (Debian: graphviz)\n3\n"),
     *((f"man {name} | head -n 1 | cut -d '(' -f 1", f"{name.upper()}\n") for name in COMMANDS),
 )
-DRAWN = (("timeline", *LAB, "book.iloc"), ("page", TASK, BEN), ("compare", "dot.iloc"))
 # What the shells complete by, once the package is installed.
 COMPLETED = (
     ("bash", ". /usr/share/bash-completion/bash_completion; "
@@ -58,9 +50,6 @@ class Debian(Clones):
         if os.geteuid() != 0:
             raise unittest.SkipTest("only root can make a minimal Debian")
         super().setUp()
-        os.mkdir(self.path("bin"))
-        os.symlink(TESTED.program, self.path("bin/ilocfarm"))
-        os.symlink(f"{TOP}/charts/ilocview", self.path("bin/ilocview"))
 
     def begin(self, suite):
         """A minimal system with a user, who has the release, and with what shows manual and completions."""
@@ -71,62 +60,65 @@ class Debian(Clones):
         if done.returncode:
             said = (done.stdout + done.stderr).strip().splitlines()
             raise unittest.SkipTest(f"debootstrap makes no {suite}: {said[-1]}")
+        for kind, at in ("proc", "proc"), ("sysfs", "sys"):     # where GNU parallel counts processors
+            self.call("mount", "-t", kind, kind, f"{self.root}/{at}")
         self.write(f"{suite}/etc/apt/apt.conf.d/90test", APT)
         self.inside("apt-get update && useradd --create-home student", user="root", at="/")
         for name, data in self.packages("one").items():
             self.write(f"{suite}/home/student/{name}", data)
 
-    def inside(self, line, user="student", shell="sh", path=PATH, at="/home/student"):
+    def inside(self, line, user="student", shell="sh", at="/home/student"):
         """What a line prints in the system; it has to end well."""
         words = ["chroot", f"--userspec={user}", self.root, shell, "-c", f"cd '{at}' && {line}"]
-        done = subprocess.run(words, env={**SETTINGS, "PATH": path}, capture_output=True, text=True, timeout=SECONDS,
-                              check=False)
+        done = subprocess.run(words, env=SETTINGS, stdin=subprocess.DEVNULL, capture_output=True, text=True,
+                              timeout=SECONDS, check=False)
         self.expect(f"{line}: {done.stderr[-500:]}", done.returncode, 0)
         return done.stdout
 
-    def works(self, examples, path=PATH):
-        """All that a user types; pictures are those of the repository's ilocview."""
-        for line, printed in TYPED:
-            self.expect(line, self.inside(line, path=path, at=examples), printed)
-        for words in DRAWN:
-            drawn = self.inside(f"ilocview {' '.join(words)}", path=path, at=examples)
-            ours = self.call(self.path("bin/ilocview"), *words, at=f"{TOP}/examples")
-            self.expect(f"ilocview {words}", (0, drawn.encode(), b""), ours)
+    def shell(self, lines):
+        """What is shown where lines are typed after the first ones, by this user in this folder."""
+        return 0, self.inside(f"exec 2>&1\n{self.first}\n{lines}", self.user, "bash", self.at).encode()
 
-    def follows(self, page, word, user="root"):
-        """The commands of a page that have this word."""
-        shown = [(command, below) for command, below in shown_on(page) if word in command]
-        self.expect(f"{page} shows {word}", bool(shown), True)
-        for command, below in shown:
-            printed = self.inside(f"sudo() {{ \"$@\"; }}; {command}", user=user)
-            self.expect(f"{page}: {command}", printed if below else "", below)
+    def types(self, shown, first="", user="student", at="/home/student"):
+        """Types commands, and sees that they print what is shown below them."""
+        self.first, self.user, self.at = first, user, at
+        self.follows(shown)
+
+    def works(self, pages, begin, first=""):
+        """The commands of these pages, after a first line, in a folder `page` that another makes."""
+        for page in pages:
+            self.inside(f"rm -rf page && {begin}")
+            self.types([*shown_on(page, PAGES[page]), *TYPED], first, at="/home/student/page")
+            for name in PICTURES if page == "docs/GRADING.md" else ():
+                drawn = self.read(f"{self.root}/home/student/page/{name}") == self.read(f"one/docs/{name}")
+                self.expect(f"{name} is that of docs/", drawn, True)
 
     def test_release(self):
         for suite in SYSTEMS:
             with self.subTest(suite):
                 self.begin(suite)
-                self.archive_without_python()
+                self.archive()
                 self.package()
-                self.works(f"{UNPACKED}/share/ilocfarm/examples", f"{UNPACKED}/bin:{PATH}")
-                version = self.inside(f"'{UNPACKED}/bin/ilocfarm' --version")
-                self.expect("by its path", self.inside(f"'{UNPACKED}/bin/ilocview' --version"), version)
 
-    def archive_without_python(self):
-        """The program alone needs nothing; the others say what they lack. Then it is moved."""
-        self.follows("docs/INSTALL.md", "ilocfarm-*", user="student")
+    def archive(self):
+        """The program alone needs nothing; the others say what they lack. The folder is moved before it is used."""
+        shown = shown_on("docs/INSTALL.md")
+        at = next(k for k, (command, _) in enumerate(shown) if command.startswith("tar "))
+        self.types(shown[at:at + 4])
         self.inside("mkdir 'my tools' && mv ilocfarm-*-x86_64 'my tools/iloc'")
-        line, printed = FIRST
-        path = f"{UNPACKED}/bin:{PATH}"
-        self.expect(line, self.inside(line, path=path, at=f"{UNPACKED}/share/ilocfarm/examples"), printed)
-        said = self.inside("ilocgrade 2>&1; echo $?", path=path)
+        first = "PATH=$PWD/bin:$PATH"
+        self.types([FIRST], first, at=UNPACKED)
+        said = self.inside(f"{first}; ilocgrade 2>&1; echo $?", at=UNPACKED)
         self.expect(f"ilocgrade: {said}", said.endswith(NO_PYTHON), True)
+        self.inside("apt-get install python3 parallel", user="root")
+        self.works(PAGES, "cp -r 'my tools/iloc' page", first)
 
     def package(self):
         """What the pages have a user type, all that is installed, and its removal."""
         for page in ("README.md", "docs/INSTALL.md"):
-            self.follows(page, "apt install")
-            self.follows(page, "/usr/share/ilocfarm")
-        self.works("/usr/share/ilocfarm/examples")
+            shown = [shown for shown in shown_on(page) if "sudo apt " in shown[0] or "/usr/share/" in shown[0]]
+            self.types([*shown, FIRST], 'sudo() { "$@" >/dev/null 2>&1; }', user="root")
+        self.works(["README.md"], "mkdir page && cp -r /usr/share/ilocfarm/examples page")
         for shell, line, printed in COMPLETED:
             wanted = "".join(printed.format(name) for name in COMMANDS)
             self.expect(shell, self.inside(line.format(" ".join(COMMANDS)), shell=shell), wanted)

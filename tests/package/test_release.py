@@ -10,9 +10,9 @@ import stat
 import tarfile
 import unittest
 
-from harness.place import InFolder
+from harness.place import COMMANDS, InFolder
 from harness.program import TESTED, TOP, needs
-from package.test_install import COMMANDS, GRADED, LAB, files_below, mounted
+from package.test_install import GRADED, LAB, files_below, mounted
 from pages.test_links import dead_links
 
 CLONED = ("build", "install", "launcher.sh", "package", "packaging", "charts", "cluster", "docs", "examples", "grading",
@@ -138,12 +138,12 @@ class Release(Clones):
         os.rename(self.path(self.names()[0].removesuffix(".tar.gz")), self.path("unpacked"))
 
     def installed(self):
-        """The files that ./install installs, and the page of promises."""
+        """The files that ./install installs, the page of promises, and the one with the commit."""
         self.expect("install", self.call("./install", self.path("installed"), TESTED.program, at="one")[0], 0)
-        return files_below(self.path("installed")) | {PROMISES}
+        return files_below(self.path("installed")) | {PROMISES, "share/ilocfarm/grading/commit"}
 
     def test_archive(self):
-        """It has what ./install installs, and works where it is moved."""
+        """It has what ./install installs, works where it is moved, and knows its commit."""
         self.packages("one")
         self.unpacks("one")
         self.expect("files", files_below(self.path("unpacked")), self.installed())
@@ -152,6 +152,11 @@ class Release(Clones):
         os.rename(self.path("unpacked"), self.path("a folder/of mine"))
         drawn = self.call("a folder/of mine/bin/ilocview", "timeline", *LAB, "one/examples/book.iloc")
         self.expect("ilocview", drawn, (0, self.read("one/docs/book.svg"), b""))
+        version = self.call(TESTED.program, "--version")[1]
+        for name in COMMANDS:
+            of = b"" if name == "ilocfarm" else f"{name} is of commit {self.commit}\n".encode()
+            for at, said in ("a folder/of mine", version + of), ("installed", version):
+                self.expect(f"{at}/bin/{name}", self.call(f"{at}/bin/{name}", "--version"), (0, said, b""))
         folders = ("one/examples/class/tasks", "one/examples/class/submissions")
         self.expect("ilocgrade", self.call("a folder/of mine/bin/ilocgrade", *folders), GRADED)
 
