@@ -45,7 +45,7 @@ NOT_PROVED = "ilocfarm: not proved, so not built: out/build.log has what rt said
 OTHERWISE = "ilocfarm: {} isn't as it was when the program was built\n"
 COPIED = ("ilocfarm: this is a copy of where the program was built, and only there is it known to be that of the "
           "sources\n")
-UNPROVED = rf"ilocfarm: this answer is of an unproved run, which takes about a minute\. {ADVICE}\n"
+UNPROVED = rf"ilocfarm: this answer is of an unproved run, which takes one to four minutes by load\. {ADVICE}\n"
 BUILT = "ilocfarm: out/ilocfarm is proved and built, and ./ilocfarm runs it\n"
 
 
@@ -83,9 +83,9 @@ class Repository(InFolder):
         given = {"PATH": ":".join(path), "TEST": self.folder, "TMPDIR": f"{self.folder}/tmp", **how.pop("env", {})}
         return self.process(os.path.join(self.top, by), *words, env=given, **how)
 
-    def ended(self, started, given=None):
+    def ended(self, started, given=None, seconds=SECONDS):
         """Its status and what it wrote, once nothing of it is left among the temporary files."""
-        out, err = started.communicate(given, timeout=SECONDS)
+        out, err = started.communicate(given, timeout=seconds)
         self.assertEqual(os.listdir(f"{self.folder}/tmp"), [])
         return started.returncode, out, err
 
@@ -296,8 +296,8 @@ class Answers(Repository):
 
 class Fails(Repository):
     def test_without_the_toolchain(self):
-        self.fails("no proved program is here, and the toolchain's command rt is not on the PATH: add its folder",
-                   "run", with_rt=False)
+        self.fails("no proved program is here, and the toolchain's command rt is not on the PATH: add its folder, or "
+                   "install a release, as docs/INSTALL.md says", "run", with_rt=False)
         self.fails("the toolchain's command rt is not on the PATH: add its folder", by="build", with_rt=False)
         self.builds(1)
         self.assertEqual(self.ran("run", given="text", with_rt=False), (7, "build 1: run: text\n", ""))

@@ -8,7 +8,7 @@ from harness.program import TOP
 from launcher.test_launcher import UNPROVED, Repository
 
 # What ./ilocfarm needs of the repository to run the README's commands, and how long each may take, all at once.
-CLONED = ("ilocfarm", "launcher.sh", "crates.txt", "HANDLES", "crates", "examples")
+CLONED = ("bin", "ilocfarm", "launcher.sh", "crates.txt", "HANDLES", "crates", "examples")
 UNPROVED_SECONDS = 900
 
 
@@ -31,7 +31,8 @@ fn main(rt: HostRuntime) -> io::Result<()> {
     Ok(())
 }
 """)
-        status, out, err = self.ran("run", given="one\ntwo\n", env={"PATH": os.environ["PATH"]})
+        started = self.start("run", env={"PATH": os.environ["PATH"]})
+        status, out, err = self.ended(started, "one\ntwo\n", UNPROVED_SECONDS)
         self.assertEqual((status, out), (0, "one\ntwo\n"))
         self.assertRegex(err, rf"\A{UNPROVED}(ilocfarm: a word\n){{2}}\Z")
 
@@ -43,8 +44,8 @@ fn main(rt: HostRuntime) -> io::Result<()> {
 
     def test_readme_on_a_fresh_clone(self):
         """Where nothing is built each command of the README prints what is shown below it."""
-        shown = [example for example in shown_on("README.md") if "./ilocfarm " in example[0]]
-        started = [self.process("bash", "-c", command, cwd=self.clone(number), stdin=subprocess.DEVNULL)
+        shown = shown_on("README.md", but=("PATH=", "apt ", "/usr/", "grade"))
+        started = [self.process("bash", "-c", f"PATH=$PWD/bin:$PATH\n{command}", cwd=self.clone(number), stdin=subprocess.DEVNULL)
                    for number, (command, _) in enumerate(shown)]
         self.assertTrue(started)
         for (command, below), run in zip(shown, started):
