@@ -12,9 +12,10 @@ import tempfile
 from pathlib import Path
 
 from cases.test_stored import stored_cases
-from harness.program import TOP
-from judged.test_json import undecided_cases
+from harness.program import TOP, Run
+from judged.test_json import undecided
 from judged.test_rows import LISTED
+from oracle.judge import NOT_SAME
 
 # Of cases/stored, by command or by what they show.
 STORED = (
@@ -38,10 +39,18 @@ SHOWN = re.compile(r"^== (\S+)\n(.*?)(?=^== |\Z)", re.MULTILINE | re.DOTALL)
 ENDED = re.compile(r"^case=(\S+) run=(\S+)(?: status=(\d+))?.*$", re.MULTILINE)
 
 
+def undecided_soon():
+    """Rows that no verdict is found for, after few steps: 201 blocks share them."""
+    lines = ["block 1 B1 undecided cycles 400 ours 200 least 200", "  the block shows nothing", "  undecided",
+             *(f"block {k} other lawful cycles 0 ours 0 least 0" for k in range(2, 202)), "total 400 ours 200 least 200"]
+    out = "".join(f"{line}\n" for line in lines).encode()
+    return Run("undecided", ["check", "--lawful"], undecided(100, 200), out, b"", NOT_SAME)
+
+
 def chosen():
     every = {case.name: case for case in stored_cases()}
-    undecided = [case for case in undecided_cases() if case.name.endswith("undecided_in_lines")]
-    return [every[name] for name in STORED] + [LISTED[name].case(name) for name in ROWS] + undecided
+    rows = [LISTED[name].case(name) for name in ROWS]
+    return [*(every[name] for name in STORED), *rows, undecided_soon()]
 
 
 def named(case):

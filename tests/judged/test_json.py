@@ -69,12 +69,13 @@ def are_the_same(texts, *words):
         yield f"no more than {kinds} were tried"
 
 
-def undecided():
+def undecided(count=400, others=0):
     """Rows that compute another graph than their block, too large to be told apart, of which each point has as many
-    neighbours."""
+    neighbours. Other blocks without operations have their share of the steps of the search."""
     chance = random.Random(8)
-    own, other = (alike.regular(chance, 400, 3) for _ in range(2))
-    return text_of([alike.graph(400, own)]) + proposed(1, "B1", alike.shuffled(chance, 400, other))
+    own, other = (alike.regular(chance, count, 3) for _ in range(2))
+    rows = proposed(1, "B1", alike.shuffled(chance, count, other))
+    return text_of([alike.graph(count, own)]) + b"other:\n" * others + rows
 
 
 def undecided_cases():
