@@ -1,4 +1,5 @@
-"""docs/PROOFS.md lists all that the theorems reach (theorems.py), and README shows the lines of `main` that are left to trust."""
+"""docs/PROOFS.md lists all that the theorems reach (theorems.py), and README shows the lines of `main` that are left to
+trust."""
 import re
 import unittest
 from pathlib import Path

@@ -1,5 +1,5 @@
 #!/usr/bin/env python3
-"""What has to be read to believe the theorems: each definition of specs/ that their words reach, put into docs/PROOFS.md.
+"""What has to be read to believe the theorems: each definition of specs/ that their words reach, for docs/PROOFS.md.
 
     tests/pages/theorems.py --write
 
@@ -14,7 +14,8 @@ from pathlib import Path
 
 TOP = os.path.dirname(os.path.dirname(os.path.dirname(os.path.abspath(__file__))))
 PAGE = f"{TOP}/docs/PROOFS.md"
-HEAD = "| What it says | Files of `specs/` in the order of reading, each with its lines | New | In all |\n|---|---|---|---|\n"
+HEAD = ("| What it says | Files of `specs/` in the order of reading, each with its lines | New | In all |\n"
+        "|---|---|---|---|\n")
 # Each part is new definitions, after those of the parts before it.
 PARTS = {
     "**Does what its block does**: `KeepsItsBlock`": ["Headline.KeepsItsBlock"],
@@ -148,7 +149,8 @@ def table():
         all_of, types = reached([(f"iloc_farm.specs.{name.rpartition('.')[0]}", name.rpartition(".")[2])
                                  for name in names])
         files, whole = files_of([place for place in all_of if place not in known]), files_of(all_of)
-        listed = ", ".join(f"`{name.replace('.specs.', '/').replace('.', '/')}` {count}" for name, count in files.items())
+        places = {name.replace(".specs.", "/").replace(".", "/"): count for name, count in files.items()}
+        listed = ", ".join(f"`{place}` {count}" for place, count in places.items())
         text += (f"| {title} | {listed} | {sum(files.values())} | {len(whole)} files, {sum(whole.values())} lines, "
                  f"{len(types)} types |\n")
         known.update(all_of)
