@@ -1,4 +1,4 @@
-//! What is said besides where the parser refuses a word that may be a file, or a negative number.
+//! What is said besides where the parser refuses a word, if that may help.
 use std::alloc::{AllocError, Global};
 
 /// What the parser says of a word that is none of the command's.
@@ -10,17 +10,59 @@ const ITS_TIP: &str = "  tip: to pass ";
 /// What is said of a word that is no number.
 const WORDS: &str = "a WORD is a number from 0 to 4294967295, which stands for -1";
 
+/// What the parser says of a word in the place of a command.
+const NO_COMMAND: &str = "error: unrecognized subcommand '";
+
+/// What may help with what the parser says first, by a part of that.
+const TIPS: [(&str, &str); 9] = [
+    (
+        "unexpected argument '-j",
+        "workers are given by --workers N, in schedule, counts, compare, optimize and explain",
+    ),
+    (
+        "unexpected argument '-v'",
+        "ilocfarm --version prints the version",
+    ),
+    (
+        "unexpected argument '--latency'",
+        "latencies are given by --load N, --store N and --mult N",
+    ),
+    (
+        "'--workers <N>': invalid digit",
+        "N is a number from 1 to 8",
+    ),
+    (
+        "'--at <N>': invalid digit",
+        "N is a multiple of 4, from 0 to 65532",
+    ),
+    (
+        "'--nodes <N>': invalid digit",
+        "N is a number from 0 to 100000",
+    ),
+    ("'--load <N>': invalid digit", "N is a number from 1 to 16"),
+    ("'--store <N>': invalid digit", "N is a number from 1 to 16"),
+    ("'--mult <N>': invalid digit", "N is a number from 1 to 16"),
+];
+
 /// What may help with what the parser says first.
 #[derive(Clone, Copy)]
-struct Advice {
+struct Advice<'a> {
     /// Say what a WORD is.
     of_words: bool,
-    /// Say how the command is given a file.
-    of_input: bool,
+    /// Say how the command of this name is given a file.
+    of_input: Option<&'a str>,
+    /// Say this.
+    of_option: Option<&'static str>,
 }
 
-impl Advice {
-    fn on(what: &str, takes_words: bool) -> Advice {
+/// Whether a file is in the place of a command.
+fn is_file(what: &str) -> bool {
+    what.strip_prefix(NO_COMMAND)
+        .is_some_and(|word| word.contains(".") || word.contains("/"))
+}
+
+impl<'a> Advice<'a> {
+    fn on(what: &str, takes_words: bool, command: &'a str) -> Advice<'a> {
         let refused = what.strip_prefix(UNEXPECTED);
         let is_option = refused.is_some_and(|word| word.starts_with('-'));
         let is_negative = is_option
@@ -30,22 +72,36 @@ impl Advice {
         let is_no_word = what.contains("for '[WORD]...'");
         Advice {
             of_words: is_no_word || (is_negative && takes_words),
-            of_input: is_no_word || (refused.is_some() && !is_option),
+            of_input: if is_file(what) {
+                Some("COMMAND")
+            } else if is_no_word || (refused.is_some() && !is_option) {
+                Some(command)
+            } else {
+                None
+            },
+            of_option: TIPS
+                .iter()
+                .copied()
+                .find(|(part, _)| what.contains(*part))
+                .map(|(_, tip)| tip),
         }
     }
 
-    fn push(self, text: &mut String, command: &str) -> Result<(), AllocError> {
-        if self.of_words || self.of_input {
+    fn push(self, text: &mut String) -> Result<(), AllocError> {
+        if self.of_words || self.of_input.is_some() || self.of_option.is_some() {
             text.push_str("\n")?;
         }
         if self.of_words {
             write!(text, "\n  tip: {WORDS}")?;
         }
-        if self.of_input {
+        if let Some(command) = self.of_input {
             write!(
                 text,
                 "\n  tip: a file is given by \"<\": ilocfarm {command} < FILE"
             )?;
+        }
+        if let Some(tip) = self.of_option {
+            write!(text, "\n  tip: {tip}")?;
         }
         Ok(())
     }
@@ -64,7 +120,7 @@ pub fn advised(alloc: Global, said: &str, command: &str) -> Result<String, Alloc
         None => (false, rest),
     };
     let mut text = String::from_str(alloc, what)?;
-    Advice::on(what, takes_words).push(&mut text, command)?;
+    Advice::on(what, takes_words, command).push(&mut text)?;
     text.push_str("\n\n")?;
     text.push_str(rest)?;
     Ok(text)
