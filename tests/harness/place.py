@@ -10,7 +10,9 @@ from pathlib import Path
 
 from harness.program import SECONDS, TESTED, TOP, needs, short
 
-COMMANDS = tuple(sorted(os.listdir(f"{TOP}/bin")))
+# Each command that bin/ has, with the file that it starts.
+COMMANDS = {"ilocfarm": "ilocfarm", "ilocgrade": "grading/ilocgrade", "ilocpieces": "cluster/ilocpieces",
+            "ilocview": "charts/ilocview"}
 # The commands that a page shows, each after `$ `, with the lines below it; on a page they are indented. A line that
 # ends with `\` or `|` goes on.
 COMMAND = re.compile(r"^\$ ((?:.*[\\|]\n)*.*)\n((?:(?!\$ ).*\n)*)", re.MULTILINE)
@@ -76,8 +78,8 @@ class Place(InFolder):
     def setUp(self):
         super().setUp()
         os.mkdir(self.path("bin"))
-        for name in COMMANDS:
-            os.symlink(TESTED.program if name == "ilocfarm" else f"{TOP}/bin/{name}", self.path(f"bin/{name}"))
+        for name, file in COMMANDS.items():
+            os.symlink(TESTED.program if name == "ilocfarm" else f"{TOP}/{file}", self.path(f"bin/{name}"))
         for name in ("charts", "cluster", "docs", "examples", "grading", "install", "man", "CHANGELOG.md", "README.md"):
             os.symlink(f"{TOP}/{name}", self.path(name))
         self.environment = {**os.environ, "PATH": f"{self.path('bin')}:{os.environ['PATH']}", "LC_ALL": "C.UTF-8"}

@@ -5,6 +5,7 @@ import re
 import subprocess
 import unittest
 
+from harness.place import COMMANDS
 from pages.promises import CRATES, TOP, read
 
 
@@ -16,6 +17,15 @@ def dead_links(*patterns):
 
 
 class Links(unittest.TestCase):
+    def test_commands(self):
+        """Each file of bin/ starts its command, and is no link, which the toolchain refuses."""
+        self.assertEqual(sorted(os.listdir(f"{TOP}/bin")), sorted(COMMANDS))
+        for name, file in COMMANDS.items():
+            with self.subTest(name):
+                self.assertFalse(os.path.islink(f"{TOP}/bin/{name}"))
+                self.assertTrue(os.access(f"{TOP}/bin/{name}", os.X_OK) and os.access(f"{TOP}/{file}", os.X_OK))
+                self.assertIn(f'/../{file}" "$@"\n', read(f"{TOP}/bin/{name}"))
+
     def test_links(self):
         self.assertEqual([*dead_links(f"{TOP}/*.md", f"{TOP}/docs/*.md", f"{TOP}/tests/*.md")], [])
 
