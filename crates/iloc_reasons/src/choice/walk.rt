@@ -498,9 +498,9 @@ impl Walk<'_> {
         Some(Claim { k, what })
     }
 
-    /// What is claimed where none of `all` is a fact: of the first operations that are said to stand for others, that they don't
-    /// read what those read, and that nobody reads what they were to read. They may read older loads, which are like those of the
-    /// block but for their memory.
+    /// What is claimed where none of `all` is a fact: of each of its first operations that stand for another one, that it doesn't
+    /// read what the other one reads, and that nobody reads what it was to read. It may read an older load, which differs from the
+    /// block's in its memory alone.
     fn otherwise(&self, all: &[Claim]) -> Result<Vec<Claim>, NoMemory> {
         let mut claims = Vec::new(self.alloc);
         for claim in all {
