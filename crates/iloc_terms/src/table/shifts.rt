@@ -1,7 +1,7 @@
 //! The shifted words of a table. A shift to the left is a product; shifts to the right by known amounts are one.
 ghost use Rattle.std.specs.Prelude.{◌≡◌, ◌≤◌, List, ℤ, IfOk};
 ghost use Rattle.std.specs.Int.{int_shr};
-ghost use Rattle.iloc_meaning.specs.Arithmetic.{shifted_left, shifted_right};
+ghost use Rattle.iloc_meaning.specs.Arithmetic.{shift_of, shifted_left, shifted_right};
 ghost use Rattle.iloc_terms.specs.Steps.Terms.{Adds, Meaning, IsMeaning};
 
 use crate::table::Table;
@@ -20,6 +20,15 @@ struct Shifted {
 }
 
 impl Table {
+    /// A word by which a shift goes as far as by `amount`: one for all that are apart by a multiple of 32.
+    fn amount(&mut self, amount: u32) -> Result<u32, NoMemory>
+        ensures { IfOk result (λ n. Adds self.old self.new (λ _ d. shift_of (d.word n) ≡ shift_of (d.word amount))) }
+    {
+        let parts = self.parts(amount);
+        let constant = parts.constant.cast_unsigned() % 32;
+        self.of_parts(parts.base, constant.cast_signed())
+    }
+
     /// A word shifted left by a constant modulo 32.
     pub(crate) fn shifted_left_by(&mut self, value: u32, amount: i32) -> Result<u32, NoMemory>
         ensures { IfOk result (λ n. Adds self.old self.new (λ _ d. d.word n ≡ shifted_left (d.word value) amount)) }
@@ -32,6 +41,7 @@ impl Table {
         ensures { IfOk result (λ n. Adds self.old self.new (λ _ d.
             d.word n ≡ shifted_left (d.word value) (d.word amount))) }
     {
+        let amount = self.amount(amount)?;
         if let Some(amount) = self.constant(amount) {
             return self.shifted_left_by(value, amount);
         }
@@ -89,6 +99,7 @@ impl Table {
         ensures { IfOk result (λ n. Adds self.old self.new (λ _ d.
             d.word n ≡ shifted_right (d.word value) (d.word amount))) }
     {
+        let amount = self.amount(amount)?;
         if let Some(amount) = self.constant(amount) {
             return self.shifted_right_by(value, amount);
         }
