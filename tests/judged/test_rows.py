@@ -170,7 +170,7 @@ def judged_cases():
     # Five cycles apart each result is there; four apart one is used a cycle too early.
     yield judged("five_apart", LOADS_AND_STORES + spread(LOADS_AND_STORES, 5), "lawful")
     yield judged("four_apart", LOADS_AND_STORES + spread(LOADS_AND_STORES, 4), "differs",
-                 "output 1: 2 for 0 with --at 1032 2")
+                 "output 1: 1 for 0 with --at 1032 1")
     yield judged("product_on_unit_0", SQUARE + spread(SQUARE, product_unit=0), "units",
                  "row 12: [ mult r2, r2 => r3 ; nop ]: a product on unit 0")
     yield from (listed.case(f"listed_{name}") for name, listed in LISTED.items())

@@ -1,6 +1,7 @@
 //! Memories whose words lead to chosen addresses.
 
 use crate::refutation::clues::Clues;
+use crate::refutation::pattern::STRIDE;
 use crate::refutation::probe::Cell;
 use iloc_meaning::WORDS;
 use iloc_ops::NoMemory;
@@ -8,16 +9,32 @@ use iloc_terms::{MentionedAddress, Mentions};
 use std::alloc::Global;
 
 /// How many memories are aimed, at most.
-pub(crate) const MOST_AIMS: usize = 20;
+pub(crate) const MOST_AIMS: usize = MOST_MEETINGS + 2 * MOST_EDGES + MOST_STARTS;
 
-/// How many of them aren't aimed at known addresses, at most.
+/// How many of them are aimed at no good address, or at a known or another unknown one, at most.
+const MOST_MEETINGS: usize = 20;
+
+/// How many of those aren't aimed at known addresses, at most.
 const MOST_UNKNOWN: usize = 12;
+
+/// How many places are put at either edge of memory, at most.
+const MOST_EDGES: usize = 4;
+
+/// The addresses just off either edge of memory.
+const EDGES: [u32; 2] = [0_u32.wrapping_sub(4), 4 * WORDS as u32];
+
+/// Words at which shifts, sums and products of others differ, in which no address is: all bits, the highest amount of a
+/// shift, the highest number and the lowest, and 1.
+const EXTREMES: [u32; 5] = [u32::MAX, 31, u32::MAX >> 1, 1 << 31, 1];
+
+/// How many memories have such words: from each of them on, and one has none but distinct ones.
+const MOST_STARTS: usize = EXTREMES.len() + 1;
 
 /// How many places at which something is done aims are made of, at most.
 const MOST_REACHED: usize = 8;
 
 /// How many words such a memory has, at most.
-const MOST_CELLS: usize = 64;
+pub(crate) const MOST_CELLS: usize = 64;
 
 /// What some word that is loaded leads to. All others are good addresses, apart from one another.
 #[derive(Clone, Copy)]
@@ -29,6 +46,9 @@ pub(crate) enum Aim {
         moved: MentionedAddress,
         still: MentionedAddress,
     },
+    /// The words that no address is above, to no address: they are `EXTREMES` in turn, from the one with this number on, or
+    /// distinct ones.
+    Extremes(usize),
 }
 
 /// How many words lie between good addresses, at least.
@@ -74,7 +94,7 @@ fn add_meetings(
 fn add_known(aims: &mut Vec<Aim>, mentions: &Mentions) -> Result<(), NoMemory> {
     let places = mentions.reached.len().min(MOST_REACHED).max(1);
     let addresses = mentions.addresses.len().max(1);
-    let room = MOST_AIMS.saturating_sub(aims.len());
+    let room = MOST_MEETINGS.saturating_sub(aims.len());
     for number in 0..room.min(places.saturating_mul(addresses)) {
         let address = (number % places).wrapping_add(number / places);
         let place = mentions.reached.get(number % places);
@@ -86,6 +106,32 @@ fn add_known(aims: &mut Vec<Aim>, mentions: &Mentions) -> Result<(), NoMemory> {
         }
     }
     Ok(())
+}
+
+/// Adds that the first places of `reached` are just off either edge of memory, while what is above or below them may be
+/// in it.
+fn add_edges(aims: &mut Vec<Aim>, reached: &[MentionedAddress]) -> Result<(), NoMemory> {
+    for place in reached.iter().take(MOST_EDGES) {
+        for offset in EDGES {
+            let still = MentionedAddress { base: None, offset };
+            aims.push(Aim::Meeting {
+                moved: *place,
+                still,
+            })?;
+        }
+    }
+    Ok(())
+}
+
+/// The word with this number where `Aim::Extremes(start)` has one.
+fn extreme(start: usize, number: usize) -> u32 {
+    let distinct = ((number % MOST_CELLS) as u32 + 1).wrapping_mul(STRIDE);
+    let turn = start.wrapping_add(number) % EXTREMES.len();
+    if start < EXTREMES.len() {
+        EXTREMES[turn]
+    } else {
+        distinct
+    }
 }
 
 impl Aim {
@@ -101,16 +147,21 @@ impl Aim {
         }
         aims.truncate(MOST_UNKNOWN);
         add_known(&mut aims, mentions)?;
+        add_edges(&mut aims, &mentions.reached)?;
+        for start in 0..MOST_STARTS {
+            aims.push(Aim::Extremes(start))?;
+        }
         Ok(aims)
     }
 
-    /// The word that is loaded with this number, after these, where `free` is a word after the known addresses.
-    fn word(self, free: usize, words: &[u32], number: usize) -> u32 {
+    /// The word that is loaded with this number, after `words`, where `free` is a word after the known addresses.
+    fn word(self, free: usize, clues: &Clues, words: &[u32], number: usize) -> u32 {
         match self {
             Aim::Bad(base) if base == Some(number) => 1,
             Aim::Meeting { moved, still } if moved.base == Some(number) => {
                 address(words, still).wrapping_sub(moved.offset)
             }
+            Aim::Extremes(start) if !clues.is_base(number) => extreme(start, number),
             _ => {
                 let place = free.wrapping_add(number.wrapping_mul(APART)) % WORDS;
                 4 * place as u32
@@ -125,7 +176,7 @@ impl Aim {
         let mut cells = Vec::with_capacity(alloc, MOST_CELLS)?;
         let loaded = clues.mentions.loaded.iter().take(MOST_CELLS);
         for (number, place) in loaded.enumerate() {
-            let word = self.word(free, &words, number);
+            let word = self.word(free, clues, &words, number);
             if let Some(place) = clues.place(address(&words, *place)) {
                 cells.push(Cell { place, word })?;
             }

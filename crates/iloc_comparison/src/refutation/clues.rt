@@ -1,6 +1,6 @@
 //! What memories are made up of.
 
-use crate::refutation::aim::Aim;
+use crate::refutation::aim::{Aim, MOST_CELLS};
 use crate::refutation::pattern::Pattern;
 use crate::refutation::probe::Cell;
 use iloc_meaning::WORDS;
@@ -19,6 +19,8 @@ pub(crate) struct Clues {
     pub(crate) places: Vec<u32>,
     // The first and the last word, plus 1, that may be made up.
     bounds: (u32, u32),
+    // Of the first words that are loaded, whether addresses are above them.
+    are_bases: Vec<bool>,
     aims: Vec<Aim>,
 }
 
@@ -100,18 +102,32 @@ fn places(
     Ok(places)
 }
 
+/// Of the first words that `mentions` says are loaded, whether addresses are above them.
+fn are_bases(alloc: Global, mentions: &Mentions) -> Result<Vec<bool>, NoMemory> {
+    let mut are_bases = vec![in alloc; false; MOST_CELLS]?;
+    for place in mentions.reached.iter().chain(&mentions.loaded) {
+        let number = place.base.unwrap_or(MOST_CELLS);
+        if let Some(is_base) = are_bases.get_mut(number) {
+            *is_base = true;
+        }
+    }
+    Ok(are_bases)
+}
+
 impl Clues {
     /// What follows from `mentions`, what two runs mention, for memories that span `span` words.
     pub(crate) fn of(alloc: Global, mentions: Mentions, span: usize) -> Result<Clues, NoMemory> {
         let bounds = bounds(&mentions.addresses, span);
         let bases = bases(alloc, &mentions.addresses, &mentions.offsets)?;
         let places = places(alloc, &mentions.addresses, &bases, bounds)?;
+        let are_bases = are_bases(alloc, &mentions)?;
         let aims = Aim::all(alloc, &mentions)?;
         Ok(Clues {
             mentions,
             bases,
             places,
             bounds,
+            are_bases,
             aims,
         })
     }
@@ -119,6 +135,11 @@ impl Clues {
     /// The number of the word at an address, if it may be made up.
     pub(crate) fn place(&self, address: u32) -> Option<u32> {
         place_within(self.bounds, address)
+    }
+
+    /// Whether addresses are above the word that is loaded with this number.
+    pub(crate) fn is_base(&self, number: usize) -> bool {
+        self.are_bases.get(number).copied().unwrap_or(true)
     }
 
     /// The words of made-up memory `number`, if there is one: first the aimed ones, then the patterns.

@@ -35,7 +35,7 @@ pub(crate) enum Pattern {
 }
 
 /// An odd number, so that its multiples modulo 2^32 are distinct.
-const STRIDE: u32 = 0x9E37_79B9;
+pub(crate) const STRIDE: u32 = 0x9E37_79B9;
 
 /// The word with this number in a list that is repeated without end; of an empty one 0.
 fn in_turn(words: &[u32], number: u32) -> u32 {

@@ -54,12 +54,17 @@ impl Probe {
         Ok(used)
     }
 
-    /// The same memory with 0 in place of the words with `indices`.
-    pub(crate) fn without(&self, alloc: Global, indices: &[usize]) -> Result<Probe, NoMemory> {
+    /// The same memory, but those of its words with `indices` that are above `most` are `most`, as patterns of 32 bits.
+    pub(crate) fn lowered(
+        &self,
+        alloc: Global,
+        indices: &[usize],
+        most: u32,
+    ) -> Result<Probe, NoMemory> {
         let mut words = Vec::from_slice(alloc, &self.words)?;
         for index in indices {
             if let Some(word) = words.get_mut(*index) {
-                *word = 0;
+                *word = (*word).min(most);
             }
         }
         Ok(Probe { at: self.at, words })
