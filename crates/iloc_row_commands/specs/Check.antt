@@ -1,6 +1,7 @@
 -- The listing of what is said of the schedules that others proposed for a file's blocks.
 use Rattle.std.specs.Prelude.{ℕ, ◌≡◌, ◌≤◌, ℤ, Bool, true, false, Option, Some, None, List, [], ◌++◌, sum_by, codes}
 use Rattle.std.specs.Option.{option_map_or}
+use Rattle.std.specs.List.{flat_map}
 use Rattle.std.specs.Fmt.{decimal}
 use Rattle.iloc_ops.specs.declared.file.Block.{Block}
 use Rattle.iloc_ops.specs.declared.op.Op.{Op}

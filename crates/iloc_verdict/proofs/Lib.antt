@@ -1,2 +1,4 @@
+pub mod Appended
 pub mod Common
 pub mod IssueCycles
+pub mod Parts

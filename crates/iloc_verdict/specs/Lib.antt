@@ -3,5 +3,6 @@ pub mod Checked
 pub mod Unread
 pub mod Entry
 pub mod Kept
+pub mod Remarks
 pub mod UnitRule
 pub mod Counted

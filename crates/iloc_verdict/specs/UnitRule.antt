@@ -1,5 +1,5 @@
 -- Which rule of the units a row breaks.
-use Rattle.std.specs.Prelude.{◌&&◌, ◌≡◌, Bool, not, Option, Some, None, List, [], ◌∷◌, ◌++◌, ℕ, find, codes}
+use Rattle.std.specs.Prelude.{◌&&◌, ◌≡◌, Bool, not, Option, List, [], ◌∷◌, ℕ, find, codes}
 use Rattle.std.specs.Option.{is_some}
 use Rattle.iloc_ops.specs.declared.op.Op.{Op}
 use Rattle.iloc_timed.specs.declared.kind.Kind.{Kind}
@@ -32,11 +32,6 @@ rule_words OneProduct = codes "two products"
 rule_words OneOutput = codes "two outputs"
 rule_words ProductsOnOne = codes "a product on unit 0"
 rule_words MemoryOnZero = codes "a load or store on unit 1"
-
--- `: ` and what it has
-abbrev pub rule_told : Option UnitRule → List ℕ
-rule_told None = []
-rule_told (Some rule) = codes ": " ++ rule_words rule
 
 -- of each row that breaks the rules of the units a rule is named, and of no other
 abbrev pub BadRowsBreakARule : Type 0

@@ -34,12 +34,10 @@ pub record IsUnreadLine (unread : Unread) (told : List ℕ) : Type 0 where
   pub are_words : IsRowWording unread.text words
   pub listed : told ≡ unread_told unread words
 
-abbrev pub unread_lines : Checked → Option ℕ → Unread → List ℕ → List ℕ
-unread_lines checked claimed unread words = line_of checked claimed ++ unread_told unread words
-
 -- the line of the verdict `unread` with one for the line below it, a row of a table, or, of so many rows, a line of JSON
 abbrev pub unread_as : Form → ℕ → Changes → Checked → Option ℕ → Unread → List ℕ → List ℕ
-unread_as forms.Lines rows changes checked claimed unread words = unread_lines checked claimed unread words
+unread_as forms.Lines rows changes checked claimed unread words =
+    line_of checked claimed ++ unread_told unread words
 unread_as forms.Table rows changes checked claimed unread words = row_of checked claimed
 unread_as forms.Json rows changes checked claimed unread words = unread_json_of rows changes claimed unread words checked
 

@@ -2,7 +2,6 @@
 ghost use Rattle.std.specs.Prelude.{◌≡◌, ◌++◌, OnOk};
 ghost use Rattle.iloc_verdict.specs.Checked.{compared_kind, found, kind_of, passes};
 ghost use Rattle.iloc_verdict.specs.Entry.{entry_as};
-ghost use Rattle.iloc_verdict.specs.Entry.Listing.{lines_of};
 ghost use Rattle.iloc_verdict.specs.Counted.{CanBeListed};
 
 pub mod changes;
@@ -101,23 +100,6 @@ pub fn found(
     }
 }
 
-/// Appends a line with this verdict on operations and rows, and what is said below it.
-fn push_lines(
-    text: &mut Vec<u8>,
-    claimed: Option<u32>,
-    ops: &[Op],
-    rows: &[Row],
-    verdict: &Verdict,
-    checked: Checked,
-) -> Result<(), NoMemory>
-    requires { CanBeListed rows.now verdict.now }
-    ensures { OnOk result (text.new.items ≡ text.old.items
-        ++ lines_of claimed ops.now rows.now verdict.now checked) }
-{
-    push_line(text, checked, claimed)?;
-    push_detail(text, ops, rows, verdict)
-}
-
 /// Appends what is listed of operations and rows that are judged so, in the form that is asked for.
 pub fn push_entry(
     text: &mut Vec<u8>,
@@ -135,7 +117,10 @@ pub fn push_entry(
 {
     let passing = checked.passes(judging.options.lawful);
     match judging.options.form {
-        Form::Lines => push_lines(text, claimed, ops, rows, &judgement.verdict, checked),
+        Form::Lines => {
+            push_line(text, checked, claimed)?;
+            push_detail(text, ops, rows, &judgement.verdict)
+        }
         Form::Table => push_table_row(text, checked, claimed),
         Form::Json => push_json(text, passing, claimed, ops, rows, judgement, checked),
     }

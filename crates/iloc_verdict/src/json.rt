@@ -2,71 +2,42 @@
 ghost use Rattle.std.specs.Prelude.{◌≡◌, ◌++◌, ◌<◌, length, OnOk};
 ghost use Rattle.iloc_verdict.specs.Entry.Json as json;
 ghost use Rattle.iloc_verdict.specs.Counted.{CanBeListed};
-ghost use Rattle.iloc_verdict.specs.UnitRule.{broken_rule};
 
 mod comparison;
 mod operations;
 mod reason;
-pub mod value;
 
 use crate::checked::Checked;
 use crate::checked::changes::Changes;
-use crate::checked::unit_rule::broken_rule;
+use crate::checked::verdict_line::{claim, push_counts};
+use crate::remark::reason::push_units;
 use crate::verdict::{Judgement, Verdict};
+use Piece::{Escaped, Number, Text};
 use comparison::{push_comparison, push_no_difference};
+use iloc_comparison::Form;
 use iloc_ops::{NoMemory, Op};
+use iloc_pieces::{Piece, push_all};
 use iloc_rows::Unread;
-use iloc_rules::Sought;
-use iloc_timed::{Row, push_row};
+use iloc_timed::Row;
 use operations::push_operations;
-use reason::{push_added, push_left_out, push_reasons};
-use value::{
-    push_all_escaped, push_literal, push_number_member, push_text_member, push_truth_member,
-};
+use reason::{push_changes, push_reasons};
 
 /// The longest part of a line's text that is listed.
 const MOST_SHOWN: usize = 64;
 
-/// Appends the number of cycles that is claimed, null where none is.
-fn push_claim(text: &mut Vec<u8>, claimed: Option<u32>) -> Result<(), NoMemory>
-    ensures { OnOk result (text.new.items ≡ text.old.items ++ json.claim_member claimed) }
-{
-    match claimed {
-        Some(claim) => push_number_member(text, "claimed", u64::from(claim)),
-        None => push_literal(text, ",\"claimed\":null"),
-    }
-}
-
-/// Appends the best cycles and the bound that a search finds, if there is one.
-fn push_sought(text: &mut Vec<u8>, sought: &Option<Sought>) -> Result<(), NoMemory>
-    ensures { OnOk result (text.new.items ≡ text.old.items ++ json.sought_members sought.now) }
-{
-    if let Some(sought) = sought {
-        push_number_member(text, "best", u64::from(sought.best))?;
-        push_number_member(text, "bound", u64::from(sought.bound))?;
-    }
-    Ok(())
-}
-
-/// Appends the cycles of the rows, ours, what is sought and the least.
-fn push_counts(text: &mut Vec<u8>, checked: Checked) -> Result<(), NoMemory>
-    ensures { OnOk result (text.new.items ≡ text.old.items ++ json.counts_members checked) }
-{
-    push_number_member(text, "cycles", checked.cycles)?;
-    push_number_member(text, "ours", checked.ours)?;
-    push_sought(text, &checked.sought)?;
-    push_number_member(text, "least", checked.least)
-}
-
-/// Appends whether rows pass, and how many there are.
+/// Appends the end of the word for the verdict, whether the `rows` rows pass, and how many there are.
 fn push_passing(text: &mut Vec<u8>, passing: bool, rows: usize) -> Result<(), NoMemory>
     ensures { OnOk result (text.new.items ≡ text.old.items ++ json.passing_members passing rows) }
 {
-    push_truth_member(text, "passes", passing)?;
-    push_number_member(text, "rows", rows as u64)
+    let passes = if passing { "true" } else { "false" };
+    let (passes, rows) = (Text(passes), Number(rows as u64));
+    push_all(
+        text,
+        &[Text("\",\"passes\":"), passes, Text(",\"rows\":"), rows],
+    )
 }
 
-/// Appends the word for the verdict, whether the rows pass, and the numbers that go with it.
+/// Appends the word for the verdict, whether the `rows` rows pass, and the numbers that go with it.
 fn push_verdict(
     text: &mut Vec<u8>,
     passing: bool,
@@ -76,65 +47,23 @@ fn push_verdict(
 ) -> Result<(), NoMemory>
     ensures { OnOk result (text.new.items ≡ text.old.items ++ json.verdict_members passing rows checked claimed) }
 {
-    push_text_member(text, "verdict", checked.kind.word().as_bytes())?;
+    push_all(text, &[Text(",\"verdict\":\""), Text(checked.kind.word())])?;
     push_passing(text, passing, rows)?;
-    push_counts(text, checked)?;
-    push_claim(text, claimed)
+    push_counts(text, Form::Json, checked)?;
+    push_all(text, &[Text(",\"claimed\":"), claim(claimed, "null")])
 }
 
-/// Appends what comes before a reason that is alone.
-fn push_before(text: &mut Vec<u8>) -> Result<(), NoMemory>
-    ensures { OnOk result (text.new.items ≡ text.old.items ++ json.before) }
+/// Appends what comes before a reason that is alone: that nothing is compared, and what is left out and added.
+fn push_before(text: &mut Vec<u8>, changes: Changes) -> Result<(), NoMemory>
+    ensures { OnOk result (text.new.items ≡ text.old.items ++ json.before changes) }
 {
-    push_literal(text, ",\"left_out\":null,\"added\":null,\"reasons\":[")
-}
-
-/// Appends what comes before a reason that is alone, with what is left out and added.
-fn push_before_of(text: &mut Vec<u8>, changes: Changes) -> Result<(), NoMemory>
-    ensures { OnOk result (text.new.items ≡ text.old.items ++ json.before_of changes) }
-{
-    push_left_out(text, changes.left_out)?;
-    push_added(text, changes.added)?;
-    push_literal(text, ",\"reasons\":[")
-}
-
-/// Appends what comes after a reason that is alone.
-fn push_after(text: &mut Vec<u8>) -> Result<(), NoMemory>
-    ensures { OnOk result (text.new.items ≡ text.old.items ++ json.after) }
-{
-    push_literal(text, "],\"more\":0")
-}
-
-/// Appends the end of a row's text, and what it has that breaks the first rule that it breaks.
-fn push_rule(text: &mut Vec<u8>, ops: &[Op], row: &Row) -> Result<(), NoMemory>
-    ensures { OnOk result (text.new.items ≡ text.old.items ++ json.rule_end (broken_rule ops.now row.now)) }
-{
-    push_literal(text, "\"")?;
-    if let Some(rule) = broken_rule(ops, row) {
-        push_text_member(text, "rule", rule.words())?;
-    }
-    push_literal(text, "}")
-}
-
-/// Appends this row, as one that breaks the rules of the units.
-fn push_units_value(
-    text: &mut Vec<u8>,
-    ops: &[Op],
-    rows: &[Row],
-    row: usize,
-) -> Result<(), NoMemory>
-    requires { row < length rows.now }
-    ensures { OnOk result (text.new.items ≡ text.old.items ++ json.units_value ops.now rows.now row) }
-{
-    push_literal(text, "{\"kind\":\"units\"")?;
-    push_number_member(text, "row", row as u64)?;
-    push_literal(text, ",\"text\":\"")?;
-    push_row(text, ops, &rows[row])?;
-    push_rule(text, ops, &rows[row])
+    push_no_difference(text)?;
+    push_changes(text, changes)?;
+    Ok(text.extend_from_slice(b",\"reasons\":[")?)
 }
 
 /// Appends that this row breaks the rules of the units, and what is left out and added.
-fn push_units(
+fn push_units_members(
     text: &mut Vec<u8>,
     ops: &[Op],
     rows: &[Row],
@@ -144,28 +73,18 @@ fn push_units(
     requires { row < length rows.now }
     ensures { OnOk result (text.new.items ≡ text.old.items ++ json.units_members ops.now rows.now row changes) }
 {
-    push_no_difference(text)?;
-    push_before_of(text, changes)?;
-    push_units_value(text, ops, rows, row)?;
-    push_after(text)
-}
-
-/// Appends that rows are by the book.
-fn push_lawful(text: &mut Vec<u8>) -> Result<(), NoMemory>
-    ensures { OnOk result (text.new.items ≡ text.old.items ++ json.lawful_members) }
-{
-    push_no_difference(text)?;
-    push_before(text)?;
-    push_after(text)
+    push_before(text, changes)?;
+    push_units(text, Form::Json, ops, rows, row)?;
+    push_all(text, &[Text("],\"more\":0")])
 }
 
 /// Appends that it isn't decided whether rows are by the book.
 fn push_undecided(text: &mut Vec<u8>) -> Result<(), NoMemory>
     ensures { OnOk result (text.new.items ≡ text.old.items ++ json.undecided_members) }
 {
-    push_before(text)?;
-    push_literal(text, "{\"kind\":\"undecided\"}")?;
-    push_after(text)
+    let none = Text(",\"left_out\":null,\"added\":null");
+    let undecided = Text(",\"reasons\":[{\"kind\":\"undecided\"}],\"more\":0");
+    push_all(text, &[none, undecided])
 }
 
 /// Appends what is said of the operations `ops` in `rows` after their verdict.
@@ -180,8 +99,13 @@ fn push_detail(
         (text.new.items ≡ text.old.items ++ json.detail_members ops.now rows.now verdict.now) }
 {
     match verdict {
-        Verdict::Units(row, changes) => push_units(text, ops, rows, *row, *changes),
-        Verdict::Lawful => push_lawful(text),
+        Verdict::Units(row, changes) => push_units_members(text, ops, rows, *row, *changes),
+        Verdict::Lawful => {
+            push_no_difference(text)?;
+            Ok(text.extend_from_slice(
+                b",\"left_out\":null,\"added\":null,\"reasons\":[],\"more\":0",
+            )?)
+        }
         Verdict::Unlawful(reasons, comparison) => {
             push_comparison(text, comparison)?;
             push_reasons(text, reasons)
@@ -210,64 +134,38 @@ pub(crate) fn push_json(
     push_verdict(text, passing, rows.len(), checked, claimed)?;
     push_detail(text, ops, rows, &judgement.verdict)?;
     push_operations(text, &judgement.origins, rows)?;
-    push_literal(text, "}\n")
+    Ok(text.extend_from_slice(b"}\n")?)
 }
 
-/// Appends the first bytes of a line, and `..` where there are more.
+/// Appends the first bytes of a `line`, and `..` where there are more.
 #[tactic(auto, unfolding(crate::specs::Entry::Json::start_of))]
-fn push_start_of(text: &mut Vec<u8>, row: &[u8]) -> Result<(), NoMemory>
-    ensures { OnOk result (text.new.items ≡ text.old.items ++ json.start_of row.now) }
+fn push_start_of(text: &mut Vec<u8>, line: &[u8]) -> Result<(), NoMemory>
+    ensures { OnOk result (text.new.items ≡ text.old.items ++ json.start_of line.now) }
 {
-    if row.len() > MOST_SHOWN {
-        let (start, _) = row.split_at(MOST_SHOWN);
-        push_all_escaped(text, start)?;
-        return push_literal(text, "..");
+    if line.len() <= MOST_SHOWN {
+        return push_all(text, &[Escaped(line)]);
     }
-    push_all_escaped(text, row)
+    let (start, _) = line.split_at(MOST_SHOWN);
+    push_all(text, &[Escaped(start), Text("..")])
 }
 
-/// Appends the first bytes of a line's text as a member.
-fn push_start(text: &mut Vec<u8>, row: &[u8]) -> Result<(), NoMemory>
-    ensures { OnOk result (text.new.items ≡ text.old.items ++ json.start_member row.now) }
-{
-    push_literal(text, ",\"text\":\"")?;
-    push_start_of(text, row)?;
-    push_literal(text, "\"")
-}
-
-/// Appends the text of a line that can't be read, and what is said of it.
-fn push_unread_texts(text: &mut Vec<u8>, row: &[u8], words: &[u8]) -> Result<(), NoMemory>
-    ensures { OnOk result (text.new.items ≡ text.old.items ++ json.unread_texts row.now words.now) }
-{
-    push_start(text, row)?;
-    push_text_member(text, "problem", words)?;
-    push_literal(text, "}")
-}
-
-/// Appends a line that can't be read, with what is said of it.
+/// Appends that `unread` can't be read, with `words` for what is wrong with it.
 fn push_unread_value(text: &mut Vec<u8>, unread: &Unread, words: &[u8]) -> Result<(), NoMemory>
     ensures { OnOk result (text.new.items ≡ text.old.items ++ json.unread_value unread.now words.now) }
 {
-    push_literal(text, "{\"kind\":\"unread\"")?;
-    push_number_member(text, "line", u64::from(unread.line))?;
-    push_number_member(text, "row", u64::from(unread.row))?;
-    push_unread_texts(text, unread.text.as_bytes(), words)
-}
-
-/// Appends that a line can't be read, and what is left out and added.
-fn push_unread_members(
-    text: &mut Vec<u8>,
-    changes: Changes,
-    unread: &Unread,
-    words: &[u8],
-) -> Result<(), NoMemory>
-    ensures { OnOk result
-        (text.new.items ≡ text.old.items ++ json.unread_members changes unread.now words.now) }
-{
-    push_no_difference(text)?;
-    push_before_of(text, changes)?;
-    push_unread_value(text, unread, words)?;
-    push_after(text)
+    push_all(
+        text,
+        &[
+            Text("{\"kind\":\"unread\",\"line\":"),
+            Number(u64::from(unread.line)),
+            Text(",\"row\":"),
+            Number(u64::from(unread.row)),
+            Text(",\"text\":\""),
+        ],
+    )?;
+    push_start_of(text, unread.text.as_bytes())?;
+    let words = Escaped(words);
+    push_all(text, &[Text("\",\"problem\":\""), words, Text("\"}")])
 }
 
 /// Appends what is listed of `rows` rows of which `unread` is the first line that can't be read, with words for what is
@@ -285,6 +183,7 @@ pub(crate) fn push_unread_json(
         ≡ text.old.items ++ json.unread_json_of rows changes claimed unread.now words.now checked) }
 {
     push_verdict(text, false, rows, checked, claimed)?;
-    push_unread_members(text, changes, unread, words)?;
-    push_literal(text, ",\"operations\":null}\n")
+    push_before(text, changes)?;
+    push_unread_value(text, unread, words)?;
+    Ok(text.extend_from_slice(b"],\"more\":0,\"operations\":null}\n")?)
 }

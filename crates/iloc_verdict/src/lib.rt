@@ -4,6 +4,7 @@
 mod checked;
 mod json;
 pub mod laws;
+mod remark;
 mod unread;
 mod verdict;
 
@@ -12,7 +13,6 @@ pub use checked::detail::push_bad_row;
 pub use checked::kept::keeps_operations;
 pub use checked::reason::push_reasons;
 pub use checked::{Checked, found, kind_of, push_entry};
-pub use json::value::push_quoted;
 pub use unread::{push_unread, push_unread_line};
 pub use verdict::kind::VerdictKind;
 pub use verdict::{Judgement, Verdict};

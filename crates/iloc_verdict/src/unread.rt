@@ -1,42 +1,42 @@
 //! What is listed of rows among which a line can't be read.
 ghost use Rattle.std.specs.Prelude.{ℕ, ◌≡◌, ◌++◌, List, Some, length, IfOk, OnOk};
 ghost use Rattle.iloc_verdict.specs.Checked.{IsBeside};
-ghost use Rattle.iloc_verdict.specs.Unread.{in_one_line, unread_as, unread_lines, unread_told, IsUnread, IsUnreadLine};
+ghost use Rattle.iloc_verdict.specs.Unread.{unread_as, unread_told, IsUnread, IsUnreadLine};
 
 use crate::checked::changes::{Changes, changes_of};
 use crate::checked::verdict_line::{push_line, push_table_row};
 use crate::checked::{Checked, found};
 use crate::json::push_unread_json;
 use crate::verdict::kind::VerdictKind;
+use Piece::{Number, Text};
 use iloc_comparison::{Form, JudgedBlock};
 use iloc_lint::row_wording;
-use iloc_ops::{NoMemory, push_number};
+use iloc_ops::NoMemory;
+use iloc_pieces::{Piece, push_all};
 use iloc_rows::{Proposal, Unread};
 use std::alloc::Global;
 
-/// Appends words without line ends.
-fn push_in_one_line(text: &mut Vec<u8>, words: &[u8]) -> Result<(), NoMemory>
-    ensures { OnOk result (text.new.items ≡ text.old.items ++ in_one_line words.now) }
+/// Appends where a line is that can't be read, with `words` for what is wrong with it, in one line.
+fn push_told(text: &mut Vec<u8>, unread: &Unread, words: &[u8]) -> Result<(), NoMemory>
+    ensures { OnOk result (text.new.items ≡ text.old.items ++ unread_told unread.now words.now) }
 {
+    let (line, row) = (u64::from(unread.line), u64::from(unread.row));
+    push_all(
+        text,
+        &[
+            Text("  line "),
+            Number(line),
+            Text(", row "),
+            Number(row),
+            Text(": "),
+        ],
+    )?;
     for byte in words {
         if *byte != b'\n' {
             text.push(*byte)?;
         }
     }
-    Ok(())
-}
-
-/// Appends where a line is that can't be read, with what is said of it.
-fn push_told(text: &mut Vec<u8>, unread: &Unread, words: &[u8]) -> Result<(), NoMemory>
-    ensures { OnOk result (text.new.items ≡ text.old.items ++ unread_told unread.now words.now) }
-{
-    text.extend_from_slice(b"  line ")?;
-    push_number(text, u64::from(unread.line))?;
-    text.extend_from_slice(b", row ")?;
-    push_number(text, u64::from(unread.row))?;
-    text.extend_from_slice(b": ")?;
-    push_in_one_line(text, words)?;
-    Ok(text.extend_from_slice(b"\n")?)
+    Ok(text.push(b'\n')?)
 }
 
 /// Promise: appends where a line is that can't be read, with `row_wording`'s words for its text.
@@ -46,21 +46,6 @@ pub fn push_unread_line(alloc: Global, text: &mut Vec<u8>, unread: &Unread) -> R
 {
     let words = row_wording(alloc, unread.text.as_bytes())?;
     push_told(text, unread, &words)
-}
-
-/// Appends the line of the verdict on rows among which this line can't be read, and what is said of it below.
-fn push_unread_lines(
-    text: &mut Vec<u8>,
-    checked: Checked,
-    claimed: Option<u32>,
-    unread: &Unread,
-    words: &[u8],
-) -> Result<(), NoMemory>
-    ensures { OnOk result (text.new.items
-        ≡ text.old.items ++ unread_lines checked claimed unread.now words.now) }
-{
-    push_line(text, checked, claimed)?;
-    push_told(text, unread, words)
 }
 
 /// Appends what is listed of a proposal in which this line can't be read, in this form.
@@ -78,7 +63,10 @@ fn push_unread_as(
 {
     let claimed = proposal.claimed();
     match form {
-        Form::Lines => push_unread_lines(text, checked, claimed, unread, words),
+        Form::Lines => {
+            push_line(text, checked, claimed)?;
+            push_told(text, unread, words)
+        }
         Form::Table => push_table_row(text, checked, claimed),
         Form::Json => {
             let rows = proposal.rows().len();

@@ -1,8 +1,8 @@
 //! Which rule of the units a row breaks.
-ghost use Rattle.std.specs.Prelude.{◌≡◌, ◌++◌, OnOk, find};
-ghost use Rattle.iloc_verdict.specs.UnitRule.{breaks, broken_rule, rule_told, rule_words};
+ghost use Rattle.std.specs.Prelude.{◌≡◌, find};
+ghost use Rattle.iloc_verdict.specs.UnitRule.{breaks, broken_rule, rule_words};
 
-use iloc_ops::{NoMemory, Op};
+use iloc_ops::Op;
 use iloc_timed::{Kind, Row, kind_in};
 
 /// A rule of the units.
@@ -50,15 +50,15 @@ impl UnitRule {
     }
 
     /// What a row has that breaks the rule.
-    pub(crate) fn words(self) -> &'static [u8]
+    pub(crate) fn words(self) -> &'static str
         ensures { result.now ≡ rule_words self }
     {
         match self {
-            UnitRule::OneMemory => b"two loads or stores",
-            UnitRule::OneProduct => b"two products",
-            UnitRule::OneOutput => b"two outputs",
-            UnitRule::ProductsOnOne => b"a product on unit 0",
-            UnitRule::MemoryOnZero => b"a load or store on unit 1",
+            UnitRule::OneMemory => "two loads or stores",
+            UnitRule::OneProduct => "two products",
+            UnitRule::OneOutput => "two outputs",
+            UnitRule::ProductsOnOne => "a product on unit 0",
+            UnitRule::MemoryOnZero => "a load or store on unit 1",
         }
     }
 }
@@ -72,15 +72,4 @@ pub(crate) fn broken_rule(ops: &[Op], row: &Row) -> Option<UnitRule>
         .iter()
         .copied()
         .find(|rule| rule.is_broken(zero, one))
-}
-
-/// Appends what a row has that breaks the first rule that it breaks.
-pub(super) fn push_broken_rule(text: &mut Vec<u8>, ops: &[Op], row: &Row) -> Result<(), NoMemory>
-    ensures { OnOk result (text.new.items ≡ text.old.items ++ rule_told (broken_rule ops.now row.now)) }
-{
-    let Some(rule) = broken_rule(ops, row) else {
-        return Ok(());
-    };
-    text.extend_from_slice(b": ")?;
-    Ok(text.extend_from_slice(rule.words())?)
 }

@@ -1,40 +1,60 @@
-//! The line with a verdict and the numbers that go with it, or the row of a table that has these.
+//! A verdict with the numbers that go with it: on a line, in the row of a table, or as members of JSON.
 ghost use Rattle.std.specs.Prelude.{◌≡◌, ◌++◌, OnOk};
+ghost use Rattle.iloc_pieces.specs.Pieces.{piece_text};
 ghost use Rattle.iloc_verdict.specs.Entry.Listing as listed;
 
 use crate::checked::Checked;
-use iloc_ops::{NoMemory, push_column, push_number};
+use Piece::{Number, Text};
+use iloc_comparison::Form;
+use iloc_ops::NoMemory;
+use iloc_pieces::{Piece, push_all};
 use iloc_rules::Sought;
+
+/// Appends ` NAME N`, in a table `,N`, in JSON a member.
+fn push_count(text: &mut Vec<u8>, form: Form, name: &str, number: u64) -> Result<(), NoMemory>
+    ensures { OnOk result (text.new.items ≡ text.old.items ++ listed.count_as form name.now number) }
+{
+    match form {
+        Form::Lines => push_all(text, &[Text(" "), Text(name), Text(" "), Number(number)]),
+        Form::Table => push_all(text, &[Text(","), Number(number)]),
+        Form::Json => push_all(
+            text,
+            &[Text(",\""), Text(name), Text("\":"), Number(number)],
+        ),
+    }
+}
+
+/// Appends the best cycles and the bound that a search found, if there was one.
+fn push_sought(text: &mut Vec<u8>, form: Form, sought: &Option<Sought>) -> Result<(), NoMemory>
+    ensures { OnOk result (text.new.items ≡ text.old.items ++ listed.sought_as form sought.now) }
+{
+    if let Some(sought) = sought {
+        push_count(text, form, "best", u64::from(sought.best))?;
+        push_count(text, form, "bound", u64::from(sought.bound))?;
+    }
+    Ok(())
+}
+
+/// Appends the cycles of the rows and ours, what was sought, and the least.
+pub(crate) fn push_counts(text: &mut Vec<u8>, form: Form, checked: Checked) -> Result<(), NoMemory>
+    ensures { OnOk result (text.new.items ≡ text.old.items ++ listed.counts_as form checked) }
+{
+    push_count(text, form, "cycles", checked.cycles)?;
+    push_count(text, form, "ours", checked.ours)?;
+    push_sought(text, form, &checked.sought)?;
+    push_count(text, form, "least", checked.least)
+}
 
 /// Appends ` claimed X` where a number of cycles is claimed and isn't this one.
 fn push_wrong_claim(text: &mut Vec<u8>, cycles: u64, claimed: Option<u32>) -> Result<(), NoMemory>
     ensures { OnOk result (text.new.items ≡ text.old.items ++ listed.wrong_claim cycles claimed) }
 {
     match claimed {
-        Some(claim) if u64::from(claim) != cycles => push_column(text, "claimed", u64::from(claim)),
+        Some(claim) if u64::from(claim) != cycles => {
+            push_all(text, &[Text(" claimed "), Number(u64::from(claim))])
+        }
         _ => Ok(()),
     }
-}
-
-/// Appends ` best C bound B` where a search found these.
-fn push_sought(text: &mut Vec<u8>, sought: &Option<Sought>) -> Result<(), NoMemory>
-    ensures { OnOk result (text.new.items ≡ text.old.items ++ listed.sought_columns sought.now) }
-{
-    if let Some(sought) = sought {
-        push_column(text, "best", u64::from(sought.best))?;
-        push_column(text, "bound", u64::from(sought.bound))?;
-    }
-    Ok(())
-}
-
-/// Appends the cycles of the rows and ours, what was sought, and the least.
-fn push_counts(text: &mut Vec<u8>, checked: Checked) -> Result<(), NoMemory>
-    ensures { OnOk result (text.new.items ≡ text.old.items ++ listed.counts_of checked) }
-{
-    push_column(text, "cycles", checked.cycles)?;
-    push_column(text, "ours", checked.ours)?;
-    push_sought(text, &checked.sought)?;
-    push_column(text, "least", checked.least)
 }
 
 /// Appends the line with the word for the verdict, the numbers that go with it and the number of cycles that is claimed.
@@ -45,50 +65,20 @@ pub(crate) fn push_line(
 ) -> Result<(), NoMemory>
     ensures { OnOk result (text.new.items ≡ text.old.items ++ listed.line_of checked claimed) }
 {
-    text.extend_from_slice(b" ")?;
-    text.extend_from_slice(checked.kind.word().as_bytes())?;
-    push_counts(text, checked)?;
+    push_all(text, &[Text(" "), Text(checked.kind.word())])?;
+    push_counts(text, Form::Lines, checked)?;
     push_wrong_claim(text, checked.cycles, claimed)?;
-    Ok(text.extend_from_slice(b"\n")?)
+    Ok(text.push(b'\n')?)
 }
 
-/// Appends `,N`.
-fn push_value(text: &mut Vec<u8>, number: u64) -> Result<(), NoMemory>
-    ensures { OnOk result (text.new.items ≡ text.old.items ++ listed.value number) }
-{
-    text.extend_from_slice(b",")?;
-    push_number(text, number)
-}
-
-/// Appends `,C,B` where a search found these.
-fn push_sought_values(text: &mut Vec<u8>, sought: &Option<Sought>) -> Result<(), NoMemory>
-    ensures { OnOk result (text.new.items ≡ text.old.items ++ listed.sought_values sought.now) }
-{
-    if let Some(sought) = sought {
-        push_value(text, u64::from(sought.best))?;
-        push_value(text, u64::from(sought.bound))?;
-    }
-    Ok(())
-}
-
-/// Appends `,X` with the number of cycles that is claimed, or `,` where none is.
-fn push_claim(text: &mut Vec<u8>, claimed: Option<u32>) -> Result<(), NoMemory>
-    ensures { OnOk result (text.new.items ≡ text.old.items ++ listed.claim_value claimed) }
+/// The number of cycles that is claimed, or `none` where none is.
+pub(crate) fn claim<'a>(claimed: Option<u32>, none: &'a str) -> Piece<'a>
+    ensures { piece_text result ≡ listed.claim_or none.now claimed }
 {
     match claimed {
-        Some(claim) => push_value(text, u64::from(claim)),
-        None => Ok(text.extend_from_slice(b",")?),
+        Some(claim) => Number(u64::from(claim)),
+        None => Text(none),
     }
-}
-
-/// Appends what was `checked` as values of a table.
-fn push_values(text: &mut Vec<u8>, checked: Checked) -> Result<(), NoMemory>
-    ensures { OnOk result (text.new.items ≡ text.old.items ++ listed.values_of checked) }
-{
-    push_value(text, checked.cycles)?;
-    push_value(text, checked.ours)?;
-    push_sought_values(text, &checked.sought)?;
-    push_value(text, checked.least)
 }
 
 /// Appends the row of a table with the word for the verdict, the numbers that go with it and the number of cycles that is claimed.
@@ -99,9 +89,7 @@ pub(crate) fn push_table_row(
 ) -> Result<(), NoMemory>
     ensures { OnOk result (text.new.items ≡ text.old.items ++ listed.row_of checked claimed) }
 {
-    text.extend_from_slice(b",")?;
-    text.extend_from_slice(checked.kind.word().as_bytes())?;
-    push_values(text, checked)?;
-    push_claim(text, claimed)?;
-    Ok(text.extend_from_slice(b"\n")?)
+    push_all(text, &[Text(","), Text(checked.kind.word())])?;
+    push_counts(text, Form::Table, checked)?;
+    push_all(text, &[Text(","), claim(claimed, ""), Text("\n")])
 }

@@ -1,33 +1,24 @@
 //! Which operation of the block each of the rows is, in JSON.
 ghost use Rattle.std.specs.Prelude.{◌≡◌, ◌++◌, OnOk, codes};
 ghost use Rattle.std.specs.List.{flat_map};
+ghost use Rattle.iloc_pieces.specs.Pieces.{piece_text};
 ghost use Rattle.iloc_verdict.specs.Entry.Json as json;
 
-use super::value::push_literal;
-use iloc_ops::{NoMemory, push_number};
+use Piece::{Number, Text};
+use iloc_ops::NoMemory;
+use iloc_pieces::{Piece, push_all};
 use iloc_timed::Row;
 
-/// Appends a number, null for none.
-fn push_number_or_null(text: &mut Vec<u8>, number: Option<usize>) -> Result<(), NoMemory>
-    ensures { OnOk result (text.new.items ≡ text.old.items ++ json.number_or_null number) }
-{
-    match number {
-        Some(number) => push_number(text, number),
-        None => push_literal(text, "null"),
-    }
-}
-
-/// Appends the number that is noted for the operation in a slot.
-fn push_slot(
-    text: &mut Vec<u8>,
-    origins: &[Option<usize>],
-    slot: Option<usize>,
-) -> Result<(), NoMemory>
-    ensures { OnOk result (text.new.items ≡ text.old.items ++ json.slot_value origins.now slot) }
+/// The number that `origins` notes for the operation in `slot`.
+fn slot_value<'a>(origins: &[Option<usize>], slot: Option<usize>) -> Piece<'a>
+    ensures { piece_text result ≡ json.slot_value origins.now slot }
 {
     match slot {
-        Some(k) => push_number_or_null(text, origins.get(k).copied().unwrap_or(None)),
-        None => push_literal(text, "null"),
+        Some(k) => match origins.get(k).copied().unwrap_or(None) {
+            Some(number) => Number(number as u64),
+            None => Text("null"),
+        },
+        None => Text("null"),
     }
 }
 
@@ -35,11 +26,8 @@ fn push_slot(
 fn push_row_value(text: &mut Vec<u8>, origins: &[Option<usize>], row: &Row) -> Result<(), NoMemory>
     ensures { OnOk result (text.new.items ≡ text.old.items ++ json.row_value origins.now row.now) }
 {
-    push_literal(text, "[")?;
-    push_slot(text, origins, row.zero)?;
-    push_literal(text, ",")?;
-    push_slot(text, origins, row.one)?;
-    push_literal(text, "]")
+    let (zero, one) = (slot_value(origins, row.zero), slot_value(origins, row.one));
+    push_all(text, &[Text("["), zero, Text(","), one, Text("]")])
 }
 
 /// Appends each row after a comma.
@@ -48,7 +36,7 @@ fn push_rest(text: &mut Vec<u8>, origins: &[Option<usize>], rows: &[Row]) -> Res
         ≡ text.old.items ++ flat_map (λ r. codes "," ++ json.row_value origins.now r) rows.now) }
 {
     for row in rows {
-        push_literal(text, ",")?;
+        text.push(b',')?;
         push_row_value(text, origins, row)?;
     }
     Ok(())
@@ -75,7 +63,7 @@ pub(crate) fn push_operations(
 ) -> Result<(), NoMemory>
     ensures { OnOk result (text.new.items ≡ text.old.items ++ json.operations_member origins.now rows.now) }
 {
-    push_literal(text, ",\"operations\":[")?;
+    text.extend_from_slice(b",\"operations\":[")?;
     push_rows(text, origins, rows)?;
-    push_literal(text, "]")
+    Ok(text.extend_from_slice(b"]")?)
 }

@@ -1,11 +1,7 @@
-use Rattle.std.proofs.Common.{refl, ◌∙◌, ◌≡◌, ◌++◌, ℕ, List, length, codes, ap, append_assoc}
-use Rattle.std.proofs.lemmas.Result.{on_ok_weaker}
+use Rattle.std.proofs.Common.{◌∙◌, ◌≡◌, ◌++◌, length, codes, ap}
 use Rattle.iloc_verdict.specs.Entry.Json as json
+use Rattle.iloc_verdict.proofs.Appended.{four}
 use Rattle.iloc_verdict.proofs.json.push_json.Goals as goal
-
--- four parts that are appended one after another
-four : (text a b c d : List ℕ) → text ++ a ++ b ++ c ++ d ≡ text ++ (a ++ b ++ c ++ d)
-four text a b c d = simp append_assoc refl
 
 pub returns : goal.returns
 returns c =
@@ -14,8 +10,7 @@ returns c =
     let operations : c.push_operations.new.text.items ≡ c.push_detail.new.text.items ++ json.operations_member origins rows =
     c.in_ok-push_operations.ensures
     ∙ ap (λ o. c.push_detail.new.text.items ++ json.operations_member o rows) c.deref.ensures.value in
-    on_ok_weaker c.push_literal.result
-    (λ e. e ∙ rw (operations, c.in_ok-push_detail.ensures, c.in_ok-push_verdict.ensures)
+    c.in_ok-extend_from_slice.ensures.items
+    ∙ rw (operations, c.in_ok-push_detail.ensures, c.in_ok-push_verdict.ensures)
     (four c.args.text.now.items (json.verdict_members c.args.passing (length rows) c.args.checked c.args.claimed)
-    (json.detail_members c.args.ops.now rows c.args.judgement.now.verdict) (json.operations_member origins rows) (codes "}\n")))
-    c.push_literal.ensures
+    (json.detail_members c.args.ops.now rows c.args.judgement.now.verdict) (json.operations_member origins rows) (codes "}\n"))

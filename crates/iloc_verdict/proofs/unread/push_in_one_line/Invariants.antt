@@ -1,5 +1,0 @@
-use Rattle.iloc_verdict.proofs.Common.{◌≡◌, ◌++◌, take, in_one_line}
-use Rattle.iloc_verdict.proofs.unread.push_in_one_line.Given as goal
-
-abbrev pub invariant-loop-byte : goal.invariant-loop-byte
-invariant-loop-byte l = l.text.items ≡ l.fn.text.items ++ in_one_line (take l.byte-index l.fn.words)
