@@ -19,7 +19,7 @@ use Rattle.iloc_comparison.specs.declared.task.Form.{Form}
 use Rattle.iloc_comparison.specs.declared.task.Form.TheVariants as forms
 use Rattle.iloc_judge.specs.Checked.{IsCheck}
 use Rattle.iloc_verdict.specs.Checked.{passes}
-use Rattle.iloc_verdict.specs.Entry.Json.{quoted}
+use Rattle.iloc_pieces.specs.Escaped.{escaped}
 use Rattle.iloc_verdict.specs.Unread.{IsUnread}
 use Rattle.iloc_listing.specs.Limits.{most_cycles, most_proposed_cycles}
 use Rattle.iloc_listing.specs.Listing.{head_as}
@@ -63,13 +63,10 @@ IsSaid None options lat memory block ours proposal checked text = IsCheck option
 IsSaid (Some unread) options lat memory block ours proposal checked text =
     IsUnread options.form lat block proposal checked text
 
-abbrev pub json_name : List ℕ → List ℕ
-json_name name = codes "\"name\":" ++ quoted name
-
--- null for a block without a name
+-- the name of a block as a member of JSON, null for a block without a name
 abbrev pub name_member : Option (List ℕ) → List ℕ
 name_member None = codes "\"name\":null"
-name_member (Some name) = json_name name
+name_member (Some name) = codes "\"name\":\"" ++ flat_map escaped name ++ codes "\""
 
 -- `{"block":K,"name":NAME`
 abbrev pub json_head : ℕ → Option (List ℕ) → List ℕ

@@ -3,26 +3,21 @@ ghost use Rattle.std.specs.Prelude.{◌≡◌, ◌<◌, ◌^◌, ◌++◌, OnOk}
 ghost use Rattle.std.specs.Option.{option_copied};
 ghost use Rattle.iloc_row_commands.specs.Check as listed;
 
-use iloc_listing::push_numbered;
+use Piece::{Escaped, Number, Text};
 use iloc_ops::{Name, NoMemory};
-use iloc_verdict::push_quoted;
+use iloc_pieces::{Piece, push_all};
 
-/// Appends the name of a block as a member of JSON.
-fn push_json_name(text: &mut Vec<u8>, name: &Name) -> Result<(), NoMemory>
-    ensures { OnOk result (text.new.items ≡ text.old.items ++ listed.json_name name.now) }
-{
-    text.extend_from_slice(b"\"name\":")?;
-    push_quoted(text, name.as_str().as_bytes())
-}
-
-/// Appends it, or null for a block without a name.
+/// Appends the name of a block as a member of JSON, null for a block without a name.
 fn push_name_member(text: &mut Vec<u8>, name: Option<&Name>) -> Result<(), NoMemory>
     ensures { OnOk result
         (text.new.items ≡ text.old.items ++ listed.name_member (option_copied name.entry)) }
 {
     match name {
-        Some(name) => push_json_name(text, name),
-        None => Ok(text.extend_from_slice(b"\"name\":null")?),
+        Some(name) => {
+            let name = Escaped(name.as_str().as_bytes());
+            push_all(text, &[Text("\"name\":\""), name, Text("\"")])
+        }
+        None => push_all(text, &[Text("\"name\":null")]),
     }
 }
 
@@ -36,6 +31,9 @@ pub(crate) fn push_json_head(
     ensures { OnOk result
         (text.new.items ≡ text.old.items ++ listed.json_head number (option_copied name.entry)) }
 {
-    push_numbered(text, b"{\"block\":", number as u64, b",")?;
+    push_all(
+        text,
+        &[Text("{\"block\":"), Number(number as u64), Text(",")],
+    )?;
     push_name_member(text, name)
 }

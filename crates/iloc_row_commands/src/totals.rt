@@ -6,7 +6,9 @@ ghost use Rattle.iloc_row_commands.specs.Check as said;
 ghost use Rattle.iloc_row_commands.specs.Check.{IsSmall};
 ghost use Rattle.iloc_row_commands.specs.Steps.Checking.{sought_text, totals_of, totals_text};
 
-use iloc_ops::{NoMemory, push_number};
+use Piece::{Number, Text};
+use iloc_ops::NoMemory;
+use iloc_pieces::{Piece, push_all};
 use iloc_verdict::Checked;
 
 /// What was found of the proposals for some blocks.
@@ -72,27 +74,20 @@ impl Totals {
     fn push_sought(self, text: &mut Vec<u8>, nodes: Option<u32>) -> Result<(), NoMemory>
         ensures { OnOk result (text.new.items ≡ text.old.items ++ sought_text nodes self) }
     {
-        if nodes.is_some() {
-            text.extend_from_slice(b" best ")?;
-            push_number(text, self.best)?;
-            text.extend_from_slice(b" bound ")?;
-            push_number(text, self.bound)?;
+        if nodes.is_none() {
+            return Ok(());
         }
-        Ok(())
+        let (best, bound) = (Number(self.best), Number(self.bound));
+        push_all(text, &[Text(" best "), best, Text(" bound "), bound])
     }
 
     /// Appends `total C ours O least L`, with what was sought before the least.
     pub(crate) fn push_line(self, text: &mut Vec<u8>, nodes: Option<u32>) -> Result<(), NoMemory>
         ensures { OnOk result (text.new.items ≡ text.old.items ++ totals_text nodes self) }
     {
-        text.extend_from_slice(b"total ")?;
-        push_number(text, self.cycles)?;
-        text.extend_from_slice(b" ours ")?;
-        push_number(text, self.ours)?;
+        let (cycles, ours) = (Number(self.cycles), Number(self.ours));
+        push_all(text, &[Text("total "), cycles, Text(" ours "), ours])?;
         self.push_sought(text, nodes)?;
-        text.extend_from_slice(b" least ")?;
-        push_number(text, self.least)?;
-        text.push(b'\n')?;
-        Ok(())
+        push_all(text, &[Text(" least "), Number(self.least), Text("\n")])
     }
 }

@@ -7,7 +7,9 @@ ghost use Rattle.iloc_timed.specs.Rows.{holds, row_at as row_of_cycle};
 ghost use Rattle.iloc_rules.specs.Greedy.{IsGreedyBy};
 ghost use Rattle.iloc_row_commands.specs.Explain.Departure as listed;
 
-use iloc_ops::{NoMemory, Op, push_number, push_op};
+use Piece::{Number, Operation, Text};
+use iloc_ops::{NoMemory, Op};
+use iloc_pieces::{Piece, push_all};
 use iloc_timed::{Row, Schedule};
 
 /// A row that takes something else than the greedy choice would.
@@ -85,9 +87,8 @@ fn push_taken(text: &mut Vec<u8>, issued: &[Op], slot: Option<usize>) -> Result<
     let Some(j) = slot else {
         return Ok(text.extend_from_slice(b"nop")?);
     };
-    push_number(text, j)?;
-    text.extend_from_slice(b" ")?;
-    push_op(text, &issued.get(j).copied().unwrap_or(Op::Nop))
+    let op = Operation(issued.get(j).copied().unwrap_or(Op::Nop));
+    push_all(text, &[Number(j as u64), Text(" "), op])
 }
 
 /// Appends the line of a departure, if there is one, with what is issued for each operation.
@@ -101,9 +102,8 @@ pub(crate) fn push_departure(
     let Some(Departure { row, choice }) = departure else {
         return Ok(());
     };
-    text.extend_from_slice(b"row ")?;
-    push_number(text, row)?;
-    text.extend_from_slice(b": the choice would take ")?;
+    let row = Number(row as u64);
+    push_all(text, &[Text("row "), row, Text(": the choice would take ")])?;
     push_taken(text, issued, choice.zero)?;
     text.extend_from_slice(b" ; ")?;
     push_taken(text, issued, choice.one)?;
