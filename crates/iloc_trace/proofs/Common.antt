@@ -42,6 +42,6 @@ pub use Rattle.iloc_rules.proofs.DelayPairs.WaitedFor.{Waits, kept_in_order, rea
 pub use Rattle.iloc_rules.proofs.Renamed.RenamedBlocks.{renamed_is_renamed}
 pub use Rattle.iloc_rules.specs.Renaming.{IsRenamed}
 pub use Rattle.iloc_rules.specs.Steps.Members.{In}
-pub use Rattle.iloc_trace.specs.Listing.{event_line, issue_line, more_text, trace_lines, write_line}
+pub use Rattle.iloc_trace.specs.Listing.{event_line, issue_line, trace_lines, write_line}
 pub use Rattle.iloc_trace.specs.declared.event.Place.{Place}
 pub use Rattle.iloc_trace.specs.declared.event.Place.TheVariants.{Register, Word}
