@@ -16,7 +16,7 @@ use Rattle.iloc_explain.specs.ReadyList.{arrival, first_ranked, is_idle, left_ou
 
 -- `C`, or `C-D` up to a later cycle
 abbrev pub span_text : ℕ → ℕ → List ℕ
-span_text first last = if first == last then decimal first else decimal first ++ codes "-" ++ decimal last
+span_text first last = decimal first ++ (if first == last then [] else codes "-" ++ decimal last)
 
 -- `I MARK N`
 abbrev pub pair_text : List ℕ → ℕ × ℕ → List ℕ
@@ -27,25 +27,21 @@ abbrev pub pairs_text : List ℕ → List (ℕ × ℕ) → List ℕ
 pairs_text mark [] = codes "-"
 pairs_text mark (pair ∷ rest) = pair_text mark pair ++ flat_map (λ p. codes "," ++ pair_text mark p) rest
 
--- `,+N`: so many more
+-- `,+N`: `n` more, if there are any
 abbrev pub more_text : ℕ → List ℕ
-more_text zero = []
-more_text (suc n) = codes ",+" ++ decimal (suc n)
+more_text n = if n == 0 then [] else codes ",+" ++ decimal n
 
 -- the number in a slot, `-` for none
 abbrev pub slot_text : Option ℕ → List ℕ
 slot_text None = codes "-"
 slot_text (Some i) = decimal i
 
--- `J at C`: what is ready next, after the cycle at which it is
-abbrev pub coming_text : Option (ℕ × ℕ) → List ℕ
-coming_text None = codes "-"
-coming_text (Some (c, j)) = decimal j ++ codes " at " ++ decimal c
-
--- `J held H`: what is left out of a row, and what keeps it out; where nothing is, what is ready next
+-- `J held H`: what is left out of a row, and what keeps it out; where nothing is, `J at C`: what is ready next, after the
+-- cycle at which it is
 abbrev pub next_text : List Op → Row → Option ℕ → Option (ℕ × ℕ) → List ℕ
 next_text ops row (Some j) coming = decimal j ++ codes " held " ++ holder_text (held_by (keeper ops row j))
-next_text ops row None coming = coming_text coming
+next_text ops row None (Some (c, j)) = decimal j ++ codes " at " ++ decimal c
+next_text ops row None None = codes "-"
 
 -- each of `numbers` with its `value`
 abbrev pub paired : (ℕ → ℕ) → List ℕ → List (ℕ × ℕ)

@@ -73,14 +73,12 @@ abbrev pub path_line : List Stretch → List ℕ
 path_line [] = codes "path -\n"
 path_line (first ∷ path) = codes "path" ++ flat_map stretch_text (first ∷ path) ++ codes "\n"
 
--- ` optimal` where the cycles are the lower bound, so that no lawful schedule takes fewer
-abbrev pub optimal_mark : ℕ → ℕ → List ℕ
-optimal_mark taken bound = if taken == bound then codes " optimal" else []
-
--- `cycles C least L`, and ` optimal` where it holds: cycles and their lower bound
+-- `cycles C least L`: cycles and their lower bound, and ` optimal` where they are equal, so that no lawful schedule takes
+-- fewer
 abbrev pub cycles_line : ℕ → ℕ → List ℕ
 cycles_line taken bound =
-    codes "cycles " ++ decimal taken ++ codes " least " ++ decimal bound ++ optimal_mark taken bound ++ codes "\n"
+    codes "cycles " ++ decimal taken ++ codes " least " ++ decimal bound
+    ++ (if taken == bound then codes " optimal" else []) ++ codes "\n"
 
 -- `text` explains the operations `ops` in `rows`, a schedule of `block` by `rule` that the priorities `prios` rank: a
 -- line for each operation, the cycles with their lower `bound`, a longest chain of delays, and what binds in this

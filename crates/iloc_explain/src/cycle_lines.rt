@@ -1,7 +1,6 @@
 //! The ready list as it is listed, a line for each cycle.
-ghost use Rattle.std.specs.Prelude.{ℕ, ◌≡◌, ◌==◌, ◌&&◌, ◌++◌, ◌-◌, ◌<◌, List, length, codes, OnOk, IfSome};
-ghost use Rattle.std.specs.List.{flat_map};
-ghost use Rattle.std.specs.Fmt.{decimal};
+ghost use Rattle.std.specs.Prelude.{ℕ, ◌≡◌, ◌==◌, ◌&&◌, ◌++◌, ◌<◌, List, length, OnOk, IfSome};
+ghost use Rattle.iloc_pieces.specs.Pieces.{piece_text};
 ghost use Rattle.iloc_rules.specs.declared.memory_rule.MemoryRule.{MemoryRule as rule_value};
 ghost use Rattle.iloc_rules.specs.Steps.Members.{In};
 ghost use Rattle.iloc_explain.specs.CycleLines as listed;
@@ -14,110 +13,54 @@ ghost use Rattle.iloc_explain.specs.Waiting.{WaitsForAll};
 
 use crate::explanation::{Explained, explain};
 use crate::holding::{held_by, keeper};
-use crate::listing::{push_cycles, push_holder};
+use crate::listing::{held, push_cycles};
 use crate::measures::Measures;
 use crate::ready_list::{MOST_LISTED, ReadyList};
 use crate::under_way::under_way;
-use iloc_ops::{NoMemory, Op, push_number};
+use Piece::{Number, Text};
+use iloc_ops::{NoMemory, Op};
+use iloc_pieces::{Piece, push_all};
 use iloc_timed::{Latencies, Row, Schedule, cycles};
 use std::alloc::Global;
 
-/// Appends a mark and a number.
-fn push_after(text: &mut Vec<u8>, mark: &[u8], number: usize) -> Result<(), NoMemory>
-    ensures { OnOk result (text.new.items ≡ text.old.items ++ mark.now ++ decimal number) }
-{
-    text.extend_from_slice(mark)?;
-    push_number(text, number)
-}
-
-/// Appends the cycles of a line, from the first to the last.
-fn push_span(text: &mut Vec<u8>, first: usize, last: usize) -> Result<(), NoMemory>
-    ensures { OnOk result (text.new.items ≡ text.old.items ++ codes "cycle " ++ listed.span_text first last) }
-{
-    push_after(text, b"cycle ", first)?;
-    if first == last {
-        return Ok(());
-    }
-    push_after(text, b"-", last)
-}
-
-/// Appends two numbers with a mark between them.
-fn push_pair(text: &mut Vec<u8>, mark: &[u8], pair: (usize, u64)) -> Result<(), NoMemory>
-    ensures { OnOk result (text.new.items ≡ text.old.items ++ listed.pair_text mark.now pair) }
-{
-    push_number(text, pair.0)?;
-    text.extend_from_slice(mark)?;
-    push_number(text, pair.1)
-}
-
-/// Appends pairs, each after a comma.
-fn push_more_pairs(text: &mut Vec<u8>, mark: &[u8], pairs: &[(usize, u64)]) -> Result<(), NoMemory>
-    ensures { OnOk result (text.new.items
-        ≡ text.old.items ++ flat_map (λ p. codes "," ++ listed.pair_text mark.now p) pairs.now) }
-{
-    for pair in pairs {
-        text.extend_from_slice(b",")?;
-        push_pair(text, mark, *pair)?;
-    }
-    Ok(())
-}
-
-/// Appends pairs with commas between them, `-` where there are none.
-fn push_pairs(text: &mut Vec<u8>, mark: &[u8], pairs: &[(usize, u64)]) -> Result<(), NoMemory>
+/// Appends `pairs` with commas between them, each with `mark` between its numbers; `-` where there are none.
+fn push_pairs(text: &mut Vec<u8>, mark: &str, pairs: &[(usize, u64)]) -> Result<(), NoMemory>
     ensures { OnOk result (text.new.items ≡ text.old.items ++ listed.pairs_text mark.now pairs.now) }
 {
     match pairs {
-        [] => Ok(text.extend_from_slice(b"-")?),
+        [] => Ok(text.push(b'-')?),
         [first, rest @ ..] => {
-            push_pair(text, mark, *first)?;
-            push_more_pairs(text, mark, rest)
+            push_all(text, &[Number(first.0 as u64), Text(mark), Number(first.1)])?;
+            for pair in rest {
+                let (left, right) = (Number(pair.0 as u64), Number(pair.1));
+                push_all(text, &[Text(","), left, Text(mark), right])?;
+            }
+            Ok(())
         }
     }
 }
 
-/// Appends how many of `count` ready operations aren't listed.
-fn push_more(text: &mut Vec<u8>, count: usize) -> Result<(), NoMemory>
-    ensures { OnOk result (text.new.items ≡ text.old.items ++ listed.more_text (count - MOST_LISTED)) }
+/// Appends how many ready operations aren't listed: `more`, if there are any.
+fn push_more(text: &mut Vec<u8>, more: usize) -> Result<(), NoMemory>
+    ensures { OnOk result (text.new.items ≡ text.old.items ++ listed.more_text more) }
 {
-    if count <= MOST_LISTED {
+    if more == 0 {
         return Ok(());
     }
-    push_after(text, b",+", count - MOST_LISTED)
+    push_all(text, &[Text(",+"), Number(more as u64)])
 }
 
-/// Appends the number in a slot.
-fn push_slot(text: &mut Vec<u8>, slot: Option<usize>) -> Result<(), NoMemory>
-    ensures { OnOk result (text.new.items ≡ text.old.items ++ listed.slot_text slot) }
+/// The number in a slot, `-` for none.
+fn slot_number(slot: Option<usize>) -> Piece<'static>
+    ensures { piece_text result ≡ listed.slot_text slot }
 {
     match slot {
-        Some(i) => push_number(text, i),
-        None => Ok(text.extend_from_slice(b"-")?),
+        Some(i) => Number(i as u64),
+        None => Text("-"),
     }
 }
 
-/// Appends what a row takes.
-fn push_taken(text: &mut Vec<u8>, row: Row) -> Result<(), NoMemory>
-    ensures { OnOk result (text.new.items
-        ≡ text.old.items ++ codes " takes " ++ listed.slot_text row.zero ++ codes " ; " ++ listed.slot_text row.one) }
-{
-    text.extend_from_slice(b" takes ")?;
-    push_slot(text, row.zero)?;
-    text.extend_from_slice(b" ; ")?;
-    push_slot(text, row.one)
-}
-
-/// Appends what is ready next, after the cycle at which it is.
-fn push_coming(text: &mut Vec<u8>, coming: Option<(usize, usize)>) -> Result<(), NoMemory>
-    ensures { OnOk result (text.new.items ≡ text.old.items ++ listed.coming_text coming) }
-{
-    let Some((cycle, j)) = coming else {
-        return Ok(text.extend_from_slice(b"-")?);
-    };
-    push_number(text, j)?;
-    push_after(text, b" at ", cycle)
-}
-
-/// Appends what is left out of a row, with what keeps it out; where nothing is, what is ready next.
+/// Appends what is left out of a row, with what keeps it out; where nothing is, what is ready next, after the cycle at which it is.
 fn push_next(
     text: &mut Vec<u8>,
     ops: &[Op],
@@ -130,12 +73,17 @@ fn push_next(
     requires known { IfSome left_out (λ j. j < length ops.now) }
     ensures { OnOk result (text.new.items ≡ text.old.items ++ listed.next_text ops.now row left_out coming) }
 {
-    let Some(j) = left_out else {
-        return push_coming(text, coming);
-    };
-    push_number(text, j)?;
-    text.extend_from_slice(b" held ")?;
-    push_holder(text, held_by(keeper(ops, row, j)))
+    match (left_out, coming) {
+        (Some(j), _) => {
+            let holder = held(held_by(keeper(ops, row, j)));
+            push_all(text, &[Number(j as u64), Text(" held "), holder])
+        }
+        (None, Some((cycle, j))) => push_all(
+            text,
+            &[Number(j as u64), Text(" at "), Number(cycle as u64)],
+        ),
+        (None, None) => Ok(text.push(b'-')?),
+    }
 }
 
 /// The last cycle of the line that begins with this one.
@@ -161,10 +109,14 @@ fn push_front(
 ) -> Result<(), NoMemory>
     ensures { OnOk result (text.new.items ≡ text.old.items ++ front_by cycle rows list.now) }
 {
-    push_span(text, cycle, last_cycle(list, cycle, rows))?;
+    push_all(text, &[Text("cycle "), Number(cycle as u64)])?;
+    let last = last_cycle(list, cycle, rows);
+    if last != cycle {
+        push_all(text, &[Text("-"), Number(last as u64)])?;
+    }
     text.extend_from_slice(b" ready ")?;
-    push_pairs(text, b":", &list.first_ranked(alloc)?)?;
-    push_more(text, list.len())
+    push_pairs(text, ":", &list.first_ranked(alloc)?)?;
+    push_more(text, list.len().saturating_sub(MOST_LISTED))
 }
 
 /// Appends the second part: what the row takes, and what is left out of it.
@@ -179,8 +131,11 @@ fn push_taken_from(
     requires known { (p : Place) → In list.now.ready.keys p → p.1 < length ops.now }
     ensures { OnOk result (text.new.items ≡ text.old.items ++ taken_by ops.now row list.now) }
 {
-    push_taken(text, row)?;
-    text.extend_from_slice(b" next ")?;
+    let (zero, one) = (slot_number(row.zero), slot_number(row.one));
+    push_all(
+        text,
+        &[Text(" takes "), zero, Text(" ; "), one, Text(" next ")],
+    )?;
     push_next(text, ops, row, list.left_out(row), list.next())
 }
 
@@ -205,7 +160,7 @@ fn push_cycle(
     push_front(alloc, text, list, cycle, rows.len())?;
     push_taken_from(text, list, ops, rows[cycle])?;
     text.extend_from_slice(b" active ")?;
-    push_pairs(text, b"@", &under_way(alloc, schedule, latencies, cycle)?)?;
+    push_pairs(text, "@", &under_way(alloc, schedule, latencies, cycle)?)?;
     Ok(text.extend_from_slice(b"\n")?)
 }
 

@@ -11,7 +11,6 @@ pub mod laws;
 mod listing;
 mod measures;
 mod path;
-mod path_line;
 mod ready;
 mod ready_list;
 mod under_way;

@@ -2,6 +2,7 @@
 ghost use Rattle.std.specs.Prelude.{◌≡◌, ◌++◌, List, ℕ, length, OnOk};
 ghost use Rattle.std.specs.List.{flat_map};
 ghost use Rattle.std.specs.Fmt.{decimal};
+ghost use Rattle.iloc_pieces.specs.Pieces.{piece_text};
 ghost use Rattle.iloc_rules.specs.Renaming.{renamed, without_nops};
 ghost use Rattle.iloc_explain.specs.Listing as listed;
 ghost use Rattle.iloc_explain.specs.Listing.{IsExplanation};
@@ -12,33 +13,33 @@ use crate::chain::longest_chain;
 use crate::explanation::{Explained, Unit, explain};
 use crate::holding::Holder;
 use crate::measures::Measures;
-use crate::path::path_of;
-use crate::path_line::push_path;
-use iloc_ops::{Block, NoMemory, Op, push_column, push_number, push_op};
+use crate::path::{Stretch, path_of};
+use Piece::{Number, Operation, Text};
+use iloc_ops::{Block, NoMemory, Op, push_column, push_number};
+use iloc_pieces::{Piece, push_all};
 use iloc_timed::{Latencies, Schedule, cycles};
 use std::alloc::Global;
 
-/// Appends each number after this mark.
-fn push_marked(text: &mut Vec<u8>, mark: &[u8], numbers: &[usize]) -> Result<(), NoMemory>
+/// Appends each of `numbers` after `mark`.
+fn push_marked(text: &mut Vec<u8>, mark: &str, numbers: &[usize]) -> Result<(), NoMemory>
     ensures { OnOk result (text.new.items
         ≡ text.old.items ++ flat_map (λ n. mark.now ++ decimal n) numbers.now) }
 {
     for number in numbers {
-        text.extend_from_slice(mark)?;
-        push_number(text, *number)?;
+        push_all(text, &[Text(mark), Number(*number as u64)])?;
     }
     Ok(())
 }
 
-/// Appends numbers with commas between them, `-` where there are none.
+/// Appends `numbers` with commas between them, `-` where there are none.
 fn push_comma_separated(text: &mut Vec<u8>, numbers: &[usize]) -> Result<(), NoMemory>
     ensures { OnOk result (text.new.items ≡ text.old.items ++ listed.comma_separated numbers.now) }
 {
     match numbers {
-        [] => Ok(text.extend_from_slice(b"-")?),
+        [] => Ok(text.push(b'-')?),
         [first, rest @ ..] => {
             push_number(text, *first)?;
-            push_marked(text, b",", rest)
+            push_marked(text, ",", rest)
         }
     }
 }
@@ -53,14 +54,14 @@ fn unit_number(unit: Unit) -> u64
     }
 }
 
-/// Appends what kept an operation out of a row.
-pub(crate) fn push_holder(text: &mut Vec<u8>, holder: Holder) -> Result<(), NoMemory>
-    ensures { OnOk result (text.new.items ≡ text.old.items ++ listed.holder_text holder) }
+/// What kept an operation out of a row: `-` for delays, the number of an operation, `free` for nothing.
+pub(crate) fn held(holder: Holder) -> Piece<'static>
+    ensures { piece_text result ≡ listed.holder_text holder }
 {
     match holder {
-        Holder::Delays => Ok(text.extend_from_slice(b"-")?),
-        Holder::Operation(i) => push_number(text, i),
-        Holder::Nothing => Ok(text.extend_from_slice(b"free")?),
+        Holder::Delays => Text("-"),
+        Holder::Operation(i) => Number(i as u64),
+        Holder::Nothing => Text("free"),
     }
 }
 
@@ -71,8 +72,7 @@ fn push_measures(text: &mut Vec<u8>, explained: &Explained) -> Result<(), NoMemo
     push_column(text, "priority", explained.priority)?;
     push_column(text, "earliest", explained.earliest)?;
     push_column(text, "slack", explained.slack)?;
-    text.extend_from_slice(b" held ")?;
-    push_holder(text, explained.held)
+    push_all(text, &[Text(" held "), held(explained.held)])
 }
 
 /// Appends the line of operation j, as the block has it and as it is issued.
@@ -93,11 +93,8 @@ fn push_explained(
     text.extend_from_slice(b" after ")?;
     push_comma_separated(text, &explained.after)?;
     push_measures(text, explained)?;
-    text.extend_from_slice(b" ")?;
-    push_op(text, op)?;
-    text.extend_from_slice(b" ; ")?;
-    push_op(text, issued)?;
-    Ok(text.extend_from_slice(b"\n")?)
+    let (op, issued) = (Operation(*op), Operation(*issued));
+    push_all(text, &[Text(" "), op, Text(" ; "), issued, Text("\n")])
 }
 
 /// Appends the line of a chain.
@@ -108,7 +105,7 @@ fn push_chain(text: &mut Vec<u8>, chain: &[usize]) -> Result<(), NoMemory>
         return Ok(text.extend_from_slice(b"chain -\n")?);
     }
     text.extend_from_slice(b"chain")?;
-    push_marked(text, b" ", chain)?;
+    push_marked(text, " ", chain)?;
     Ok(text.extend_from_slice(b"\n")?)
 }
 
@@ -141,14 +138,47 @@ fn push_lines(
 pub(crate) fn push_cycles(text: &mut Vec<u8>, cycles: u64, least: u64) -> Result<(), NoMemory>
     ensures { OnOk result (text.new.items ≡ text.old.items ++ listed.cycles_line cycles least) }
 {
-    text.extend_from_slice(b"cycles ")?;
-    push_number(text, cycles)?;
-    text.extend_from_slice(b" least ")?;
-    push_number(text, least)?;
-    if cycles == least {
-        text.extend_from_slice(b" optimal")?;
+    push_all(
+        text,
+        &[
+            Text("cycles "),
+            Number(cycles),
+            Text(" least "),
+            Number(least),
+            Text(if cycles == least { " optimal" } else { "" }),
+            Text("\n"),
+        ],
+    )
+}
+
+/// Appends `stretch`, of a path.
+fn push_stretch(text: &mut Vec<u8>, stretch: Stretch) -> Result<(), NoMemory>
+    ensures { OnOk result (text.new.items ≡ text.old.items ++ listed.stretch_text stretch) }
+{
+    match stretch {
+        Stretch::Delay(operation, cycles) => {
+            let (operation, cycles) = (Number(operation as u64), Number(cycles as u64));
+            push_all(text, &[Text(" "), operation, Text(" +"), cycles])
+        }
+        Stretch::Held(operation) => {
+            push_all(text, &[Text(" "), Number(operation as u64), Text(" =1")])
+        }
+        Stretch::Free(cycles) => push_all(text, &[Text(" ~"), Number(cycles as u64)]),
     }
-    Ok(text.extend_from_slice(b"\n")?)
+}
+
+/// Appends the line of a path.
+fn push_path(text: &mut Vec<u8>, path: &[Stretch]) -> Result<(), NoMemory>
+    ensures { OnOk result (text.new.items ≡ text.old.items ++ listed.path_line path.now) }
+{
+    if path.is_empty() {
+        return Ok(text.extend_from_slice(b"path -\n")?);
+    }
+    text.extend_from_slice(b"path")?;
+    for stretch in path {
+        push_stretch(text, *stretch)?;
+    }
+    Ok(text.push(b'\n')?)
 }
 
 /// Appends what explains a schedule of the block by a rule of memory: a line for each operation, the cycles with their lower bound

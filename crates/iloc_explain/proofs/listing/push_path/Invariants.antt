@@ -1,6 +1,6 @@
 use Rattle.iloc_explain.proofs.Common.{◌≡◌, ◌++◌, take, flat_map}
 use Rattle.iloc_explain.specs.Listing.{stretch_text}
-use Rattle.iloc_explain.proofs.path_line.push_stretches.Given as goal
+use Rattle.iloc_explain.proofs.listing.push_path.Given as goal
 
 abbrev pub invariant-loop-stretch : goal.invariant-loop-stretch
 invariant-loop-stretch l =
