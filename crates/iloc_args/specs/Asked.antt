@@ -1,5 +1,5 @@
 -- What a command line asks for, as a function of its words.
-use Rattle.std.specs.Prelude.{ℕ, Bool, false, if◌then◌else◌, List, [], map, Option, None, find, codes, option_and_then, option_map, unwrap_or}
+use Rattle.std.specs.Prelude.{ℕ, Bool, false, if◌then◌else◌, List, [], map, Option, None, find, codes, option_and_then, option_map, unwrap_or, is_some}
 use Rattle.std.specs.Option.{option_map_or}
 use Rattle.std.specs.Str.{bytes_eq}
 use Rattle.std.specs.Str.Parse.{digits_value, without_leading_plus}
@@ -23,6 +23,7 @@ pub record Asked : Type 0 where
   pub store : ℕ
   pub mult : ℕ
   pub priority : Text
+  pub priority_given : Bool
   pub priorities_file : Option Text
   pub nodes : Option ℕ
   pub task_file : Option Text
@@ -39,6 +40,7 @@ asked_in r = record {
   store = r.latencies.store;
   mult = r.latencies.mult;
   priority = priority_word r.priority;
+  priority_given = r.priority_given;
   priorities_file = option_map string_bytes r.priorities_file;
   nodes = r.nodes;
   task_file = option_map string_bytes r.task_file;
@@ -84,6 +86,7 @@ asked_as task rows = record {
   store = number_or 5 (codes "store") rows;
   mult = number_or 3 (codes "mult") rows;
   priority = text_or (codes "chain") (codes "priority") rows;
+  priority_given = is_some (first_of (codes "priority") rows);
   priorities_file = priorities_in task rows;
   nodes = number_if (codes "nodes") rows;
   task_file = first_of (codes "task") rows;

@@ -74,7 +74,7 @@ text_rule name = record (new_rule name) { long = Some name; value_names = 1 }
 
 -- `--priority NAME`
 abbrev pub priority_rule : Rule
-priority_rule = record (text_rule (codes "priority")) { defaults = codes "chain" ∷ [] }
+priority_rule = text_rule (codes "priority")
 
 -- `--priorities FILE`
 abbrev pub priorities_rule : Rule
@@ -94,20 +94,21 @@ pub record Subcommand : Type 0 where
 abbrev pub run_entry : Subcommand
 run_entry = record { name = codes "run"; task = Run; rules = at_rule ∷ words_rule ∷ flag_rule Where ∷ [] }
 
--- `simulate [--at N] [WORD].. [--load N] [--store N] [--mult N] [--priority NAME] [--disambiguate]`
+-- `simulate [--at N] [WORD].. [--load N] [--store N] [--mult N] [--priority NAME] [--priorities FILE] [--disambiguate]`
 abbrev pub simulate_entry : Subcommand
 simulate_entry = record {
   name = codes "simulate";
   task = Simulate;
-  rules = at_rule ∷ words_rule ∷ latency_rules ++ priority_rule ∷ flag_rule Disambiguate ∷ [];
+  rules = at_rule ∷ words_rule ∷ latency_rules ++ priority_rule ∷ priorities_rule ∷ flag_rule Disambiguate ∷ [];
 }
 
--- `trace [--at N] [WORD].. [--load N] [--store N] [--mult N] [--priority NAME] [--task FILE] [--either-slot]`
+-- `trace [--at N] [WORD].. [--load N] [--store N] [--mult N] [--priority NAME] [--priorities FILE] [--task FILE] [--either-slot] [--disambiguate]`
 abbrev pub trace_entry : Subcommand
 trace_entry = record {
   name = codes "trace";
   task = Trace;
-  rules = at_rule ∷ words_rule ∷ latency_rules ++ priority_rule ∷ task_rule ∷ flag_rule EitherSlot ∷ [];
+  rules = at_rule ∷ words_rule ∷ latency_rules ++ priority_rule ∷ priorities_rule ∷ task_rule
+      ∷ map flag_rule (EitherSlot ∷ Disambiguate ∷ []);
 }
 
 -- `schedule [--workers N] [--load N] [--store N] [--mult N] [--priority NAME] [--priorities FILE] [--disambiguate]`

@@ -44,7 +44,7 @@ pub record AsksForBoth (exclusion : Exclusion) (a : Asked) : Type 0 where
   pub aligned : a.at % 4 ≡ 0
   pub fits : a.at + 4 * length a.words ≤ 4 * WORDS
   pub known : IsNoPriority a.priority → ⊥
-  pub first : first_excluded a.task a.flags (is_some a.priorities_file) (is_some a.task_file) ≡ Some exclusion
+  pub first : first_excluded a.task a.flags a.priority_given (is_some a.priorities_file) (is_some a.task_file) ≡ Some exclusion
 
 -- an error of this kind is a text that was asked for
 abbrev pub IsAskedFor : ErrorKind → Type 0

@@ -3,7 +3,7 @@ use Rattle.std.specs.Prelude.{ℕ, List, ◌++◌, codes}
 use Rattle.std.specs.List.{join_by}
 use Rattle.std.specs.String.{string_bytes}
 use Rattle.iloc_args.specs.declared.fault.Exclusion.{Exclusion}
-use Rattle.iloc_args.specs.declared.fault.Exclusion.TheVariants.{CsvAndJson, PrioritiesAndTask, LawfulAndDisambiguate, TaskAndDisambiguate, TaskAndCycles}
+use Rattle.iloc_args.specs.declared.fault.Exclusion.TheVariants.{CsvAndJson, PriorityAndPriorities, PrioritiesAndTask, LawfulAndDisambiguate, TaskAndPriority, TaskAndDisambiguate, TaskAndCycles}
 use Rattle.iloc_args.specs.declared.fault.LineFault.{LineFault}
 use Rattle.iloc_args.specs.declared.fault.LineFault.TheVariants.{Help, Refused, BadStart, TooManyWords, NoSuchPriority, Excluded, NoMemory}
 use Rattle.iloc_args.specs.Priority.{priority_word}
@@ -12,8 +12,10 @@ use Rattle.iloc_rules.specs.Heuristics.Listed.{heuristics}
 -- what is said of options that exclude each other
 abbrev pub excluded_text : Exclusion → List ℕ
 excluded_text CsvAndJson = codes "--csv and --json exclude each other"
+excluded_text PriorityAndPriorities = codes "--priority and --priorities exclude each other"
 excluded_text PrioritiesAndTask = codes "--priorities and --task exclude each other"
 excluded_text LawfulAndDisambiguate = codes "--lawful and --disambiguate exclude each other"
+excluded_text TaskAndPriority = codes "--task and --priority exclude each other"
 excluded_text TaskAndDisambiguate = codes "--task and --disambiguate exclude each other"
 excluded_text TaskAndCycles = codes "--task and --cycles exclude each other"
 

@@ -5,7 +5,7 @@ ghost use Rattle.clap.specs.Simple.{new_shape};
 ghost use Rattle.std.specs.Str.{bytes_eq};
 ghost use Rattle.iloc_args.specs.declared.command.Entry.{Entry as entry_value};
 ghost use Rattle.iloc_args.specs.Asked.{task_among, task_named};
-ghost use Rattle.iloc_args.specs.Command.{at_rule, bare_rule, farm_app, latency_rule, nodes_rule, priority_rule, search_rule};
+ghost use Rattle.iloc_args.specs.Command.{at_rule, bare_rule, farm_app, latency_rule, nodes_rule, search_rule};
 ghost use Rattle.iloc_args.specs.Command.{text_rule, top_shape, words_rule, workers_rule};
 ghost use Rattle.iloc_args.specs.Steps.Building.{HasApp, HasRule, alone, default_rule, option_rule, rule_for, app_for, app_with, subcommand_for};
 
@@ -140,13 +140,6 @@ fn latency_arg<'a>(alloc: Global, name: &'a str, help: &'a str, usual: &'a str) 
     )
 }
 
-/// `--priority NAME`
-fn priority_arg<'a>(alloc: Global) -> Arg<'a>
-    ensures { HasRule priority_rule result }
-{
-    text_arg(alloc, "priority", "NAME", HELP).default_value("chain")
-}
-
 /// How many nodes a search may have.
 fn nodes_parser<'a>() -> ValueParser<'a>
     ensures { result ≡ Signed (pos 0) (pos 100000) }
@@ -187,12 +180,11 @@ enum Argument {
     Workers,
     /// A latency: the option, its help, and what it is where it isn't given.
     Latency(&'static str, &'static str, &'static str),
-    Priority,
     Nodes,
     /// `--nodes` of a command that searches only where it is given.
     NodesIfGiven,
-    /// An option that names a file, and its help.
-    File(&'static str, &'static str),
+    /// An option that takes any text, what its value is called, and its help.
+    Valued(&'static str, &'static str, &'static str),
     Flag(Flag),
     /// A flag with the command's own help.
     FlagSaying(Flag, &'static str),
@@ -208,19 +200,24 @@ const STORE: Argument = Argument::Latency(
 
 const MULT: Argument = Argument::Latency("mult", "Cycles that mult and multI take, 1 to 16", "3");
 
-const PRIORITIES: Argument = Argument::File(
+const PRIORITY: Argument = Argument::Valued("priority", "NAME", HELP);
+
+const PRIORITIES: Argument = Argument::Valued(
     "priorities",
+    "FILE",
     "Rank operations by the numbers in FILE, a line for each block, instead of --priority",
 );
 
 /// `--priorities` of a command that compares them with others.
-const PRIORITIES_TOO: Argument = Argument::File(
+const PRIORITIES_TOO: Argument = Argument::Valued(
     "priorities",
+    "FILE",
     "Rank operations by the numbers in FILE too, a line for each block",
 );
 
-const TASK: Argument = Argument::File(
+const TASK: Argument = Argument::Valued(
     "task",
+    "FILE",
     "Read the blocks from FILE, and only rows from standard input",
 );
 
@@ -260,7 +257,8 @@ const COMMANDS: [Entry; 11] = [
             LOAD,
             STORE,
             MULT,
-            Argument::Priority,
+            PRIORITY,
+            PRIORITIES,
             Argument::Flag(Flag::Disambiguate),
         ],
     },
@@ -275,9 +273,11 @@ const COMMANDS: [Entry; 11] = [
             LOAD,
             STORE,
             MULT,
-            Argument::Priority,
+            PRIORITY,
+            PRIORITIES,
             TASK,
             EITHER_SLOT_WITH_TASK,
+            Argument::Flag(Flag::Disambiguate),
         ],
     },
     Entry {
@@ -290,7 +290,7 @@ const COMMANDS: [Entry; 11] = [
             LOAD,
             STORE,
             MULT,
-            Argument::Priority,
+            PRIORITY,
             PRIORITIES,
             Argument::Flag(Flag::Disambiguate),
         ],
@@ -305,7 +305,7 @@ const COMMANDS: [Entry; 11] = [
             LOAD,
             STORE,
             MULT,
-            Argument::Priority,
+            PRIORITY,
             PRIORITIES,
             Argument::Flag(Flag::Disambiguate),
             Argument::Flag(Flag::Csv),
@@ -351,7 +351,7 @@ const COMMANDS: [Entry; 11] = [
             LOAD,
             STORE,
             MULT,
-            Argument::Priority,
+            PRIORITY,
             PRIORITIES,
             TASK,
             EITHER_SLOT_WITH_TASK,
@@ -407,10 +407,9 @@ impl Argument {
             Argument::Words => words_arg(alloc),
             Argument::Workers => workers_arg(alloc),
             Argument::Latency(name, help, usual) => latency_arg(alloc, name, help, usual),
-            Argument::Priority => priority_arg(alloc),
             Argument::Nodes => nodes_arg(alloc),
             Argument::NodesIfGiven => search_arg(alloc),
-            Argument::File(name, help) => text_arg(alloc, name, "FILE", help),
+            Argument::Valued(name, value, help) => text_arg(alloc, name, value, help),
             Argument::Flag(flag) => flag_arg(alloc, flag.word(), flag.help()),
             Argument::FlagSaying(flag, help) => flag_arg(alloc, flag.word(), help),
         }

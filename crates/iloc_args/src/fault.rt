@@ -17,11 +17,15 @@ use std::fmt::{self, Display, Formatter};
 pub enum Exclusion {
     /// A listing as a table and one as JSON.
     CsvAndJson,
+    /// A priority by its name, and priorities from a file.
+    PriorityAndPriorities,
     /// Priorities from a file, and blocks from a file apart from their rows.
     PrioritiesAndTask,
     /// Only lawful schedules pass, which wait for each other by the book, and blocks are scheduled by address.
     LawfulAndDisambiguate,
-    /// Rows that others made are explained, which is done by the book, and blocks are scheduled by address.
+    /// Rows that others made are traced, which ranks nothing, and a priority by its name.
+    TaskAndPriority,
+    /// Rows that others made are traced, or explained by the book, and blocks are scheduled by address.
     TaskAndDisambiguate,
     /// Rows that others made are explained, which lists no cycles, and cycles are listed.
     TaskAndCycles,
@@ -53,8 +57,10 @@ impl Exclusion {
     {
         match self {
             Exclusion::CsvAndJson => "--csv and --json exclude each other",
+            Exclusion::PriorityAndPriorities => "--priority and --priorities exclude each other",
             Exclusion::PrioritiesAndTask => "--priorities and --task exclude each other",
             Exclusion::LawfulAndDisambiguate => "--lawful and --disambiguate exclude each other",
+            Exclusion::TaskAndPriority => "--task and --priority exclude each other",
             Exclusion::TaskAndDisambiguate => "--task and --disambiguate exclude each other",
             Exclusion::TaskAndCycles => "--task and --cycles exclude each other",
         }

@@ -1,5 +1,5 @@
 //! Reading a command line.
-ghost use Rattle.std.specs.Prelude.{◌≡◌, ◌≤◌, IfErr, IfNone, IfOk, MatchOption, OnOk, [], codes, false, map, option_map, true};
+ghost use Rattle.std.specs.Prelude.{◌≡◌, ◌≤◌, ◌&&◌, IfErr, IfNone, IfOk, MatchOption, OnOk, [], codes, false, is_some, map, option_map, true};
 ghost use Rattle.std.specs.Option.{ForSome};
 ghost use Rattle.std.specs.String.{string_bytes};
 ghost use Rattle.clap.specs.Words.{first_of, found_of, has_subcommand, rows_of, subcommand_of};
@@ -7,7 +7,7 @@ ghost use Rattle.clap.specs.Words.{subcommand_rows_of};
 ghost use Rattle.iloc_args.specs.Asked.{asked_as, asked_in, number_if, number_or, numbers_in, priorities_in, text_or};
 ghost use Rattle.iloc_args.specs.Command.{farm_app};
 ghost use Rattle.iloc_args.specs.Due.{Asks, IsDue, faults_in};
-ghost use Rattle.iloc_args.specs.Exclusions.{excludes, first_excluded};
+ghost use Rattle.iloc_args.specs.Exclusions.{excludes, first_excluded, shows_rows};
 ghost use Rattle.iloc_args.specs.Flags.{has};
 ghost use Rattle.iloc_args.specs.Priority.{IsNoPriority, priority_word};
 ghost use Rattle.iloc_args.specs.Ranking.{ranks_by_own};
@@ -99,8 +99,9 @@ fn request_in(alloc: Global, task: Task, given: &ArgMatches<'_>) -> Result<Reque
     let flags = flags_in(given);
     let priorities_file = priorities_in(alloc, task, given)?;
     let task_file = file_in(alloc, given, "task")?;
+    let priority_given = is_priority_given(given);
     let files = (priorities_file.is_some(), task_file.is_some());
-    if let Some(exclusion) = excluded(task, flags, files.0, files.1) {
+    if let Some(exclusion) = excluded(task, flags, priority_given, files.0, files.1) {
         return Err(LineFault::Excluded(exclusion));
     }
     Ok(Request {
@@ -110,6 +111,7 @@ fn request_in(alloc: Global, task: Task, given: &ArgMatches<'_>) -> Result<Reque
         words,
         latencies: latencies_in(given),
         priority,
+        priority_given,
         priorities_file,
         nodes: nodes_in(given),
         task_file,
@@ -117,23 +119,43 @@ fn request_in(alloc: Global, task: Task, given: &ArgMatches<'_>) -> Result<Reque
     })
 }
 
-/// The first options that exclude each other of which a command is given both, by its flags, and whether it has
-/// `--priorities` and `--task`.
-fn excluded(task: Task, flags: Flags, ranked: bool, apart: bool) -> Option<Exclusion>
-    ensures first { result ≡ first_excluded task (has flags) ranked apart }
+/// Whether the rows that others made are shown by a task, with `--task`.
+fn shows_rows(task: Task) -> bool
+    ensures { result ≡ shows_rows task }
+{
+    matches!(task, Task::Trace | Task::Explain)
+}
+
+/// Whether both are given, without a branch: a proof would look at every combination.
+fn both(one: bool, other: bool) -> bool
+    ensures { result ≡ (one && other) }
+{
+    one && other
+}
+
+/// The first options that exclude each other of which a command is given both, by its flags, and whether it is `named` a
+/// `--priority`, `ranked` by `--priorities` and has its blocks `apart`, by `--task`.
+fn excluded(task: Task, flags: Flags, named: bool, ranked: bool, apart: bool) -> Option<Exclusion>
+    ensures first { result ≡ first_excluded task (has flags) named ranked apart }
     ensures none { IfNone result ((exclusion : exclusion_value)
-        → excludes task (has flags) ranked apart exclusion ≡ false) }
+        → excludes task (has flags) named ranked apart exclusion ≡ false) }
 {
     let by_address = flags.has(Flag::Disambiguate);
-    if flags.has(Flag::Csv) && flags.has(Flag::Json) {
+    let rows = both(apart, shows_rows(task));
+    let traced = both(apart, task == Task::Trace);
+    if both(flags.has(Flag::Csv), flags.has(Flag::Json)) {
         Some(Exclusion::CsvAndJson)
-    } else if ranked && apart {
+    } else if both(named, ranked) {
+        Some(Exclusion::PriorityAndPriorities)
+    } else if both(ranked, apart) {
         Some(Exclusion::PrioritiesAndTask)
-    } else if flags.has(Flag::Lawful) && by_address {
+    } else if both(flags.has(Flag::Lawful), by_address) {
         Some(Exclusion::LawfulAndDisambiguate)
-    } else if task == Task::Explain && apart && by_address {
+    } else if both(traced, named) {
+        Some(Exclusion::TaskAndPriority)
+    } else if both(rows, by_address) {
         Some(Exclusion::TaskAndDisambiguate)
-    } else if task == Task::Explain && apart && flags.has(Flag::Cycles) {
+    } else if both(rows, flags.has(Flag::Cycles)) {
         Some(Exclusion::TaskAndCycles)
     } else {
         None
@@ -216,14 +238,21 @@ fn priority_in(given: &ArgMatches<'_>) -> Option<Heuristic>
     heuristic_of(given.get_str("priority").unwrap_or(DEFAULT_PRIORITY))
 }
 
+/// Whether `--priority` is given.
+fn is_priority_given(given: &ArgMatches<'_>) -> bool
+    ensures { result ≡ is_some (first_of (codes "priority") (rows_of (found_of given.now))) }
+{
+    given.get_str("priority").is_some()
+}
+
 /// Whether a task can rank by somebody's own numbers.
 fn ranks_by_own(task: Task) -> bool
     ensures { result ≡ ranks_by_own task }
 {
     match task {
-        Task::Schedule | Task::Counts | Task::Compare | Task::Explain => true,
-        Task::Run | Task::Simulate | Task::Trace | Task::Optimize => false,
-        Task::Check | Task::Graph | Task::Lint => false,
+        Task::Simulate | Task::Trace | Task::Schedule => true,
+        Task::Counts | Task::Compare | Task::Explain => true,
+        Task::Run | Task::Optimize | Task::Check | Task::Graph | Task::Lint => false,
     }
 }
 

@@ -7,9 +7,10 @@ ghost use Rattle.iloc_rules.specs.declared.heuristic.Heuristic.{Heuristic as heu
 
 use iloc_rules::{HEURISTICS, Heuristic};
 
-/// What the help says of `--priority`: their names in this order, from which the completions have them.
+/// What the help says of `--priority`: their names in this order, from which the completions have them, and the default. The
+/// parser has none, so that it tells whether the option is given.
 pub(crate) const HELP: &str =
-    "What goes first: chain, slack, descendants, successors, latency or order";
+    "What goes first: chain, slack, descendants, successors, latency or order [default: chain]";
 
 /// What is said where a name is none of these.
 pub(crate) const NO_SUCH_PRIORITY: &str =

@@ -54,8 +54,10 @@ pub struct Request {
     pub latencies: Latencies,
     /// By what the ready operations are ranked.
     pub priority: Heuristic,
-    /// The name of the file that holds the numbers by which they are ranked instead; only for `Schedule`, `Counts`, `Compare` and
-    /// `Explain`, and never beside `task_file`.
+    /// Whether `priority` is given, and not the default.
+    pub priority_given: bool,
+    /// The name of the file that holds the numbers by which they are ranked instead; only where `priority` isn't given, and never
+    /// beside `task_file`.
     pub priorities_file: Option<String>,
     /// How many nodes a search for the best schedule has for each number of cycles that is tried, if there is a search.
     pub nodes: Option<u32>,
@@ -69,7 +71,7 @@ pub struct Request {
     ghost in_memory: { at ≤ LAST_ADDRESS },
     ghost ranks: { ForSome priorities_file (λ _. ranks_by_own task ≡ true) },
     ghost none_excluded: { (exclusion : exclusion_value)
-        → excludes task (has flags) (is_some priorities_file) (is_some task_file) exclusion ≡ false },
+        → excludes task (has flags) priority_given (is_some priorities_file) (is_some task_file) exclusion ≡ false },
     ghost fits: { at + 4 * length words.items ≤ 4 * WORDS },
 }
 

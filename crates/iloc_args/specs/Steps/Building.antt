@@ -6,9 +6,9 @@ use Rattle.clap.specs.declared.builder.command.Command.TheViews.{out-Command}
 use Rattle.clap.specs.declared.builder.value_parser.ValueParser.{ValueParser}
 use Rattle.clap.specs.Words.{App, Rule, Shape, Text, app_of, new_rule, rule_of, with_subcommand}
 use Rattle.clap.specs.Simple.{new_shape}
-use Rattle.iloc_args.specs.Command.{Subcommand, at_rule, flag_rule, latency_rule, nodes_rule, priority_rule, search_rule, shape, top_shape, text_rule, words_rule, workers_rule}
+use Rattle.iloc_args.specs.Command.{Subcommand, at_rule, flag_rule, latency_rule, nodes_rule, search_rule, shape, top_shape, text_rule, words_rule, workers_rule}
 use Rattle.iloc_args.specs.declared.command.Argument.{Argument}
-use Rattle.iloc_args.specs.declared.command.Argument.TheVariants.{At, Words, Workers, Latency, Priority, Nodes, NodesIfGiven, File, Flag, FlagSaying}
+use Rattle.iloc_args.specs.declared.command.Argument.TheVariants.{At, Words, Workers, Latency, Nodes, NodesIfGiven, Valued, Flag, FlagSaying}
 use Rattle.iloc_args.specs.declared.command.Entry.{Entry}
 
 -- `--NAME N`, a number that this parser takes
@@ -42,10 +42,9 @@ rule_for At = at_rule
 rule_for Words = words_rule
 rule_for Workers = workers_rule
 rule_for (Latency name help usual) = latency_rule name.now usual.now
-rule_for Priority = priority_rule
 rule_for Nodes = nodes_rule
 rule_for NodesIfGiven = search_rule
-rule_for (File name help) = text_rule name.now
+rule_for (Valued name value help) = text_rule name.now
 rule_for (Flag flag) = flag_rule flag
 rule_for (FlagSaying flag help) = flag_rule flag
 
