@@ -7,6 +7,8 @@ pub mod RowListing
 pub mod Tasks
 pub mod Gathered
 pub mod Priorities
+pub mod Splitting
+pub mod Quoted
 pub mod Entries
 pub mod Receipts
 pub mod Streamed

@@ -1,9 +1,10 @@
 -- Numbers of somebody's own that are read from a text.
-use Rattle.iloc_driver.proofs.Common.{◌≡◌, ℕ, zero, suc, ◌+◌, ◌-◌, ◌*◌, ◌^◌, ◌<◌, ◌≤◌, ◌≢◌, List, [], ◌∷◌, ◌++◌, length, take, drop, IfSome, slice_get, Some, None, Ok, Err, Result, position, sym, refl, ap, ◌∙◌, subst, ap₂, append_assoc, append-nil, arith, length-append, length-drop, take_all, drop_all, after_first, before_first, position_or_len, Block, AreFor, after_word, first_and, none_of, number_after, number_of, numbers_from, priorities_from, without, before_and, NumbersFault}
-use Rattle.iloc_text.specs.Grammar.{is_blank}
+use Rattle.iloc_driver.proofs.Common.{◌≡◌, ℕ, zero, suc, ◌+◌, ◌-◌, ◌*◌, ◌^◌, ◌≤◌, List, [], ◌∷◌, ◌++◌, length, take, drop, IfSome, slice_get, Some, None, Ok, Err, Result, position, sym, refl, ap, ◌∙◌, subst, append_assoc, append-nil, arith, length-drop, take_all, drop_all, true, false, after_first, before_first, list_all, position_or_len, Block, is_space, AreFor, first_and, number_after, numbers_for, numbers_of, priorities_from, words_of, before_and, NumbersFault}
+use Rattle.std.specs.Prelude.{ok_or, if◌then◌else◌}
 use Rattle.iloc_text.specs.Lines.{is_line_end}
 use Rattle.iloc_rules.specs.Renaming.{without_nops}
-use Rattle.iloc_driver.specs.declared.fault.NumbersFault.TheVariants.{NoOperation}
+use Rattle.iloc_driver.specs.Quoted.{word_of}
+use Rattle.iloc_driver.specs.declared.fault.NumbersFault.TheVariants.{NoBlock, NotANumber}
 
 -- a line, as it is cut off
 
@@ -43,60 +44,51 @@ module _ {X : Type 0} where
   no_more done fault (Ok y) others is = absurd (cc)
   no_more done fault (Err f) others is = grind arith
 
-  pub none_more : (done : List X) (k j : ℕ) (rest : List ℕ) → rest ≡ [] → before_and done (none_of k j rest) ≡ Ok done
-  none_more done k j [] none = ap (λ xs. Ok xs) (append-nil done)
-  none_more done k j (c ∷ cs) none = absurd (cc)
-
-  pub some_more : (done : List X) (k j : ℕ) (rest : List ℕ) (fault : NumbersFault) → rest ≢ [] → fault ≡ NoOperation k j
-      → before_and done (none_of k j rest) ≡ Err fault
-  some_more done k j [] fault some is = absurd (some refl)
-  some_more done k j (c ∷ cs) fault some is = ap (λ f. Err f) (sym is)
-
 -- a block's line, of which some numbers were read
 
-module _ (k n : ℕ) (rest word : List ℕ) (done : List ℕ) (skipped : word ≡ without is_blank rest) where
-  pub next_number : (after more : List ℕ) (x : ℕ) → length done < n → number_of k (length done) word ≡ Ok x
-      → more ≡ done ++ x ∷ [] → after ≡ after_word word
-      → before_and done (numbers_from k (length done) (n - length done) rest)
-      ≡ before_and more (numbers_from k (length more) (n - length more) after)
-  next_number after more x few found added next =
-      let long : length more ≡ length done + 1 = ap length added ∙ length-append done (x ∷ []) in
-      let left : n - length done ≡ suc (n - length more) = omega (arith, long, few) in
-      ap (λ m. before_and done (numbers_from k (length done) m rest)) left
-      ∙ (one_more done more x (number_of k (length done) (without is_blank rest))
-      (numbers_from k (length done + 1) (n - length more) (after_word (without is_blank rest)))
-      (ap (number_of k (length done)) (sym skipped) ∙ found) added
-      ∙ ap₂ (λ j line. before_and more (numbers_from k j (n - length more) line)) (sym long)
-      (ap after_word (sym skipped) ∙ sym next))
+module _ (k : ℕ) (rest : List ℕ) (done : List ℕ) where
+  pub next_number : (word after more : List ℕ) (x : ℕ) → words_of rest ≡ word ∷ words_of after → number_after 0 word ≡ Some x
+      → more ≡ done ++ x ∷ []
+      → before_and done (numbers_of k (words_of rest)) ≡ before_and more (numbers_of k (words_of after))
+  next_number word after more x words found added =
+      ap (λ ws. before_and done (numbers_of k ws)) words
+      ∙ one_more done more x (ok_or (number_after 0 word) (NotANumber k (word_of word))) (numbers_of k (words_of after))
+      (ap (λ o. ok_or o (NotANumber k (word_of word))) found) added
 
-  pub no_number : (fault : NumbersFault) → length done < n → number_of k (length done) word ≡ Err fault
-      → before_and done (numbers_from k (length done) (n - length done) rest) ≡ Err fault
-  no_number fault few found =
-      let left : n - length done ≡ suc (n - length done - 1) = omega (arith, few) in
-      ap (λ m. before_and done (numbers_from k (length done) m rest)) left
-      ∙ no_more done fault (number_of k (length done) (without is_blank rest))
-      (numbers_from k (length done + 1) (n - length done - 1) (after_word (without is_blank rest)))
-      (ap (number_of k (length done)) (sym skipped) ∙ found)
+  pub no_number : (word after : List ℕ) → words_of rest ≡ word ∷ words_of after → number_after 0 word ≡ None
+      → before_and done (numbers_of k (words_of rest)) ≡ Err (NotANumber k (word_of word))
+  no_number word after words none =
+      ap (λ ws. before_and done (numbers_of k ws)) words
+      ∙ no_more done (NotANumber k (word_of word)) (ok_or (number_after 0 word) (NotANumber k (word_of word)))
+      (numbers_of k (words_of after)) (ap (λ o. ok_or o (NotANumber k (word_of word))) none)
 
-  pub all_numbers : length done ≡ n → word ≡ [] → before_and done (numbers_from k (length done) (n - length done) rest) ≡ Ok done
-  all_numbers all none =
-      let left : n - length done ≡ 0 = omega (arith, all) in
-      ap (λ m. before_and done (numbers_from k (length done) m rest)) left
-      ∙ none_more done k (length done) (without is_blank rest) (sym skipped ∙ none)
+  pub all_numbers : words_of rest ≡ [] → before_and done (numbers_of k (words_of rest)) ≡ Ok done
+  all_numbers none = ap (λ ws. before_and done (numbers_of k ws)) none ∙ ap (λ xs. Ok xs) (append-nil done)
 
-  pub too_many : (fault : NumbersFault) → length done ≡ n → word ≢ [] → fault ≡ NoOperation k n
-      → before_and done (numbers_from k (length done) (n - length done) rest) ≡ Err fault
-  too_many fault all some is =
-      let left : n - length done ≡ 0 = omega (arith, all) in
-      ap (λ m. before_and done (numbers_from k (length done) m rest)) left
-      ∙ some_more done k (length done) (without is_blank rest) fault (λ none. some (skipped ∙ none))
-      (is ∙ ap (NoOperation k) (sym all))
+-- blocks, of which all were read
+
+module _ (done : List (List ℕ)) (blocks : List Block) (n : ℕ) (text rest : List ℕ)
+    (so_far : before_and done (priorities_from (n + 1) (drop n blocks) rest) ≡ priorities_from 1 blocks text)
+    (all : length blocks ≤ n) where
+  pub all_read : list_all is_space rest ≡ true → priorities_from 1 blocks text ≡ Ok done
+  all_read spaces =
+      sym so_far ∙ (ap (λ bs. before_and done (priorities_from (n + 1) bs rest)) (drop_all n blocks all)
+      ∙ (ap (λ b. before_and done (if b then Ok [] else Err (NoBlock (n + 1)))) spaces ∙ ap (λ xs. Ok xs) (append-nil done)))
+
+  pub more_left : list_all is_space rest ≡ false → priorities_from 1 blocks text ≡ Err (NoBlock (n + 1))
+  more_left others =
+      sym so_far ∙ (ap (λ bs. before_and done (priorities_from (n + 1) bs rest)) (drop_all n blocks all)
+      ∙ ap (λ b. before_and done (if b then Ok [] else Err (NoBlock (n + 1)))) others)
 
 -- each operation has a number
 
-pub numbers_long : (k j n : ℕ) (line numbers : List ℕ) → numbers_from k j n line ≡ Ok numbers → length numbers ≡ n
-numbers_long k j zero line numbers is = grind arith
-numbers_long k j (suc n) line numbers is = grind (arith, numbers_long (k) (j + 1) n)
+numbers_many : (k : ℕ) (words : List (List ℕ)) (numbers : List ℕ) → numbers_of k words ≡ Ok numbers
+    → length numbers ≡ length words
+numbers_many k [] numbers is = grind arith
+numbers_many k (word ∷ words) numbers is = grind (arith, numbers_many k words)
+
+numbers_long : (k n : ℕ) (words : List (List ℕ)) (numbers : List ℕ) → numbers_for k n words ≡ Ok numbers → length numbers ≡ n
+numbers_long k n words numbers is = grind (arith, numbers_many)
 
 each_long : (k : ℕ) (blocks : List Block) (text : List ℕ) (all : List (List ℕ)) → priorities_from k blocks text ≡ Ok all
     → (i : ℕ) (b : Block) → slice_get blocks i ≡ Some b

@@ -60,12 +60,12 @@ none_caused name held old new input blocks text numbers.NoMemory holds read deno
 none_caused name held old new input blocks text numbers.TooLong holds read denotes refused =
     none_for (held (string_bytes name)) old new text _ holds
     (record { input = input; read = read; blocks = blocks; denoted = denotes }) (refused (λ e. cc))
-none_caused name held old new input blocks text (numbers.NoNumber k j) holds read denotes refused =
+none_caused name held old new input blocks text (numbers.OtherCount k n found) holds read denotes refused =
     none_for (held (string_bytes name)) old new text _ holds
     (record { input = input; read = read; blocks = blocks; denoted = denotes }) (refused (λ e. cc))
-none_caused name held old new input blocks text (numbers.NotANumber k j) holds read denotes refused =
+none_caused name held old new input blocks text (numbers.NotANumber k word) holds read denotes refused =
     none_for (held (string_bytes name)) old new text _ holds
     (record { input = input; read = read; blocks = blocks; denoted = denotes }) (refused (λ e. cc))
-none_caused name held old new input blocks text (numbers.NoOperation k j) holds read denotes refused =
+none_caused name held old new input blocks text (numbers.NoBlock k) holds read denotes refused =
     none_for (held (string_bytes name)) old new text _ holds
     (record { input = input; read = read; blocks = blocks; denoted = denotes }) (refused (λ e. cc))

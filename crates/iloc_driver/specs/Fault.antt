@@ -10,6 +10,7 @@ use Rattle.iloc_rows.specs.Fault.{rows_fault_text}
 use Rattle.iloc_rows.specs.declared.fault.RowsFault.{RowsFault}
 use Rattle.iloc_rows.specs.declared.fault.RowsFault.TheVariants as rows
 use Rattle.iloc_board.specs.Journal.{JournalView}
+use Rattle.iloc_driver.specs.Quoted.{quoted}
 use Rattle.iloc_text.specs.declared.fault.InputFault.{InputFault}
 use Rattle.iloc_text.specs.declared.fault.InputFault.TheVariants as input
 use Rattle.iloc_driver.specs.declared.commands.Finding.{Finding}
@@ -73,9 +74,9 @@ task_status (of_task.Text fault) = rows_status fault
 -- and of numbers that rank operations
 abbrev pub numbers_status : NumbersFault → ℕ
 numbers_status numbers.TooLong = 1
-numbers_status (numbers.NoNumber k j) = 1
-numbers_status (numbers.NotANumber k j) = 1
-numbers_status (numbers.NoOperation k j) = 1
+numbers_status (numbers.OtherCount k n found) = 1
+numbers_status (numbers.NotANumber k word) = 1
+numbers_status (numbers.NoBlock k) = 1
 numbers_status numbers.NoMemory = 3
 
 abbrev pub priorities_status : PrioritiesFault → ℕ
@@ -109,16 +110,18 @@ abbrev pub task_text : TaskFault → List ℕ
 task_text (of_task.Unread fault) = codes "task: " ++ file_text fault
 task_text (of_task.Text fault) = codes "task: " ++ rows_fault_text fault
 
--- `block K operation J: `, and what is wrong there
-abbrev pub of_operation : ℕ → ℕ → List ℕ → List ℕ
-of_operation k j what = codes "block " ++ (decimal k ++ (codes " operation " ++ (decimal j ++ what)))
+-- `block K: `, and what is wrong there
+abbrev pub of_block : ℕ → List ℕ → List ℕ
+of_block k what = codes "block " ++ (decimal k ++ what)
 
 -- what is said of numbers that are refused
 abbrev pub numbers_text : NumbersFault → List ℕ
 numbers_text numbers.TooLong = codes "input longer than 16777216 bytes"
-numbers_text (numbers.NoNumber k j) = of_operation k j (codes ": no number")
-numbers_text (numbers.NotANumber k j) = of_operation k j (codes ": no number from 0 to 4294967295")
-numbers_text (numbers.NoOperation k j) = of_operation k j (codes ": no such operation")
+numbers_text (numbers.OtherCount k n found) =
+    of_block k (codes ": expected " ++ (decimal n ++ (codes " numbers, one for each operation except nop, found " ++ decimal found)))
+numbers_text (numbers.NotANumber k word) =
+    of_block k (codes ": expected a number from 0 to 4294967295, found " ++ quoted word)
+numbers_text (numbers.NoBlock k) = of_block k (codes ": no such block, but numbers for it")
 numbers_text numbers.NoMemory = codes "out of memory"
 
 -- what is said of priorities that there aren't
@@ -173,9 +176,9 @@ fault_of_rows (rows.NoSuchBlock n) = Rows (rows.NoSuchBlock n)
 -- the fault of a run that has no priorities
 abbrev pub fault_of_numbers : NumbersFault → RunFault
 fault_of_numbers numbers.TooLong = Priorities (of_priorities.Text numbers.TooLong)
-fault_of_numbers (numbers.NoNumber k j) = Priorities (of_priorities.Text (numbers.NoNumber k j))
-fault_of_numbers (numbers.NotANumber k j) = Priorities (of_priorities.Text (numbers.NotANumber k j))
-fault_of_numbers (numbers.NoOperation k j) = Priorities (of_priorities.Text (numbers.NoOperation k j))
+fault_of_numbers (numbers.OtherCount k n found) = Priorities (of_priorities.Text (numbers.OtherCount k n found))
+fault_of_numbers (numbers.NotANumber k word) = Priorities (of_priorities.Text (numbers.NotANumber k word))
+fault_of_numbers (numbers.NoBlock k) = Priorities (of_priorities.Text (numbers.NoBlock k))
 fault_of_numbers numbers.NoMemory = no_memory
 
 -- What holds if `workers` workers were to do the jobs of a board, `made` passes were made, the journals `gathered` were

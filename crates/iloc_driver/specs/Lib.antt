@@ -7,5 +7,6 @@ pub mod Program
 pub mod Rows
 pub mod Run
 pub mod Steps
+pub mod Quoted
 pub mod Words
 pub mod Work

@@ -1,7 +1,7 @@
 -- Priorities of somebody's own: a text with a line for each block, and on it a number for each operation, `nop`s left out.
-use Rattle.std.specs.Prelude.{◌≡◌, ℕ, zero, suc, ◌+◌, ◌-◌, ◌*◌, ◌^◌, nat_lt, ◌||◌, Bool, if◌then◌else◌, List, [], ◌∷◌, length, slice_get, Option, Some, None, IfSome, Result, Ok, Err, ok_or, option_and_then}
+use Rattle.std.specs.Prelude.{◌≡◌, ℕ, ◌+◌, ◌-◌, ◌*◌, ◌^◌, nat_lt, ◌==◌, ◌||◌, Bool, true, false, if◌then◌else◌, List, [], ◌∷◌, length, slice_get, Option, Some, None, IfSome, Result, Ok, Err, ok_or, option_and_then}
 use Rattle.std.specs.Char.{is_ascii_digit}
-use Rattle.std.specs.List.{after_first, before_first}
+use Rattle.std.specs.List.{after_first, before_first, filter, list_all, slice_split}
 use Rattle.std.specs.String.{string_bytes}
 use Rattle.std.specs.declared.alloc.Global.{Global}
 use Rattle.std.specs.declared.string.String.{String}
@@ -11,38 +11,27 @@ use Rattle.iloc_text.specs.Grammar.{is_blank}
 use Rattle.iloc_text.specs.Lines.{is_line_end}
 use Rattle.iloc_rules.specs.Renaming.{without_nops}
 use Rattle.iloc_driver.specs.Run.Apart.{Held, Holds}
+use Rattle.iloc_driver.specs.Quoted.{word_of}
 use Rattle.iloc_driver.specs.declared.fault.NumbersFault.{NumbersFault}
-use Rattle.iloc_driver.specs.declared.fault.NumbersFault.TheVariants.{TooLong, NoNumber, NotANumber, NoOperation}
+use Rattle.iloc_driver.specs.declared.fault.NumbersFault.TheVariants.{TooLong, OtherCount, NotANumber, NoBlock}
 
 -- n, where it is below 2^32
 abbrev pub if_small : ℕ → Option ℕ
 if_small n = if nat_lt n (2 ^ 32) then Some n else None
 
--- the number that digits write after the digits of `n`, up to a blank or the end of the line, if it is small enough
+-- the number that digits write after the digits of `n`, if it is small enough
 abbrev pub number_after : ℕ → List ℕ → Option ℕ
 number_after n [] = if_small n
-number_after n (c ∷ cs) =
-    if is_blank c then if_small n else (if is_ascii_digit c then number_after (n * 10 + (c - 48)) cs else None)
+number_after n (c ∷ cs) = if is_ascii_digit c then number_after (n * 10 + (c - 48)) cs else None
 
--- the number of operation j of block k, with which the rest of a line begins
-abbrev pub number_of : ℕ → ℕ → List ℕ → Result ℕ NumbersFault
-number_of k j [] = Err (NoNumber k j)
-number_of k j (c ∷ cs) = ok_or (number_after 0 (c ∷ cs)) (NotANumber k j)
+-- whether a part of a line has bytes
+abbrev pub is_word : List ℕ → Bool
+is_word [] = false
+is_word (c ∷ cs) = true
 
--- what follows the first blank of a line
-abbrev pub after_word : List ℕ → List ℕ
-after_word [] = []
-after_word (c ∷ cs) = if is_blank c then cs else after_word cs
-
--- a text from its first byte on of which `p` doesn't hold
-abbrev pub without : (ℕ → Bool) → List ℕ → List ℕ
-without p [] = []
-without p (c ∷ cs) = if p c then without p cs else c ∷ cs
-
--- nothing is left, where block k has no operation j
-abbrev pub none_of : {X : Type 0} → ℕ → ℕ → List ℕ → Result (List X) NumbersFault
-none_of k j [] = Ok []
-none_of k j (c ∷ cs) = Err (NoOperation k j)
+-- the words of a line, which blanks part
+abbrev pub words_of : List ℕ → List (List ℕ)
+words_of line = filter is_word (slice_split is_blank line)
 
 -- what was read first, and the others; or the first fault
 abbrev pub first_and : {X : Type 0} → Result X NumbersFault → Result (List X) NumbersFault → Result (List X) NumbersFault
@@ -50,20 +39,23 @@ first_and (Err fault) others = Err fault
 first_and (Ok x) (Err fault) = Err fault
 first_and (Ok x) (Ok xs) = Ok (x ∷ xs)
 
--- the numbers of block k in the rest of its line: of n operations, the first of which is operation j
-abbrev pub numbers_from : ℕ → ℕ → ℕ → List ℕ → Result (List ℕ) NumbersFault
-numbers_from k j zero line = none_of k j (without is_blank line)
-numbers_from k j (suc n) line =
-    first_and (number_of k j (without is_blank line)) (numbers_from k (j + 1) n (after_word (without is_blank line)))
+-- the numbers that the words of block k's line write, or the first that writes none
+abbrev pub numbers_of : ℕ → List (List ℕ) → Result (List ℕ) NumbersFault
+numbers_of k [] = Ok []
+numbers_of k (word ∷ words) = first_and (ok_or (number_after 0 word) (NotANumber k (word_of word))) (numbers_of k words)
+
+-- the same where block k has n operations, with a number for each
+abbrev pub numbers_for : ℕ → ℕ → List (List ℕ) → Result (List ℕ) NumbersFault
+numbers_for k n words = if length words == n then numbers_of k words else Err (OtherCount k n (length words))
 
 abbrev pub is_space : ℕ → Bool
 is_space c = is_blank c || is_line_end c
 
 -- the numbers of the blocks in the rest of the text, the first of which is block `k`; a line that is missing is empty
 abbrev pub priorities_from : ℕ → List Block → List ℕ → Result (List (List ℕ)) NumbersFault
-priorities_from k [] text = none_of k 0 (without is_space text)
+priorities_from k [] text = if list_all is_space text then Ok [] else Err (NoBlock k)
 priorities_from k (b ∷ blocks) text =
-    first_and (numbers_from k 0 (length (without_nops b.ops)) (before_first is_line_end text))
+    first_and (numbers_for k (length (without_nops b.ops)) (words_of (before_first is_line_end text)))
     (priorities_from (k + 1) blocks (after_first is_line_end text))
 
 -- the numbers of a file's blocks in the text, or why it has none

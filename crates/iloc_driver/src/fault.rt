@@ -2,6 +2,8 @@
 ghost use Rattle.std.specs.Prelude.{◌≡◌};
 ghost use Rattle.iloc_driver.specs.Fault.{run_status_of};
 
+mod word;
+
 use iloc_listing::WriteFailed;
 use iloc_ops::NoMemory;
 use iloc_rows::RowsFault;
@@ -9,6 +11,7 @@ use iloc_text::{InputFault, ReadFault, StreamFault};
 use std::alloc::{AllocError, AllocFailed};
 use std::error::Error;
 use std::fmt::{self, Display, Formatter};
+pub use word::Word;
 
 /// Why the blocks of a file weren't worked through.
 #[derive(Clone, Copy, Debug, Drop, PartialEq, Eq)]
@@ -91,18 +94,26 @@ impl Display for TaskFault {
 
 impl Error for TaskFault {}
 
-/// Why a text has no numbers for the operations of a file's blocks. Blocks are counted from 1, and the operations of each from 0,
-/// `nop`s left out.
+/// Why a text has no numbers for the operations of a file's blocks, which are counted from 1.
 #[derive(Clone, Copy, Debug, Drop, PartialEq, Eq)]
 pub enum NumbersFault {
     /// The text has more than `MAX_INPUT` bytes.
     TooLong,
-    /// The block's line ends before the operation has a number.
-    NoNumber { block: u32, operation: u32 },
-    /// What is written for the operation is no number, or one above 4,294,967,295.
-    NotANumber { block: u32, operation: u32 },
-    /// There is more on the line than the block has operations, or there is no such block.
-    NoOperation { block: u32, operation: u32 },
+    /// The block's line has fewer words than the block has operations, or more; `nop`s are left out.
+    OtherCount {
+        block: u32,
+        operations: usize,
+        numbers: usize,
+    },
+    /// This word of the block's line is no number, or one above 4,294,967,295.
+    NotANumber {
+        block: u32,
+        word: Word,
+    },
+    /// There are numbers after those for the last block, and this would be the next.
+    NoBlock {
+        block: u32,
+    },
     /// The growth of a list was refused.
     NoMemory,
 }
@@ -116,15 +127,20 @@ impl Display for NumbersFault {
     fn fmt<W: fmt::Write>(&self, f: &mut Formatter<W>) -> fmt::Result {
         match self {
             NumbersFault::TooLong => f.write_str("input longer than 16777216 bytes"),
-            NumbersFault::NoNumber { block, operation } => {
-                write!(f, "block {block} operation {operation}: no number")
-            }
-            NumbersFault::NotANumber { block, operation } => write!(
+            NumbersFault::OtherCount {
+                block,
+                operations,
+                numbers,
+            } => write!(
                 f,
-                "block {block} operation {operation}: no number from 0 to 4294967295"
+                "block {block}: expected {operations} numbers, one for each operation except nop, found {numbers}"
             ),
-            NumbersFault::NoOperation { block, operation } => {
-                write!(f, "block {block} operation {operation}: no such operation")
+            NumbersFault::NotANumber { block, word } => write!(
+                f,
+                "block {block}: expected a number from 0 to 4294967295, found {word}"
+            ),
+            NumbersFault::NoBlock { block } => {
+                write!(f, "block {block}: no such block, but numbers for it")
             }
             NumbersFault::NoMemory => f.write_str("out of memory"),
         }

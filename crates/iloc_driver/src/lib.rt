@@ -15,7 +15,7 @@ pub use commands::{
 };
 pub use farmed::FarmedLister;
 pub use fault::{
-    FarmFault, FileFault, NumbersFault, PrioritiesFault, RunFault, TaskFault, run_status,
+    FarmFault, FileFault, NumbersFault, PrioritiesFault, RunFault, TaskFault, Word, run_status,
 };
 pub use lister::{Lister, initial_memory};
 pub use program::{Ending, run_request, run_words};

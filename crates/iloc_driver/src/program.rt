@@ -25,7 +25,7 @@ use std::thread::Threads;
 const NO_TEXT: &str = "error: invalid UTF-8 was detected in one or more arguments\n";
 
 /// At most so many bytes are said of a fault that the parser didn't find.
-const MOST_SAID: usize = 96;
+const MOST_SAID: usize = 128;
 
 /// How the program ended.
 #[derive(Clone, Copy, Debug, Drop, PartialEq, Eq)]

@@ -1,15 +1,15 @@
 //! Reading the numbers by which somebody ranks the operations of blocks: a line for each block, with blanks between.
-ghost use Rattle.std.specs.Prelude.{◌≡◌, ◌≢◌, ◌≤◌, List, [], Ok, Err, Some, map, length, option_copied, IfErr, IfOk, MatchResult, ℕ};
-ghost use Rattle.std.specs.List.{after_first, before_first};
-ghost use Rattle.iloc_ops.specs.Limits.{MAX_OPS};
+ghost use Rattle.std.specs.Prelude.{◌≡◌, ◌≢◌, ◌≤◌, ◌<◌, List, [], ◌∷◌, Ok, Err, Some, map, length, option_copied, IfErr, IfOk, IfSome, MatchOption, ℕ};
+ghost use Rattle.std.specs.List.{after_first, before_first, list_all};
 ghost use Rattle.iloc_text.specs.Files.{AreWithinLimits};
 ghost use Rattle.iloc_text.specs.Grammar.{is_blank};
 ghost use Rattle.iloc_text.specs.Lines.{is_line_end};
 ghost use Rattle.iloc_rules.specs.Renaming.{without_nops};
-ghost use Rattle.iloc_driver.specs.Priorities.{AreFor, after_word, is_space, number_after, number_of, numbers_from, own_of, priorities_from, priorities_in, without};
-ghost use Rattle.iloc_driver.specs.declared.fault.NumbersFault.TheVariants.{NoMemory as no_memory, NoOperation as no_operation};
+ghost use Rattle.iloc_driver.specs.Priorities.{AreFor, is_space, number_after, numbers_for, own_of, priorities_from, priorities_in, words_of};
+ghost use Rattle.iloc_driver.specs.Steps.Ranked.{is_no_blank, without};
+ghost use Rattle.iloc_driver.specs.declared.fault.NumbersFault.TheVariants.{NoMemory as no_memory};
 
-use crate::fault::NumbersFault;
+use crate::fault::{NumbersFault, Word};
 use iloc_ops::{Block, MAX_INPUT, Op};
 use iloc_text::is_blank;
 use memchr::memchr;
@@ -74,6 +74,7 @@ impl Priorities {
 }
 
 /// The numbers that `text` has for `blocks`.
+#[tactic(auto, using(crate::proofs::Priorities::all_read, crate::proofs::Priorities::more_left))]
 fn numbers_of_all(
     alloc: Global,
     text: &[u8],
@@ -93,57 +94,53 @@ fn numbers_of_all(
         all.push(numbers_of(alloc, line, number, operations)?)?;
         rest = after;
     }
-    none_left(without_space(rest), blocks.len() as u32 + 1, 0)?;
-    Ok(all)
+    if are_spaces(rest) {
+        return Ok(all);
+    }
+    let block = blocks.len() as u32 + 1;
+    Err(NumbersFault::NoBlock { block })
 }
 
-/// The numbers of `line`, which are one for each of the `operations` operations of `block`, and no more.
-#[tactic(auto, using(crate::proofs::Priorities::next_number, crate::proofs::Priorities::no_number, crate::proofs::Priorities::all_numbers, crate::proofs::Priorities::too_many))]
+/// The numbers of `line`, which are one for each of the `operations` operations of `block`.
+#[tactic(auto, using(crate::proofs::Priorities::next_number, crate::proofs::Priorities::no_number, crate::proofs::Priorities::all_numbers))]
 fn numbers_of(
     alloc: Global,
     line: &[u8],
     block: u32,
     operations: usize,
 ) -> Result<Vec<u32>, NumbersFault>
-    requires { operations ≤ MAX_OPS }
-    ensures ok { IfOk result (λ numbers. numbers_from block 0 operations line.now ≡ Ok numbers.items) }
-    ensures err { IfErr result (λ fault. fault ≢ no_memory → numbers_from block 0 operations line.now ≡ Err fault) }
+    ensures ok { IfOk result (λ found. numbers_for block operations (words_of line.now) ≡ Ok found.items) }
+    ensures err { IfErr result (λ fault. fault ≢ no_memory → numbers_for block operations (words_of line.now) ≡ Err fault) }
 {
-    let mut numbers = Vec::new(alloc);
+    let numbers = count_words(line);
+    if numbers != operations {
+        return Err(NumbersFault::OtherCount {
+            block,
+            operations,
+            numbers,
+        });
+    }
+    let mut found = Vec::new(alloc);
     let mut rest = line;
-    while numbers.len() < operations {
-        let word = without_blanks(rest);
-        let number = number_of(word, block, numbers.len() as u32)?;
-        numbers.push(number)?;
-        rest = after_word(word);
+    while let Some((word, after)) = first_word(rest) {
+        let Some(number) = number_in(word) else {
+            let word = Word::of(word);
+            return Err(NumbersFault::NotANumber { block, word });
+        };
+        found.push(number)?;
+        rest = after;
     }
-    none_left(without_blanks(rest), block, operations as u32)?;
-    Ok(numbers)
+    Ok(found)
 }
 
-/// The number of an operation, with which the rest of its block's line begins.
-fn number_of(rest: &[u8], block: u32, operation: u32) -> Result<u32, NumbersFault>
-    ensures { result ≡ number_of block operation rest.now }
-{
-    if rest.is_empty() {
-        return Err(NumbersFault::NoNumber { block, operation });
-    }
-    match number_in(rest) {
-        Some(number) => Ok(number),
-        None => Err(NumbersFault::NotANumber { block, operation }),
-    }
-}
-
-/// The number that the bytes up to the first blank write.
+/// The number that `word` writes.
 #[tactic(auto, using(crate::proofs::Priorities::too_large))]
-fn number_in(bytes: &[u8]) -> Option<u32>
-    ensures { result ≡ number_after 0 bytes.now }
+fn number_in(word: &[u8]) -> Option<u32>
+    ensures { result ≡ number_after 0 word.now }
 {
     let mut number = 0;
-    let mut rest = bytes;
-    while let [digit, after @ ..] = rest
-        && !is_blank(*digit)
-    {
+    let mut rest = word;
+    while let [digit, after @ ..] = rest {
         if !digit.is_ascii_digit() || number > u64::from(u32::MAX) {
             return None;
         }
@@ -156,16 +153,60 @@ fn number_in(bytes: &[u8]) -> Option<u32>
     Some(number as u32)
 }
 
-/// Nothing is left, where the block has no such operation.
-fn none_left(rest: &[u8], block: u32, operation: u32) -> Result<(), NumbersFault>
-    ensures { MatchResult result (λ _. rest.now ≡ [])
-        (λ fault. (rest.now ≢ []) × (fault ≡ no_operation block operation)) }
+/// How many words `line` has.
+fn count_words(line: &[u8]) -> usize
+    ensures { result ≡ length (words_of line.now) }
 {
-    if rest.is_empty() {
-        Ok(())
-    } else {
-        Err(NumbersFault::NoOperation { block, operation })
+    let mut count = 0;
+    let mut rest = line;
+    while let Some((_, after)) = first_word(rest) {
+        count += 1;
+        rest = after;
     }
+    count
+}
+
+/// The first word of `line`, and what follows it, if it has one.
+#[tactic(auto, using(crate::proofs::Splitting::no_word, crate::proofs::Splitting::word_found, crate::proofs::Splitting::word_shorter))]
+fn first_word(line: &[u8]) -> Option<(&[u8], &[u8])>
+    ensures words { MatchOption result (words_of line.now ≡ [])
+        (λ both. words_of line.now ≡ both.0.now ∷ words_of both.1.now) }
+    ensures shorter { IfSome result (λ both. length both.1.now < length line.now) }
+{
+    let rest = without_blanks(line);
+    if rest.is_empty() {
+        return None;
+    }
+    let after = without_word(rest);
+    Some((&rest[..rest.len() - after.len()], after))
+}
+
+/// `line` without its leading blanks.
+fn without_blanks(line: &[u8]) -> &[u8]
+    ensures rest { result.now ≡ without is_blank line.now }
+    ensures short { length result.now ≤ length line.now }
+{
+    let mut rest = line;
+    while let [first, after @ ..] = rest
+        && is_blank(*first)
+    {
+        rest = after;
+    }
+    rest
+}
+
+/// `line` from its first blank on.
+fn without_word(line: &[u8]) -> &[u8]
+    ensures rest { result.now ≡ without is_no_blank line.now }
+    ensures short { length result.now ≤ length line.now }
+{
+    let mut rest = line;
+    while let [first, after @ ..] = rest
+        && !is_blank(*first)
+    {
+        rest = after;
+    }
+    rest
 }
 
 /// How many of these operations are no `nop`s.
@@ -195,42 +236,9 @@ fn split_line(text: &[u8]) -> (&[u8], &[u8])
     }
 }
 
-/// What follows the first blank.
-fn after_word(line: &[u8]) -> &[u8]
-    ensures { result.now ≡ after_word line.now }
+/// Whether `text` has blanks and line ends alone.
+fn are_spaces(text: &[u8]) -> bool
+    ensures { result ≡ list_all is_space text.now }
 {
-    let mut rest = line;
-    while let [first, after @ ..] = rest {
-        if is_blank(*first) {
-            return after;
-        }
-        rest = after;
-    }
-    rest
-}
-
-/// The line without its leading blanks.
-fn without_blanks(line: &[u8]) -> &[u8]
-    ensures { result.now ≡ without is_blank line.now }
-{
-    let mut rest = line;
-    while let [first, after @ ..] = rest
-        && is_blank(*first)
-    {
-        rest = after;
-    }
-    rest
-}
-
-/// The text without its leading blanks and line ends.
-fn without_space(text: &[u8]) -> &[u8]
-    ensures { result.now ≡ without is_space text.now }
-{
-    let mut rest = text;
-    while let [first, after @ ..] = rest
-        && (is_blank(*first) || *first == b'\n')
-    {
-        rest = after;
-    }
-    rest
+    text.iter().all(|byte| is_blank(*byte) || *byte == b'\n')
 }

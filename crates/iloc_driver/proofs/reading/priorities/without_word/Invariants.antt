@@ -1,0 +1,8 @@
+use Rattle.iloc_driver.proofs.Common.{◌≡◌, ◌≤◌, length, is_no_blank, without}
+use Rattle.iloc_driver.proofs.reading.priorities.without_word.Given as goal
+
+abbrev pub invariant-loop-rest : goal.invariant-loop-rest
+invariant-loop-rest l = (without is_no_blank l.rest ≡ without is_no_blank l.fn.line) × (length l.rest ≤ length l.fn.line)
+
+abbrev pub decreases-loop-rest : goal.decreases-loop-rest
+decreases-loop-rest l = length l.rest
