@@ -31,8 +31,8 @@ FORMS = (
 )
 ON_MEMORY = ("run", "simulate", "trace")
 BY_ORDER = ("simulate", "schedule", "counts", "explain", "trace")
-BY_OWN = ("schedule", "counts", "explain", "compare")
-BY_ADDRESS = ("simulate", "schedule", "counts", "explain", "graph", "compare", "optimize")
+BY_OWN = ("simulate", "schedule", "counts", "explain", "trace", "compare")
+BY_ADDRESS = ("simulate", "schedule", "counts", "explain", "trace", "graph", "compare", "optimize")
 # All but the first two wait for others.
 SEVEN_OPERATIONS = ("loadI 4 => r1\nloadI 8 => r2\nmult r1, r2 => r3\nload r1 => r4\nadd r3, r4 => r5\n"
                     "store r5 => r2\noutput 8\n")
@@ -55,19 +55,19 @@ def drawn_priorities(chance, blocks):
 
 
 def drawn_options(chance, command, blocks):
-    """Options of a command, and what they say to the oracle. Somebody's own numbers count before an order."""
+    """Options of a command, and what they say to the oracle."""
     words, how = [], {}
     if command in ON_MEMORY:
         words, how["start"] = ["--at", "0", *map(str, WORDS)], words_from(0, WORDS)
     if command != "run":
         how["latencies"] = chance.choice([USUAL, ODD, {name: chance.randint(1, LONGEST_LATENCY) for name in USUAL}])
         words += words_for(how["latencies"])
-    if command in BY_ORDER and chance.random() < 0.7:
-        how["by"] = chance.choice(ORDERS)
-        words += ["--priority", how["by"]]
     if command in BY_OWN and chance.random() < 0.4:
         how["by"], file = drawn_priorities(chance, blocks)
         words += ["--priorities", file]
+    elif command in BY_ORDER and chance.random() < 0.7:
+        how["by"] = chance.choice(ORDERS)
+        words += ["--priority", how["by"]]
     if command in BY_ADDRESS and chance.random() < 0.5:
         how["rule"] = by_address
         words.append("--disambiguate")

@@ -1,5 +1,5 @@
 -- What the commands list of a block.
-use Rattle.iloc_block_commands.proofs.Common.{◌≡◌, ℕ, ◌+◌, ◌≤◌, Bool, false, ◌&&◌, List, [], ◌++◌, length, drop, ℤ, is_none, IfSome, Some, None, Option, sym, refl, ap, ◌∙◌, ap₂, append-nil, arith, drop_all, Block, Op, outcome, shown, Table, timed_outcome, Latencies, counts_by, priorities_under, MemoryRule, IsOptimumOf, has, memory_rule, Csv, Where, the_greedy_under, bound_comment, count_line, cycles_of, entries, opening_as, outcome_entry, schedule_entry, shown_entry, words_or_fault, IsCountUnder, ranks_under, lined_listing, Own, own_of, IsCompareEntry, IsCompareListing, IsComparedCycles, compare_line, ending_for, opening_for, IsCountEntry, IsCountListing, count_ending, count_header, IsOptimizeEntry, IsScheduleEntry, ComparedCycles}
+use Rattle.iloc_block_commands.proofs.Common.{◌≡◌, ℕ, ◌+◌, ◌≤◌, Bool, false, ◌&&◌, List, [], ◌++◌, length, drop, ℤ, is_none, IfSome, Some, None, Option, sym, refl, ap, ◌∙◌, ap₂, append-nil, arith, drop_all, Block, Op, outcome, shown, Table, timed_outcome, Latencies, counts_by, MemoryRule, IsOptimumOf, has, memory_rule, Csv, Where, the_greedy_under, bound_comment, count_line, cycles_of, entries, opening_as, outcome_entry, schedule_entry, shown_entry, words_or_fault, IsCountUnder, ranks_under, lined_listing, Own, own_of, IsCompareEntry, IsCompareListing, IsComparedCycles, compare_line, ending_for, opening_for, IsCountEntry, IsCountListing, count_ending, count_header, IsOptimizeEntry, IsScheduleEntry, ComparedCycles}
 use Rattle.iloc_fault.proofs.Places.{one_place}
 use Rattle.iloc_optimum.specs.declared.optimizer.Optimum.{Optimum}
 use Rattle.iloc_meaning.specs.declared.outcome.Outcome.{Outcome}
@@ -32,17 +32,17 @@ module _ (request : Request) (k : ℕ) (b : Block) (text more : List ℕ) (name 
       → AppendsEntry (IsRunEntry request k b) text more tt
   run_listed words are plain added = grind (arith, shown_plainly)
 
-  module _ (s : Table) (greedy : IsGreedyWhere (counts_by (memory_rule request) s.ops)
-      (priorities_under (memory_rule request) request.priority request.latencies s.ops) request.latencies b.ops s.ops s.rows) where
+  module _ (own : Option (List ℕ)) (s : Table) (greedy : IsGreedyWhere (counts_by (memory_rule request) s.ops)
+      (ranks_under (memory_rule request) request.priority request.latencies own s.ops) request.latencies b.ops s.ops s.rows) where
     pub simulate_listed : (words : Option (List ℤ))
         → words ≡ shown (timed_outcome request.latencies s.ops s.rows (initial_memory request))
-        → more ≡ text ++ shown_entry k name words → AppendsEntry (IsSimulateEntry request k b) text more tt
+        → more ≡ text ++ shown_entry k name words → AppendsEntry (IsSimulateEntry request own k b) text more tt
     simulate_listed words are added = record {
       entry = outcome_entry k b.name (timed_outcome request.latencies s.ops s.rows (initial_memory request));
       right = record {
         schedule = s;
-        greedy = the_greedy_under (memory_rule request)
-            (priorities_under (memory_rule request) request.priority request.latencies) request.latencies b s greedy;
+        greedy = the_greedy_under (memory_rule request) (ranks_under (memory_rule request) request.priority request.latencies own)
+            request.latencies b s greedy;
         timed = refl;
         plain = ap (outcome_entry k b.name)
             (ruled_same_outcome (memory_rule request) request.latencies b.ops s.ops s.rows (initial_memory request) greedy.lawful);

@@ -8,17 +8,15 @@ use Rattle.iloc_args.specs.declared.request.Request.{Request}
 use Rattle.iloc_args.specs.Rule.{memory_rule}
 use Rattle.iloc_driver.specs.Entries.{IsListingAfter}
 use Rattle.iloc_listing.specs.Listing.{count_ending, count_header, count_line, cycles_of, listing_of_counts, opening_as}
-use Rattle.iloc_listing.specs.Schedules.{IsCountUnder, IsTheGreedyUnder, ranks_under}
-use Rattle.iloc_driver.specs.Command.{Command, shared_by}
+use Rattle.iloc_listing.specs.Schedules.{IsCountUnder, ranks_under}
+use Rattle.iloc_driver.specs.Command.{Command, IsScheduleFor, shared_by}
 use Rattle.iloc_driver.specs.Priorities.{Own, own_of}
 
--- the entry of block k: the cycles of its schedule by the request's rule of memory, greedy by its own priorities if it has some
--- or else as the request ranks, which are found
+-- the entry of block k: the cycles of its schedule, by its own priorities if it has some, which are found
 pub record IsCountEntry (request : Request) (own : Option (List ℕ)) (k : ℕ) (b : Block) (entry : List ℕ) (cycles : ℕ)
     : Type 0 where
   pub schedule : Table
-  pub greedy : IsTheGreedyUnder (memory_rule request) (ranks_under (memory_rule request) request.priority request.latencies own)
-      request.latencies b schedule
+  pub greedy : IsScheduleFor request own b schedule
   pub listed : entry ≡ count_line (has request.flags Csv) k b.name (cycles_of request.latencies schedule)
   pub counted : cycles ≡ cycles_of request.latencies schedule
 

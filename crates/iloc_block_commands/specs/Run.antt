@@ -41,4 +41,4 @@ pub record IsRunEntry (request : Request) (k : ℕ) (block : Block) (entry : Lis
   pub listed : entry ≡ block_head k block.name ++ codes "\n" ++ text
 
 abbrev pub run_command : Command
-run_command = of_files (λ request. IsListingOf (IsRunEntry request) no_ending)
+run_command = of_files (λ request own. IsListingOf (IsRunEntry request) no_ending)

@@ -3,21 +3,17 @@ use Rattle.std.specs.Prelude.{◌≡◌, ℕ, List, Option}
 use Rattle.iloc_ops.specs.declared.file.Block.{Block}
 use Rattle.iloc_timed.specs.Schedule.{Table}
 use Rattle.iloc_args.specs.declared.request.Request.{Request}
-use Rattle.iloc_args.specs.Rule.{memory_rule}
 use Rattle.iloc_listing.specs.Listing.{cycles_of, listing_of_entries, schedule_entry, total_of_all}
-use Rattle.iloc_listing.specs.Schedules.{IsTheGreedyUnder, ranks_under}
-use Rattle.iloc_driver.specs.Command.{Command, shared_by}
+use Rattle.iloc_driver.specs.Command.{Command, IsScheduleFor, shared_by}
 use Rattle.iloc_driver.specs.Priorities.{Own, own_of}
 use Rattle.iloc_driver.specs.Entries.{IsListingOf}
 use Rattle.iloc_listing.specs.declared.text.ScheduleEntry.{ScheduleEntry}
 
--- the entry of block k: its schedule by the request's rule of memory, greedy by its own priorities if it has some or else as the
--- request ranks, a line for each row, and its cycles, which are found
+-- the entry of block k: its schedule, by its own priorities if it has some, a line for each row, and its cycles, which are found
 pub record IsScheduleEntry (request : Request) (own : Option (List ℕ)) (k : ℕ) (b : Block) (entry : List ℕ) (cycles : ℕ)
     : Type 0 where
   pub schedule : Table
-  pub greedy : IsTheGreedyUnder (memory_rule request) (ranks_under (memory_rule request) request.priority request.latencies own)
-      request.latencies b schedule
+  pub greedy : IsScheduleFor request own b schedule
   pub listed : entry ≡ schedule_entry request.latencies k b.name schedule
   pub counted : cycles ≡ cycles_of request.latencies schedule
 

@@ -101,7 +101,7 @@ impl Lister for RunLister {
 
     type Found = ();
 
-    ghost lists = { IsRunEntry };
+    ghost lists = { λ request _. IsRunEntry request };
 
     ghost ending = { no_ending };
 
@@ -116,6 +116,7 @@ impl Lister for RunLister {
         &mut self,
         alloc: Global,
         request: &Request,
+        _own: Option<&[u32]>,
         number: usize,
         block: &Block,
         text: &mut Vec<u8>,

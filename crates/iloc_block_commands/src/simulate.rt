@@ -1,4 +1,5 @@
 //! `simulate`: what comes of blocks' schedules on the timed machine.
+use crate::schedule::lend;
 use iloc_args::Request;
 use iloc_driver::{Lister, initial_memory};
 use iloc_listing::push_outcome;
@@ -40,13 +41,14 @@ impl Lister for SimulateLister {
         &mut self,
         _alloc: Global,
         request: &Request,
+        own: Option<&[u32]>,
         number: usize,
         block: &Block,
         text: &mut Vec<u8>,
     ) -> Result<(), NoMemory> {
         self.graph
             .refill(request.memory_rule(), block, &request.latencies)?;
-        let schedule = self.scheduler.lend_as(&self.graph, request.priority)?;
+        let schedule = lend(&mut self.scheduler, &self.graph, own, request.priority)?;
         self.simulator.run(&schedule, &request.latencies)?;
         self.scheduler.take_back(schedule);
         push_outcome(text, number, block.name.as_ref(), self.simulator.outputs())

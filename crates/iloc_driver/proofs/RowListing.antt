@@ -1,5 +1,6 @@
 -- What is proposed for blocks, listed block by block.
-use Rattle.iloc_driver.proofs.Common.{◌≡◌, ℕ, ◌+◌, Bool, List, [], ◌∷◌, ◌++◌, length, All, zip, sym, refl, ap, ◌∙◌, subst, append_assoc, append-nil, arith, length-append, All-push, list_all, Block, AppendsEntry, finding_of, AreListedTo}
+use Rattle.iloc_driver.proofs.Common.{◌≡◌, ℕ, ◌+◌, ◌<◌, Bool, List, [], ◌∷◌, ◌++◌, length, get_or, drop, All, zip, sym, refl, ap, ◌∙◌, subst, append_assoc, append-nil, arith, length-append, All-push, list_all, Block, AppendsEntry, finding_of, AreListedTo}
+use Rattle.std.proofs.lemmas.List.{drop_more}
 use Rattle.iloc_rows.specs.declared.proposal.Proposed.{Proposed}
 use Rattle.iloc_driver.specs.Rows.{ListsRows}
 use Rattle.iloc_driver.specs.declared.commands.Finding.{Finding}
@@ -9,6 +10,10 @@ use Rattle.iloc_driver.proofs.Entries.{entries_long, one_more}
 pub both_next : {A B : Type 0} (xs xs' : List A) (ys ys' : List B) (x : A) (y : B) → xs ≡ x ∷ xs' → ys ≡ y ∷ ys'
     → zip xs ys ≡ (x, y) ∷ zip xs' ys'
 both_next xs xs' ys ys' x y first second = λ i. zip (first i) (second i)
+
+-- a list from its next element on
+pub next_left : {X : Type 0} (xs : List X) (i : ℕ) (x : X) → i < length xs → x ≡ get_or xs i x → drop i xs ≡ x ∷ drop (i + 1) xs
+next_left xs i x within is = drop_more xs i x within ∙ ap (λ y. y ∷ drop (i + 1) xs) (sym is)
 
 none_left : {A B : Type 0} (xs : List A) (ys : List B) → length xs ≡ 0 → zip xs ys ≡ []
 none_left [] ys none = refl

@@ -1,10 +1,11 @@
 -- What a command is: what it reads, what it lists of that, and whether workers share it.
-use Rattle.std.specs.Prelude.{ℕ, ℤ, Bool, true, false, List, Option, None}
-use Rattle.std.specs.declared.alloc.Global.{Global}
-use Rattle.std.specs.declared.string.String.{String}
+use Rattle.std.specs.Prelude.{ℕ, ℤ, Bool, true, false, List, Option}
 use Rattle.iloc_ops.specs.declared.file.Block.{Block}
 use Rattle.iloc_meaning.specs.Memory.{words_from}
+use Rattle.iloc_timed.specs.Schedule.{Table}
 use Rattle.iloc_rows.specs.declared.proposal.Proposed.{Proposed}
+use Rattle.iloc_listing.specs.Schedules.{IsTheGreedyUnder, ranks_under}
+use Rattle.iloc_args.specs.Rule.{memory_rule}
 use Rattle.iloc_args.specs.declared.request.Request.{Request}
 use Rattle.iloc_driver.specs.Priorities.{Own}
 use Rattle.iloc_driver.specs.declared.commands.Finding.{Finding}
@@ -12,6 +13,13 @@ use Rattle.iloc_driver.specs.declared.commands.Finding.{Finding}
 -- the memory that a request has each block start with
 abbrev pub initial_memory : Request → List ℤ
 initial_memory request = words_from request.at request.words.items
+
+-- `s` is the schedule of block `b` for `request`: by its rule of memory, greedy by the block's `own` priorities if it has some, else
+-- as the request ranks
+abbrev pub IsScheduleFor : Request → (own : Option (List ℕ)) → Block → Table → Type 0
+IsScheduleFor request own b s =
+    IsTheGreedyUnder (memory_rule request) (ranks_under (memory_rule request) request.priority request.latencies own)
+    request.latencies b s
 
 -- what is read: a file, blocks with rows for them, or a text of whatever kind
 pub data Input : Type 0 where
@@ -31,11 +39,6 @@ pub data Listers : Type 1 where
   Shared : (A : Type 0) → (Request → Option (List ℕ) → ℕ → Block → A → Type 0) → (A → ℕ)
       → (Request → List Block → List A → List ℕ) → Listers
 
--- the file of priorities that is read for a request: where workers list the blocks
-abbrev pub priorities_file : Listers → Request → Option (String Global)
-priorities_file Alone request = None
-priorities_file (Shared A answers cycles_in made_of) request = request.priorities_file
-
 pub record Command : Type 1 where
   -- what it reads
   pub input : Input
@@ -50,19 +53,19 @@ pub record Command : Type 1 where
   pub reports : List ℕ → Finding → List ℕ → Type 0
 
 -- a command that lists files so, and does no more
-abbrev pub of_files : (Request → List Block → List ℕ → Type 0) → Command
+abbrev pub of_files : (Request → Own → List Block → List ℕ → Type 0) → Command
 of_files lists = record {
   input = OfFile;
   takes_task = false;
   listers = Alone;
-  lists = λ request own. lists request;
+  lists = lists;
   says = λ _ _ _ _ _. ⊥;
   reports = λ _ _ _. ⊥;
 }
 
 -- one that lists no file
 abbrev pub of_no_file : Command
-of_no_file = of_files (λ _ _ _. ⊥)
+of_no_file = of_files (λ _ _ _ _. ⊥)
 
 -- one whose blocks workers share, and that does no more
 abbrev pub shared_by : {A : Type 0} → (Request → Option (List ℕ) → ℕ → Block → A → Type 0) → (A → ℕ)

@@ -16,7 +16,7 @@ use Rattle.iloc_driver.specs.declared.commands.Finding.{Finding}
 use Rattle.iloc_driver.specs.declared.commands.Finding.TheVariants.{Passed}
 use Rattle.iloc_driver.specs.Run.Apart.{Held, ReadsApart}
 use Rattle.iloc_driver.specs.Run.Causes.{IsCaused, causes_of}
-use Rattle.iloc_driver.specs.Command.{Command, Input, OfFile, OfRows, OfText, is_of_rows, priorities_file}
+use Rattle.iloc_driver.specs.Command.{Command, Input, OfFile, OfRows, OfText, is_of_rows}
 use Rattle.iloc_driver.specs.Priorities.{AreIn, Own}
 use Rattle.iloc_listing.specs.Device.{WritesFront}
 use Rattle.iloc_driver.specs.Entries.{ListsRead}
@@ -51,16 +51,12 @@ pub record ListsApart (says : List Block → List Proposed → Finding → List 
   pub read : ReadsApart known old new blocks proposals
   pub said : says blocks proposals finding text
 
--- `own` are the priorities that `command` has for `request`
-abbrev pub AreOwn : Command → Held → Request → List Block → Own → Type 0
-AreOwn command held request blocks own = AreIn (priorities_file command.listers request) held blocks own
-
 -- The command lists this text of what was read, with this finding: of a file it judges nothing; rows have blocks in the same
 -- input, or in the file that is named.
 abbrev pub ListsBy : Command → Input → Option (String Global) → Held → Request → Option (List ℕ) → Option (List ℕ)
     → Finding → List ℕ → Type 0
 ListsBy command OfFile file held request old new finding text =
-    ListsRead (command.lists request) (AreOwn command held request) old new text × (finding ≡ Passed)
+    ListsRead (command.lists request) (AreIn request.priorities_file held) old new text × (finding ≡ Passed)
 ListsBy command OfRows None held request old new finding text =
     Lists (ListsSubmission (command.says request)) old new finding text
 ListsBy command OfRows (Some name) held request old new finding text =

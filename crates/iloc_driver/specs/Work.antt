@@ -9,8 +9,8 @@ use Rattle.iloc_board.specs.Working.{IsDone}
 use Rattle.iloc_args.specs.declared.request.Request.{Request}
 use Rattle.iloc_driver.specs.Command.{Alone, Command, Input, Listers, OfFile, Shared}
 use Rattle.iloc_driver.specs.Entries.{ListsRead, OfBlock}
-use Rattle.iloc_driver.specs.Priorities.{Own, own_of}
-use Rattle.iloc_driver.specs.Run.{AreOwn, input_of}
+use Rattle.iloc_driver.specs.Priorities.{AreIn, Own, own_of}
+use Rattle.iloc_driver.specs.Run.{input_of}
 use Rattle.iloc_driver.specs.Run.Apart.{Held}
 
 -- `workers` workers did all jobs. `receipt` has one journal of each, in order, and each was told that no job is left.
@@ -57,5 +57,5 @@ HasReceiptFrom listers input is is_listing are_own request old new text receipt 
 abbrev pub HasReceipt : {R : Type 0} → (command : Command) → (ReceiptOf command.listers → R → Type 0) → Held → Request
     → Option (List ℕ) → Option (List ℕ) → List ℕ → Option R → Type 0
 HasReceipt command is held request old new text receipt =
-    HasReceiptFrom command.listers (input_of command request.task_file) is (command.lists request) (AreOwn command held request)
-    request old new text receipt
+    HasReceiptFrom command.listers (input_of command request.task_file) is (command.lists request)
+    (AreIn request.priorities_file held) request old new text receipt

@@ -1,6 +1,5 @@
 //! What commands list of what is read, and what they find.
 ghost use Rattle.std.specs.Prelude.{◌≡◌};
-ghost use Rattle.iloc_driver.specs.Run.Apart.{Held};
 ghost use Rattle.std.specs.Thread.{IsSync};
 ghost use Rattle.iloc_args.specs.declared.request.Task.{Task as task_value};
 ghost use Rattle.iloc_driver.specs.Command.{Command as command_value, of_files, of_files_or_rows, of_rows, shared_by};
@@ -8,11 +7,12 @@ ghost use Rattle.iloc_driver.specs.Entries.{IsListingOf};
 ghost use Rattle.iloc_driver.specs.Fault.{finding_of, finding_of_text, status_of_finding};
 ghost use Rattle.iloc_driver.specs.Rows.{ListsProposed};
 ghost use Rattle.iloc_driver.specs.Coming.{ComesTo};
+ghost use Rattle.iloc_driver.specs.Priorities.{own_of};
 ghost use Rattle.iloc_driver.specs.Work.{ReceiptOf};
 
 use crate::farmed::{FarmedLister, listed_by_workers};
 use crate::fault::RunFault;
-use crate::lister::{Lister, listed_as_read};
+use crate::lister::{Lister, listed_alone};
 use crate::reading::texts::Texts;
 use crate::rows::{RowLister, listed_apart, listed_whole};
 use iloc_args::Request;
@@ -113,16 +113,19 @@ pub trait Commands {
             (R.remaining reader.old) (R.remaining reader.new) result };
 }
 
-/// What a command that shares no block lists of the file that the reader gives.
-pub fn alone<L: Lister, R: Read, K>(
+/// What a command that shares no block lists of the file that the reader gives, with the priorities in the file that the request
+/// may name.
+pub fn alone<L: Lister, H: Threads + Wait + Sync, T: Texts, R: Read, K>(
+    rt: &H,
     alloc: Global,
+    texts: &T,
     reader: &mut R,
     request: &Request,
 ) -> Result<(Listed, Option<K>), RunFault>
-    ensures { (held : Held) → ComesTo (of_files (λ asked. IsListingOf (L.lists asked) L.ending)) (λ _ _. ⊥) held request.now
-        (R.remaining reader.old) (R.remaining reader.new) result }
+    ensures { ComesTo (of_files (λ asked own. IsListingOf (λ k. L.lists asked (own_of own k) k) L.ending)) (λ _ _. ⊥)
+        (T.held texts.now) request.now (R.remaining reader.old) (R.remaining reader.new) result }
 {
-    let text = listed_as_read::<L, R>(alloc, reader, request)?;
+    let text = listed_alone::<L, H, T, R>(rt, alloc, texts, reader, request)?;
     Ok((Listed::of_file(text), None))
 }
 
@@ -170,20 +173,21 @@ pub fn of_rows<L: RowLister, T: Texts, R: Read, K>(
 }
 
 /// What a command lists of the reader's file or, where the request names a file, of rows for that file's blocks.
-pub fn of_file_or_rows<F: Lister, L: RowLister, T: Texts, R: Read, K>(
+pub fn of_file_or_rows<F: Lister, L: RowLister, H: Threads + Wait + Sync, T: Texts, R: Read, K>(
+    rt: &H,
     alloc: Global,
     texts: &T,
     reader: &mut R,
     request: &Request,
 ) -> Result<(Listed, Option<K>), RunFault>
-    ensures { ComesTo (of_files_or_rows (of_files (λ asked. IsListingOf (F.lists asked) F.ending))
+    ensures { ComesTo (of_files_or_rows (of_files (λ asked own. IsListingOf (λ k. F.lists asked (own_of own k) k) F.ending))
         (ListsProposed L.lists L.opening L.ending L.passes)) (λ _ _. ⊥) (T.held texts.now) request.now
         (R.remaining reader.old) (R.remaining reader.new) result }
 {
     if request.task_file.is_some() {
         of_rows::<L, T, R, K>(alloc, texts, reader, request)
     } else {
-        alone::<F, R, K>(alloc, reader, request)
+        alone::<F, H, T, R, K>(rt, alloc, texts, reader, request)
     }
 }
 

@@ -24,7 +24,7 @@ pub use Rattle.iloc_args.specs.declared.request.Request.{Request}
 pub use Rattle.iloc_args.specs.declared.request.Task.{Task}
 pub use Rattle.iloc_listing.proofs.Schedules.{are_greedy, cycles_within, greedy_all_same_as, greedy_long, keep_outcomes, total_small}
 pub use Rattle.iloc_listing.specs.Listing.{block_head, count_line, cycles_of, opening_as, outcome_entry, schedule_entry, total_of_all, words_or_fault}
-pub use Rattle.iloc_listing.specs.Schedules.{IsGreedyAs, IsScheduleOf, IsTheGreedy, IsTheGreedyUnder, ranks_under}
+pub use Rattle.iloc_listing.specs.Schedules.{IsGreedyAs, IsScheduleOf, ranks_under}
 pub use Rattle.iloc_driver.proofs.Entries.{listing_after_also, listing_also, one_listing, one_listing_after}
 pub use Rattle.iloc_driver.specs.Command.{initial_memory}
 pub use Rattle.iloc_driver.specs.Entries.{AreEntries, IsListingAfter, IsListingOf, no_ending}

@@ -207,9 +207,9 @@ module _ (held : Held) (request : Request) (ro rn wo wn : Option (List ℕ)) (fi
   abbrev simulated_line : ℕ → Option (List ℕ) → Table × Outcome → List ℕ
   simulated_line k name of = outcome_entry k name of.1
 
-  simulated_item : (k : ℕ) (b : Block) (entry : List ℕ) (found : Unit {0}) → IsSimulateEntry request k b entry found
-      → IsOf simulated_line finds_nothing IsSimulated k b entry found
-  simulated_item k b entry found is = record {
+  simulated_item : (own : Option (List ℕ)) (k : ℕ) (b : Block) (entry : List ℕ) (found : Unit {0})
+      → IsSimulateEntry request own k b entry found → IsOf simulated_line finds_nothing IsSimulated k b entry found
+  simulated_item own k b entry found is = record {
     item = (is.schedule, outcome b.ops (initial_memory request));
     right = (is.greedy.greedy.lawful, refl);
     listed = is.plain;
@@ -223,7 +223,8 @@ module _ (held : Held) (request : Request) (ro rn wo wn : Option (List ℕ)) (fi
       let is = r.listed in
       let outcomes : Block → Outcome = λ (b : Block). outcome b.ops (initial_memory request) in
       let are : AreOf simulated_line finds_nothing IsSimulated 1 r.blocks is.entries is.found =
-      items_of simulated_line finds_nothing IsSimulated (IsSimulateEntry request) simulated_item 1 r.blocks is.found is.entries is.listed in
+      items_of simulated_line finds_nothing IsSimulated (λ k. IsSimulateEntry request (own_of r.own k) k)
+      (λ k. simulated_item (own_of r.own k) k) 1 r.blocks is.found is.entries is.listed in
       let same : map second are.items ≡ map outcomes r.blocks =
       AllZip-map outcomes r.blocks (map second are.items)
       (mapped IsSimulated second (λ (b : Block) (o : Outcome). o ≡ outcomes b) (λ b of is. is.1) r.blocks are.items are.right) in

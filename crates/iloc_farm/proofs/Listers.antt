@@ -1,5 +1,5 @@
 -- Requests that ask alike list one text.
-use Rattle.iloc_farm.proofs.Common.{◌≡◌, ℕ, Bool, true, false, ◌&&◌, List, ◌++◌, is_some, is_none, if◌then◌else◌, Some, None, codes, Option, sym, refl, ap, ◌∙◌, ap₂, arith, transport, Block, Op, words_from, Table, Latencies, MemoryRule, has, memory_rule, Csv, Cycles, Disambiguate, Where, Request, Task, block_head, count_line, cycles_of, opening_as, outcome_entry, schedule_entry, total_of_all, words_or_fault, IsTheGreedy, IsTheGreedyUnder, ranks_under, listing_also, one_listing, one_listing_after, initial_memory, no_ending, Own, own_of, IsListingFor, IsCompareEntry, IsComparedCycles, compare_ending, compare_header, compare_line, ending_for, opening_for, ComparedCycles, command_of, AskAlike, SimulatingListsRuns, searches}
+use Rattle.iloc_farm.proofs.Common.{◌≡◌, ℕ, Bool, true, false, ◌&&◌, List, ◌++◌, is_some, is_none, if◌then◌else◌, Some, None, codes, Option, sym, refl, ap, ◌∙◌, ap₂, arith, transport, Block, Op, words_from, Table, Latencies, MemoryRule, has, memory_rule, Csv, Cycles, Disambiguate, Where, Request, Task, block_head, count_line, cycles_of, opening_as, outcome_entry, schedule_entry, total_of_all, words_or_fault, ranks_under, listing_also, one_listing, one_listing_after, initial_memory, no_ending, Own, own_of, IsListingFor, IsCompareEntry, IsComparedCycles, compare_ending, compare_header, compare_line, ending_for, opening_for, ComparedCycles, command_of, AskAlike, SimulatingListsRuns, searches}
 use Rattle.iloc_explain.proofs.OneText.{one_explanation}
 use Rattle.iloc_graph.specs.Listing.{IsCluster}
 use Rattle.iloc_graph.proofs.OneText.{one_cluster}
@@ -13,6 +13,9 @@ use Rattle.iloc_block_commands.specs.Run.{IsRunEntry}
 use Rattle.iloc_block_commands.specs.Schedule.{IsScheduleEntry}
 use Rattle.iloc_block_commands.specs.Simulate.{IsSimulateEntry}
 use Rattle.iloc_view_commands.specs.Trace.{IsTraceEntry}
+use Rattle.iloc_trace.specs.Events.{events}
+use Rattle.iloc_trace.specs.Listing.{trace_lines}
+use Rattle.iloc_driver.specs.Command.{IsScheduleFor}
 use Rattle.iloc_rules.specs.declared.memory_rule.MemoryRule.TheVariants.{Book, Address}
 use Rattle.iloc_bound.specs.Bound.{least_under}
 use Rattle.iloc_rules.specs.Rule.{counts_by}
@@ -38,23 +41,17 @@ module _ (r q : Request) (alike : AskAlike r q) (k : ℕ) (b : Block) where
   run_same : (e e' : List ℕ) (f f' : Unit {0}) → IsRunEntry r k b e f → IsRunEntry q k b e' f' → (e ≡ e') × (f ≡ f')
   run_same e e' f f' is is' = grind (arith, one_memory, one_shown, transport)
 
-  simulate_same : (e e' : List ℕ) (f f' : Unit {0}) → IsSimulateEntry r k b e f → IsSimulateEntry q k b e' f'
-      → (e ≡ e') × (f ≡ f')
-  simulate_same e e' f f' is is' =
+  simulate_same : (own : Option (List ℕ)) (e e' : List ℕ) (f f' : Unit {0}) → IsSimulateEntry r own k b e f
+      → IsSimulateEntry q own k b e' f' → (e ≡ e') × (f ≡ f')
+  simulate_same own e e' f f' is is' =
       (is.plain ∙ (ap (λ m. outcome_entry k b.name (outcome b.ops m)) (one_memory r q alike) ∙ sym is'.plain), refl)
 
-  -- a schedule that is the greedy one for the one request is so for the other
-  same_schedule : (s s' : Table) → IsTheGreedy r.priority r.latencies b s → IsTheGreedy q.priority q.latencies b s'
-      → s ≡ s'
-  same_schedule s s' is is' = grind (arith, transport)
-
-  -- also by a rule of memory, and by numbers of the block's own
-  same_ruled : (rule rule' : MemoryRule) → rule ≡ rule' → (own : Option (List ℕ)) (s s' : Table)
-      → IsTheGreedyUnder rule (ranks_under rule r.priority r.latencies own) r.latencies b s
-      → IsTheGreedyUnder rule' (ranks_under rule' q.priority q.latencies own) q.latencies b s' → s ≡ s'
-  same_ruled rule rule' same own s s' is is' =
-      is'.only s (transport (λ i. IsGreedyWhere (counts_by (same i) s.ops)
-      (ranks_under (same i) (alike.priority i) (alike.latencies i) own s.ops) (alike.latencies i) b.ops s.ops s.rows) is.greedy)
+  -- the schedule that the one request asks for is what the other does
+  same_schedule : (own : Option (List ℕ)) (s s' : Table) → IsScheduleFor r own b s → IsScheduleFor q own b s' → s ≡ s'
+  same_schedule own s s' is is' =
+      is'.only s (transport (λ i. IsGreedyWhere (counts_by (rule_same r q alike i) s.ops)
+      (ranks_under (rule_same r q alike i) (alike.priority i) (alike.latencies i) own s.ops) (alike.latencies i) b.ops s.ops s.rows)
+      is.greedy)
 
   cycles_same : (s s' : Table) (c c' : ℕ) → s ≡ s' → c ≡ cycles_of r.latencies s → c' ≡ cycles_of q.latencies s' → c ≡ c'
   cycles_same s s' c c' same is is' =
@@ -64,7 +61,7 @@ module _ (r q : Request) (alike : AskAlike r q) (k : ℕ) (b : Block) where
       → IsScheduleEntry q own k b e' c' → (e ≡ e') × (c ≡ c')
   schedule_same own e e' c c' is is' =
       let same : is.schedule ≡ is'.schedule =
-      same_ruled (memory_rule r) (memory_rule q) (rule_same r q alike) own is.schedule is'.schedule is.greedy is'.greedy in (
+      same_schedule own is.schedule is'.schedule is.greedy is'.greedy in (
         is.listed ∙ (ap₂ (λ lat s. schedule_entry lat k b.name s) alike.latencies same ∙ sym is'.listed),
         cycles_same is.schedule is'.schedule c c' same is.counted is'.counted,
       )
@@ -73,7 +70,7 @@ module _ (r q : Request) (alike : AskAlike r q) (k : ℕ) (b : Block) where
       → (e ≡ e') × (c ≡ c')
   count_same own e e' c c' is is' =
       let same : is.schedule ≡ is'.schedule =
-      same_ruled (memory_rule r) (memory_rule q) (rule_same r q alike) own is.schedule is'.schedule is.greedy is'.greedy in
+      same_schedule own is.schedule is'.schedule is.greedy is'.greedy in
       let as_many : cycles_of r.latencies is.schedule ≡ cycles_of q.latencies is'.schedule =
       cycles_same is.schedule is'.schedule _ _ same refl refl in (
         is.listed ∙ (ap₂ (λ flags n. count_line (has flags Csv) k b.name n) alike.flags as_many ∙ sym is'.listed),
@@ -93,7 +90,7 @@ module _ (r q : Request) (alike : AskAlike r q) (k : ℕ) (b : Block) where
       → IsExplainEntry q own k b e' c' → (e ≡ e') × (c ≡ c')
   explain_same own e e' c c' is is' =
       let same : is.schedule ≡ is'.schedule =
-      same_ruled (memory_rule r) (memory_rule q) (rule_same r q alike) own is.schedule is'.schedule is.greedy is'.greedy in
+      same_schedule own is.schedule is'.schedule is.greedy is'.greedy in
       let text : is.text ≡ is'.text =
       one_said (has q.flags Cycles) (ranks_under (memory_rule q) q.priority q.latencies own is'.schedule.ops) (memory_rule q) q.latencies
       (least_under (memory_rule q) q.latencies b.ops) b.ops is'.schedule is.text is'.text
@@ -105,9 +102,14 @@ module _ (r q : Request) (alike : AskAlike r q) (k : ℕ) (b : Block) where
         cycles_same is.schedule is'.schedule c c' same is.counted is'.counted,
       )
 
-  trace_same : (e e' : List ℕ) (f f' : Unit {0}) → IsTraceEntry r k b e f → IsTraceEntry q k b e' f'
+  trace_same : (own : Option (List ℕ)) (e e' : List ℕ) (f f' : Unit {0}) → IsTraceEntry r own k b e f → IsTraceEntry q own k b e' f'
       → (e ≡ e') × (f ≡ f')
-  trace_same e e' f f' is is' = grind (arith, one_memory, same_schedule)
+  trace_same own e e' f f' is is' =
+      let same : is.schedule ≡ is'.schedule = same_schedule own is.schedule is'.schedule is.greedy is'.greedy in (
+        is.listed ∙ ((λ i. block_head k b.name ++ codes "\n"
+            ++ trace_lines (events (alike.latencies i) (one_memory r q alike i) (same i).ops (same i).rows)) ∙ sym is'.listed),
+        refl,
+      )
 
   graph_same : (e e' : List ℕ) (f f' : Unit {0}) → IsGraphEntry r k b e f → IsGraphEntry q k b e' f'
       → (e ≡ e') × (f ≡ f')
@@ -127,9 +129,11 @@ pub of_one_task : (t : Task) (r q : Request) → AskAlike r q → searches t r.n
 of_one_task task.Run r q alike settled own blocks text text' lists lists' =
     one_listing (IsRunEntry r) (IsRunEntry q) (run_same r q alike) no_ending blocks text text' lists lists'
 of_one_task task.Simulate r q alike settled own blocks text text' lists lists' =
-    one_listing (IsSimulateEntry r) (IsSimulateEntry q) (simulate_same r q alike) no_ending blocks text text' lists lists'
+    one_listing (λ k. IsSimulateEntry r (own_of own k) k) (λ k. IsSimulateEntry q (own_of own k) k)
+    (λ k b. simulate_same r q alike k b (own_of own k)) no_ending blocks text text' lists lists'
 of_one_task task.Trace r q alike settled own blocks text text' lists lists' =
-    one_listing (IsTraceEntry r) (IsTraceEntry q) (trace_same r q alike) no_ending blocks text text' lists lists'
+    one_listing (λ k. IsTraceEntry r (own_of own k) k) (λ k. IsTraceEntry q (own_of own k) k)
+    (λ k b. trace_same r q alike k b (own_of own k)) no_ending blocks text text' lists lists'
 of_one_task task.Schedule r q alike settled own blocks text text' lists lists' =
     one_listing (λ k. IsScheduleEntry r (own_of own k) k) (λ k. IsScheduleEntry q (own_of own k) k)
     (λ k b. schedule_same r q alike k b (own_of own k)) total_of_all blocks text text' lists lists'
@@ -156,7 +160,7 @@ of_one_task task.Lint r q alike settled own blocks text text' lists lists' = abs
 pub simulating_lists_runs : SimulatingListsRuns
 simulating_lists_runs request own blocks text plain lists =
     let memory = initial_memory request in
-    listing_also (IsSimulateEntry request) (IsRunEntry request) (λ k b entry found is. record {
+    listing_also (λ k. IsSimulateEntry request (own_of own k) k) (IsRunEntry request) (λ k b entry found is. record {
       text = words_or_fault (shown (outcome b.ops memory));
       shows = shown_plainly (has request.flags Where) b.ops memory (outcome b.ops memory) (shown (outcome b.ops memory)) refl
           (ap (λ asked. asked && is_none (shown (outcome b.ops memory))) plain);

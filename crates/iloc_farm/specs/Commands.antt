@@ -2,8 +2,7 @@
 use Rattle.std.specs.Prelude.{◌≡◌}
 use Rattle.iloc_args.specs.declared.request.Task.{Task}
 use Rattle.iloc_args.specs.declared.request.Task.TheVariants as task
-use Rattle.iloc_driver.specs.Command.{Command, of_files, of_files_or_rows}
-use Rattle.iloc_driver.specs.Entries.{IsListingOf, no_ending}
+use Rattle.iloc_driver.specs.Command.{Command, of_files_or_rows}
 use Rattle.iloc_driver.specs.Work.{ReceiptOf}
 use Rattle.iloc_block_commands.specs.Compare.{compare_command}
 use Rattle.iloc_block_commands.specs.Counts.{counts_command}
@@ -14,7 +13,7 @@ use Rattle.iloc_block_commands.specs.Schedule.{schedule_command}
 use Rattle.iloc_block_commands.specs.Simulate.{simulate_command}
 use Rattle.iloc_view_commands.specs.Explain.{explain_files}
 use Rattle.iloc_view_commands.specs.Graph.{graph_command}
-use Rattle.iloc_view_commands.specs.Trace.{IsTraceEntry}
+use Rattle.iloc_view_commands.specs.Trace.{trace_files}
 use Rattle.iloc_row_commands.specs.Check.{check_command}
 use Rattle.iloc_row_commands.specs.Explain.{Explains}
 use Rattle.iloc_row_commands.specs.Trace.{Traces}
@@ -25,7 +24,7 @@ abbrev pub explain_command : Command
 explain_command = of_files_or_rows explain_files Explains
 
 abbrev pub trace_command : Command
-trace_command = of_files_or_rows (of_files (λ request. IsListingOf (IsTraceEntry request) no_ending)) Traces
+trace_command = of_files_or_rows trace_files Traces
 
 abbrev pub command_of : Task → Command
 command_of task.Run = run_command

@@ -34,10 +34,12 @@ impl Commands for AllCommands {
         request: &Request,
     ) -> Result<(Listed, Option<CommandReceipt>), RunFault> {
         match request.task {
-            Task::Run => alone::<RunLister, R, _>(alloc, reader, request),
-            Task::Simulate => alone::<SimulateLister, R, _>(alloc, reader, request),
-            Task::Trace => of_file_or_rows::<TraceLister, RowsTracer, T, R, _>(
-                alloc, texts, reader, request,
+            Task::Run => alone::<RunLister, H, T, R, _>(rt, alloc, texts, reader, request),
+            Task::Simulate => alone::<SimulateLister, H, T, R, _>(
+                rt, alloc, texts, reader, request,
+            ),
+            Task::Trace => of_file_or_rows::<TraceLister, RowsTracer, H, T, R, _>(
+                rt, alloc, texts, reader, request,
             ),
             Task::Schedule => shared::<ScheduleLister, H, T, R, _>(
                 rt, alloc, texts, reader, request,
@@ -50,7 +52,7 @@ impl Commands for AllCommands {
             Task::Explain => shared_or_rows::<ExplainLister, RowsExplainer, H, T, R, _>(
                 rt, alloc, texts, reader, request,
             ),
-            Task::Graph => alone::<GraphLister, R, _>(alloc, reader, request),
+            Task::Graph => alone::<GraphLister, H, T, R, _>(rt, alloc, texts, reader, request),
             Task::Check => of_rows::<CheckLister, T, R, _>(alloc, texts, reader, request),
             Task::Lint => Ok((linted(alloc, reader)?, None)),
         }

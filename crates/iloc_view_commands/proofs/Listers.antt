@@ -14,11 +14,32 @@ use Rattle.iloc_args.specs.Flags.{has}
 use Rattle.iloc_args.specs.declared.flag.Flag.TheVariants.{Cycles}
 use Rattle.iloc_args.specs.declared.request.Request.{Request}
 use Rattle.iloc_view_commands.specs.Graph.{IsGraphEntry, opening_at}
-use Rattle.iloc_driver.specs.Command.{initial_memory}
+use Rattle.iloc_driver.specs.Command.{IsScheduleFor, initial_memory}
 use Rattle.iloc_view_commands.specs.Trace.{IsTraceEntry}
-use Rattle.iloc_listing.specs.Schedules.{IsGreedyAs, ranks_under}
+use Rattle.iloc_listing.specs.Schedules.{ranks_under}
 use Rattle.iloc_driver.specs.Entries.{AppendsEntry}
-use Rattle.iloc_listing.proofs.Schedules.{the_greedy, the_greedy_under}
+use Rattle.iloc_listing.proofs.Schedules.{the_greedy_under}
+
+-- the numbers that were found rank the operations of the schedule as the request asks
+ranked_too : (request : Request) (own : Option (List ℕ)) (b : Block) (s : Table) (g : GraphOf) (found : List ℕ)
+    → g ≡ of_block (memory_rule request) request.latencies b.ops
+    → found ≡ ranks_under g.rule request.priority g.latencies own g.ops → s.ops ≡ renamed b.ops
+    → found ≡ ranks_under (memory_rule request) request.priority request.latencies own s.ops
+ranked_too request own b s g found is ranked names =
+    ranked ∙ (ap (λ (x : GraphOf). ranks_under x.rule request.priority x.latencies own x.ops) is
+    ∙ ap (ranks_under (memory_rule request) request.priority request.latencies own) (sym names))
+
+-- so the schedule that is greedy by them is the one that it asks for
+scheduled : (request : Request) (own : Option (List ℕ)) (b : Block) (s : Table) (g : GraphOf) (found : List ℕ)
+    → g ≡ of_block (memory_rule request) request.latencies b.ops
+    → found ≡ ranks_under g.rule request.priority g.latencies own g.ops
+    → IsGreedyWhere (counts_by (memory_rule request) s.ops) found request.latencies b.ops s.ops s.rows
+    → IsScheduleFor request own b s
+scheduled request own b s g found is ranked greedy =
+    let rule : MemoryRule = memory_rule request in
+    let P : List ℕ → Type 0 = λ prios. IsGreedyWhere (counts_by rule s.ops) prios request.latencies b.ops s.ops s.rows in
+    the_greedy_under rule (ranks_under rule request.priority request.latencies own) request.latencies b s
+    (subst P (ranked_too request own b s g found is ranked greedy.lawful.names) greedy)
 
 -- what a call has appended is the entry, by the name and the words or cycles that it was handed
 
@@ -27,18 +48,20 @@ module _ (request : Request) (k : ℕ) (b : Block) (text more : List ℕ) (name 
       → more ≡ (text ++ opening_at k) ++ cluster → AppendsEntry (IsGraphEntry request k b) text more tt
   graph_listed cluster draws added = grind (arith, append_assoc)
 
-  module _ (s : Table) (greedy : IsGreedyAs request.priority request.latencies b.ops s) where
+  module _ (own : Option (List ℕ)) (s : Table) (g : GraphOf) (found : List ℕ) (is : g ≡ of_block (memory_rule request) request.latencies b.ops)
+      (ranked : found ≡ ranks_under g.rule request.priority g.latencies own g.ops)
+      (greedy : IsGreedyWhere (counts_by (memory_rule request) s.ops) found request.latencies b.ops s.ops s.rows) where
     pub trace_listed : (head lined : List ℕ) (memory : List ℤ) → head ≡ text ++ block_head k name
         → lined ≡ head ++ codes "\n" → memory ≡ initial_memory request
         → more ≡ lined ++ trace_lines (events request.latencies memory s.ops s.rows)
-        → AppendsEntry (IsTraceEntry request k b) text more tt
+        → AppendsEntry (IsTraceEntry request own k b) text more tt
     trace_listed head lined memory opened ended starts added =
         let lines : List ℕ = trace_lines (events request.latencies (initial_memory request) s.ops s.rows) in
         record {
           entry = block_head k b.name ++ codes "\n" ++ lines;
           right = record {
             schedule = s;
-            greedy = the_greedy request.priority request.latencies b s greedy;
+            greedy = scheduled request own b s g found is ranked greedy;
             listed = refl;
           };
           added = added
@@ -91,18 +114,14 @@ pub explain_is : (request : Request) (own : Option (List ℕ)) (k : ℕ) (b : Bl
     → cycles ≡ cycles_of request.latencies s → IsExplainEntry request own k b entry cycles
 explain_is request own k b s g found said rule bound is ranked ruled least_is greedy says entry cycles listed counted =
     let as_asked : MemoryRule = memory_rule request in
-    let names : renamed b.ops ≡ s.ops = sym greedy.lawful.names in
     let by : found ≡ ranks_under as_asked request.priority request.latencies own s.ops =
-    ranked ∙ (ap (λ (x : GraphOf). ranks_under x.rule request.priority x.latencies own x.ops) is
-    ∙ ap (ranks_under as_asked request.priority request.latencies own) names) in
+    ranked_too request own b s g found is ranked greedy.lawful.names in
     let bounds : bound ≡ least_under as_asked request.latencies b.ops =
     least_is ∙ ap (λ (x : GraphOf). least_of_under x.rule x.latencies x.ops) is in
     let asked : rule ≡ as_asked = ruled ∙ ap (λ (x : GraphOf). x.rule) is in
-    let P : List ℕ → Type 0 = λ prios. IsGreedyWhere (counts_by as_asked s.ops) prios request.latencies b.ops s.ops s.rows in
     record {
       schedule = s;
-      greedy = the_greedy_under as_asked (ranks_under as_asked request.priority request.latencies own) request.latencies b s
-          (subst P by greedy);
+      greedy = scheduled request own b s g found is ranked greedy;
       text = said;
       said = transport (λ i. IsSaid (has request.flags Cycles) (by i) (asked i) request.latencies (bounds i) b.ops s said) says;
       listed = listed;

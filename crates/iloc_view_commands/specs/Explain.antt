@@ -12,11 +12,11 @@ use Rattle.iloc_args.specs.Flags.{has}
 use Rattle.iloc_args.specs.declared.flag.Flag.TheVariants.{Cycles}
 use Rattle.iloc_args.specs.declared.request.Request.{Request}
 use Rattle.iloc_args.specs.Rule.{memory_rule}
-use Rattle.iloc_driver.specs.Command.{Command, shared_by}
+use Rattle.iloc_driver.specs.Command.{Command, IsScheduleFor, shared_by}
 use Rattle.iloc_driver.specs.Entries.{IsListingOf}
 use Rattle.iloc_listing.specs.Listing.{block_head, cycles_of, listing_of_entries, total_of_all}
 use Rattle.iloc_driver.specs.Priorities.{Own, own_of}
-use Rattle.iloc_listing.specs.Schedules.{IsTheGreedyUnder, ranks_under}
+use Rattle.iloc_listing.specs.Schedules.{ranks_under}
 use Rattle.iloc_listing.specs.declared.text.ScheduleEntry.{ScheduleEntry}
 
 -- `text` is what is said of a schedule of `block` by `rule` that the priorities `prios` rank, with a lower `bound` of
@@ -25,13 +25,12 @@ abbrev pub IsSaid : Bool → List ℕ → MemoryRule → Latencies → ℕ → L
 IsSaid true prios rule lat bound block s text = text ≡ ready_listing prios rule lat bound s.ops s.rows
 IsSaid false prios rule lat bound block s text = IsExplanation prios rule lat bound block s.ops s.rows s.ops text
 
--- The entry of block k: its number and its name, and what is said of its schedule by the request's rule of memory, greedy by its
--- own priorities if it has some or else as the request ranks, whose cycles are found.
+-- The entry of block k: its number and its name, and what is said of its schedule, by its own priorities if it has some, whose
+-- cycles are found.
 pub record IsExplainEntry (request : Request) (own : Option (List ℕ)) (k : ℕ) (b : Block) (entry : List ℕ) (cycles : ℕ)
     : Type 0 where
   pub schedule : Table
-  pub greedy : IsTheGreedyUnder (memory_rule request) (ranks_under (memory_rule request) request.priority request.latencies own)
-      request.latencies b schedule
+  pub greedy : IsScheduleFor request own b schedule
   pub text : List ℕ
   pub said : IsSaid (has request.flags Cycles)
       (ranks_under (memory_rule request) request.priority request.latencies own schedule.ops) (memory_rule request)

@@ -23,4 +23,4 @@ drawing_end [] = opening ++ closing
 drawing_end (f ∷ found) = closing
 
 abbrev pub graph_command : Command
-graph_command = of_files (λ request. IsListingOf (IsGraphEntry request) drawing_end)
+graph_command = of_files (λ request own. IsListingOf (IsGraphEntry request) drawing_end)

@@ -23,7 +23,7 @@ use std::alloc::Global;
 
 /// The numbers that rank the operations of `graph`: its `own`, if it has some, else the ones of `heuristic` by its
 /// rule.
-fn ranks_of(
+pub(crate) fn ranks_of(
     alloc: Global,
     graph: &Graph,
     own: Option<&[u32]>,

@@ -32,7 +32,7 @@ impl Lister for GraphLister {
 
     type Found = ();
 
-    ghost lists = { IsGraphEntry };
+    ghost lists = { λ request _. IsGraphEntry request };
 
     ghost ending = { drawing_end };
 
@@ -48,6 +48,7 @@ impl Lister for GraphLister {
         &mut self,
         alloc: Global,
         request: &Request,
+        _own: Option<&[u32]>,
         number: usize,
         block: &Block,
         text: &mut Vec<u8>,

@@ -1,9 +1,9 @@
 //! `trace`: what blocks' schedules do on the timed machine, cycle by cycle.
+use crate::explain::ranks_of;
 use iloc_args::Request;
 use iloc_driver::{Lister, initial_memory};
 use iloc_listing::push_block_head;
 use iloc_ops::{Block, NoMemory};
-use iloc_rules::MemoryRule;
 use iloc_sched::{Graph, Scheduler};
 use iloc_trace::Tracer;
 use std::alloc::Global;
@@ -39,15 +39,17 @@ impl Lister for TraceLister {
 
     fn list(
         &mut self,
-        _alloc: Global,
+        alloc: Global,
         request: &Request,
+        own: Option<&[u32]>,
         number: usize,
         block: &Block,
         text: &mut Vec<u8>,
     ) -> Result<(), NoMemory> {
         self.graph
-            .refill(MemoryRule::Book, block, &request.latencies)?;
-        let schedule = self.scheduler.lend_as(&self.graph, request.priority)?;
+            .refill(request.memory_rule(), block, &request.latencies)?;
+        let ranks = ranks_of(alloc, &self.graph, own, request.priority)?;
+        let schedule = self.scheduler.lend(&self.graph, &ranks)?;
         push_block_head(text, number, block.name.as_ref())?;
         text.push(b'\n')?;
         self.tracer.push_trace(text, &schedule, &request.latencies)?;

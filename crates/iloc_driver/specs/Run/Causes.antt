@@ -82,7 +82,7 @@ IsCaused causes (Farm farm.NoThread) = causes.thread
 IsCaused causes (Farm farm.NoMemory) = Unit {0}
 IsCaused causes WriteFailed = ⊥
 
--- of a file, whose blocks one thread lists
+-- of a file
 abbrev pub of_file : Option (List ℕ) → Option (List ℕ) → Causes
 of_file old new = record of_reading { text = Refuses files.IsRefused old new }
 
@@ -92,7 +92,7 @@ of_ranked_file None held old new = of_file old new
 of_ranked_file (Some name) held old new =
     record (of_file old new) { priorities = HasNoPriorities (held (string_bytes name)) old new }
 
--- or workers, who are started once all is read
+-- where workers list it, who are started once all is read
 abbrev pub of_shared_file : Option (String Global) → Held → Option (List ℕ) → Option (List ℕ) → Causes
 of_shared_file file held old new = record (of_ranked_file file held old new) { thread = ReadsFile old new }
 
@@ -102,7 +102,7 @@ of_submission old new = record of_reading { rows = Refuses submissions.IsRefused
 
 -- of a file, by who lists it
 abbrev pub of_listed_file : Listers → Request → Held → Option (List ℕ) → Option (List ℕ) → Causes
-of_listed_file Alone request held old new = of_file old new
+of_listed_file Alone request held old new = of_ranked_file request.priorities_file held old new
 of_listed_file (Shared A answers cycles_in made_of) request held old new =
     of_shared_file request.priorities_file held old new
 

@@ -7,7 +7,7 @@ pub push_ending-requires : goal.push_ending-requires
 push_ending-requires g c =
     let read = c.in_ok-read.ensures.ok in
     let grows = read.4.1 in
-    let long = entries_long (g.L.Lister.lists c.args.request.now) 1 read.2 grows.next grows.entries grows.right in
+    let long = entries_long (g.L.Lister.lists c.args.request.now None) 1 read.2 grows.next grows.entries grows.right in
     let few : length read.2 ≤ MAX_BLOCKS = (c.files_are_within_limits.ensures read.0 read.2 read.3).0 in
     let same : length c.deref.result.now ≡ length grows.next =
     ap length (c.deref.ensures.value ∙ (grows.kept ∙ ap (λ fs. fs ++ grows.next) c.new-3.ensures.items)) in
@@ -24,7 +24,7 @@ returns-clause-ok g c =
       denoted = read.3;
       own = None;
       ranked = refl;
-      listed = whole_listing (g.L.Lister.lists c.args.request.now) g.L.Lister.ending read.2 c.new-2.result.items text _
+      listed = whole_listing (g.L.Lister.lists c.args.request.now None) g.L.Lister.ending read.2 c.new-2.result.items text _
           c.new-3.result.items c.in_ok-read.read.found.items c.new-2.ensures.items c.new-3.ensures.items read.4.1
           (c.of_text.ensures ∙ (c.in_ok-push_ending.ensures
           ∙ ap (λ fs. text ++ g.L.Lister.ending fs) c.deref.ensures.value));

@@ -4,11 +4,11 @@ use Rattle.iloc_farm.proofs.commands.AllCommandsCommands.list.Goals as goal
 
 pub returns-in-Run : goal.returns-in-Run
 returns-in-Run g c =
-    as_asked task.Run _ c.args.request.now _ _ _ c.in-Run.is (c.alone.ensures (g.T.Texts.held c.args.texts.now))
+    as_asked task.Run _ c.args.request.now _ _ _ c.in-Run.is c.alone.ensures
 
 pub returns-in-Simulate : goal.returns-in-Simulate
 returns-in-Simulate g c =
-    as_asked task.Simulate _ c.args.request.now _ _ _ c.in-Simulate.is (c.alone-in-Simulate.ensures (g.T.Texts.held c.args.texts.now))
+    as_asked task.Simulate _ c.args.request.now _ _ _ c.in-Simulate.is c.alone-in-Simulate.ensures
 
 pub returns-in-Schedule : goal.returns-in-Schedule
 returns-in-Schedule g c =
@@ -28,7 +28,7 @@ returns-in-Optimize g c =
 
 pub returns-in-Graph : goal.returns-in-Graph
 returns-in-Graph g c =
-    as_asked task.Graph _ c.args.request.now _ _ _ c.in-Graph.is (c.alone-in-Graph.ensures (g.T.Texts.held c.args.texts.now))
+    as_asked task.Graph _ c.args.request.now _ _ _ c.in-Graph.is c.alone-in-Graph.ensures
 
 pub returns-in-Trace : goal.returns-in-Trace
 returns-in-Trace g c = as_asked task.Trace _ c.args.request.now _ _ _ c.in-Trace.is c.of_file_or_rows.ensures

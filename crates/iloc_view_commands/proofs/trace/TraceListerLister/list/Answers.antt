@@ -1,9 +1,20 @@
-use Rattle.iloc_view_commands.proofs.Listers.{trace_listed}
+use Rattle.iloc_view_commands.proofs.Common.{length, option_copied, ap, ◌∙◌, GraphOf, of_block, memory_rule}
+use Rattle.iloc_view_commands.proofs.Listers.{each_ranked, trace_listed}
 use Rattle.iloc_view_commands.proofs.trace.TraceListerLister.list.Goals as goal
+
+pub lend-requires : goal.lend-requires
+lend-requires c =
+    ap length c.deref.ensures.value
+    ∙ each_ranked c.args.request.now.priority (option_copied c.args.own) c.args.block.now _ _
+    (ap (λ (g : GraphOf). g.ops) c.in_ok-refill.ensures.graph) c.requires.each c.in_ok-ranks.ensures
 
 pub returns-clause-listed : goal.returns-clause-listed
 returns-clause-listed c =
+    let request = c.args.request.now in
+    let block = c.args.block.now in
     let s = c.in_ok-schedule.schedule in
-    trace_listed c.args.request.now c.args.number c.args.block.now c.args.text.now.items _ _ c.as_ref.ensures.value s
-    (c.in_ok-schedule.ensures _ _ _ c.in_ok-refill.ensures.graph).greedy _ _ _ c.in_ok-push_block_head.ensures c.in_ok-push.ensures.items c.requires.starts
-    c.in_ok-push_trace.ensures.lists
+    let filled = c.in_ok-refill.ensures.graph ∙ ap (λ rule. of_block rule request.latencies block.ops) c.memory_rule.ensures in
+    trace_listed request c.args.number block c.args.text.now.items _ _ c.as_ref.ensures.value (option_copied c.args.own) s _
+    c.in_ok-ranks.ranks.items filled c.in_ok-ranks.ensures
+    (rw c.deref.ensures.value at (c.in_ok-schedule.ensures (memory_rule request) request.latencies block.ops filled).greedy) _ _ _ c.in_ok-push_block_head.ensures
+    c.in_ok-push.ensures.items c.requires.starts c.in_ok-push_trace.ensures.lists
