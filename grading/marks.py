@@ -8,7 +8,7 @@ from judge import Task, alone
 from language import PASSING
 from words import count, faults, key_of, number, shown
 
-OURS, SAME_WAY = "equal to our own schedule", "wrong in the same way, but for registers and blanks"
+OURS, SAME_WAY = "equal to our own schedule", "the same mistake with other registers"
 
 
 class NoRows(Exception):
@@ -83,7 +83,7 @@ class Student:
 def alike(rows, verdict, task):
     """By how hand-ins may be alike, what is equal where they are."""
     passes, names = verdict in PASSING, {}
-    texts = {"equal to the byte" + ", and right" * passes: rows}
+    texts = {"byte-identical" + ", and right" * passes: rows}
     if not passes:
         plain = re.sub(rb"\br\d+", lambda found: b"r%d" % names.setdefault(found[0], len(names)), rows)
         texts[SAME_WAY] = re.sub(rb"//.*|\s+", b"", plain)

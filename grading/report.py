@@ -176,8 +176,8 @@ def cycles(students, tasks):
         return ""
     picture = svg.picture(EDGE + WIDE * len(tasks), HIGH + 2 * EDGE, "cycles by task and student", dots(ranked, tasks))
     columns = heads("student", "passed", "bound", *(plain(task.name) for task in tasks), "seconds")
-    return ("<h2>Cycles</h2><p>Of what passes: tasks, cycles as a multiple of the bound "
-            f"{tasks[0].rule} on average, and cycles; and a program's seconds of processor time.</p>"
+    return (f"<h2>Cycles</h2><p>Passing work: tasks, mean cycles/bound, the bound {tasks[0].rule}, and cycles; and a "
+            "program's seconds of processor time.</p>"
             f'<div class="scroll" tabindex="0" role="group" aria-label="the cycles">{picture}'
             f"<table><thead><tr>{columns}</tr></thead><tbody>{''.join(map(line, ranked))}</tbody></table></div>")
 
@@ -201,13 +201,13 @@ def alike(students):
                 groups[mark.task.name, how, text].append(student.name)
     for (task, how, _), names in groups.items():
         if len(names) > 1:
-            hows.setdefault((task, *sorted(names)), how)        # what is equal is wrong in the same way too
+            hows.setdefault((task, *sorted(names)), how)        # byte-identical hand-ins have the same mistake too
     lines = [f"<tr><td>{'; '.join(map(plain, sorted(who)))}</td><td>{len(tasks)}</td><td>{how}: "
              f"{', '.join(map(plain, sorted(tasks)))}</td></tr>" for (who, how), tasks in shared(groups)]
     each = [f"<li>{plain(task)}: {how}: {'; '.join(map(plain, names))}</li>"
             for (task, *names), how in sorted(hows.items())]
-    about = ("Who submits our own schedule, and pairs that are wrong in the same way, but for what more than "
-             f"{MOST_ALIKE} share. A right schedule is often everybody's, since there are few.")
+    about = ("Who submits our own schedule, and pairs that make the same mistake, unless more than "
+             f"{MOST_ALIKE} students make it. A right schedule is often everybody's, since there are few.")
     return (f'<h2>Alike</h2><p>{about}</p><div class="scroll" tabindex="0" role="group" aria-label="who is alike">'
             f'<table class="names"><thead><tr>{heads("students", "tasks")}<th>how</th></tr></thead><tbody>'
             f"{''.join(lines)}</tbody></table></div><details><summary>All that is equal, by task</summary>"

@@ -75,7 +75,7 @@ class Course(Graded):
         self.expect("fails", "  It ended with status 2:" in self.feedback("fails"), True)
 
     def test_alike(self):
-        """Equal bytes, our own schedule and pairs that are wrong in the same way are listed for staff alone."""
+        """Equal bytes, our own schedule and pairs with the same mistake are listed for staff alone."""
         wrong = self.rows("ben").replace(b"r1,", b"r77,").replace(b"r1 ", b"r77 ")
         own = self.printed("ilocfarm", "schedule", given=self.read(f"{BOTH}/both.iloc")).replace(b" ; ", b";")
         for task in "both", "other":
@@ -85,8 +85,8 @@ class Course(Graded):
         self.hand_in("own", b"// mine\n" + own.partition(b"\n")[2], "other.rows")
         self.grade(tasks="tasks")
         page = self.text("grades/report.html")
-        way = "wrong in the same way, but for registers and blanks"
-        for line in ("<li>both: equal to the byte, and right: ada; ann", f"<li>both: {way}: ben; bob",
+        way = "the same mistake with other registers"
+        for line in ("<li>both: byte-identical, and right: ada; ann", f"<li>both: {way}: ben; bob",
                      f"<tr><td>ben; bob</td><td>2</td><td>{way}: both, other",
                      "<tr><td>own</td><td>1</td><td>equal to our own schedule: other"):
             self.expect(line, f"{line}</" in page, True)
