@@ -14,9 +14,9 @@ OURS, SAME_WAY = "equal to our own schedule", "the same mistake with other regis
 class NoRows(Exception):
     """There is nothing to judge: the verdict, and why in lines."""
 
-    def __init__(self, verdict, *lines, is_starved=False):
+    def __init__(self, verdict, *lines):
         super().__init__(*lines)
-        self.verdict, self.lines, self.is_starved = verdict, list(lines), is_starved
+        self.verdict, self.lines = verdict, list(lines)
 
 
 @dataclass
@@ -28,7 +28,6 @@ class Mark:
     cycles: int = None
     line: int = None            # of the hand-in, the first with something to say
     pictures: list = field(default_factory=list)    # names of files
-    is_starved: bool = False    # a program was ended while it waited for the processor
     prints: bool = False        # what it should on the memory that is handed in, though it is wrong on another
     seconds: float = None       # that a program computed
     alike: dict = field(default_factory=dict)       # by how hand-ins may be alike, what is equal where they are
@@ -116,7 +115,7 @@ def refused(task, why, rows):
 def unmarked(task, why):
     """The mark where an exception says why there is nothing to judge; by any other nothing could be judged."""
     if isinstance(why, NoRows):
-        return Mark(task, why.verdict, why.lines, is_starved=why.is_starved)
+        return Mark(task, why.verdict, why.lines)
     return Mark(task, "unjudged", [shown(f"{why}") or type(why).__name__])
 
 
@@ -133,7 +132,6 @@ def give_points(students, asked, again):
                 late = max(0, mark.cycles - base[asked.policy])
                 lost = task.points * late / max(1, mark.cycles) if asked.per_cycle is None else asked.per_cycle * late
                 points = max(asked.floor * task.points, task.points - lost)
-            elif mark.prints and asked.partial:
+            elif mark.prints:
                 points = asked.partial * task.points
-                mark.lines.append("It prints the right words on the task's own memory: some of the points.")
             mark.points = round(max(0, points - (asked.penalty if mark.notes else 0)), 2)

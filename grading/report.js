@@ -1,13 +1,13 @@
 "use strict";
 const verdicts = [...document.querySelectorAll(".legend button")];
 
-/* Sorts a table by the column of a head: names from A on, numbers from the greatest on, and then the other way. */
+/* Sorts a table by the column of a head: the first from A on, others from the greatest on, and then the other way. */
 function sort(head) {
     const at = head.cellIndex, body = head.closest("table").tBodies[0], was = head.getAttribute("aria-sort");
     const isUp = was ? was === "descending" : at === 0;
-    const value = row => at ? parseFloat(row.cells[at].textContent) || 0 : row.cells[at].textContent;
-    const compare = (one, other) => at ? one - other : one.localeCompare(other);
-    const rows = [...body.rows].sort((one, other) => compare(value(one), value(other)) * (isUp ? 1 : -1));
+    const text = row => row.cells[at].textContent;
+    const compare = (one, other) => parseFloat(one) - parseFloat(other) || one.localeCompare(other);
+    const rows = [...body.rows].sort((one, other) => compare(text(one), text(other)) * (isUp ? 1 : -1));
     [...head.parentNode.cells].forEach(each => each.removeAttribute("aria-sort"));
     head.setAttribute("aria-sort", isUp ? "ascending" : "descending");
     body.append(...rows);

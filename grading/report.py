@@ -125,17 +125,23 @@ def legend(students):
             yield f"<span>{meaning}: {' '.join(buttons)}</span>"
 
 
-def heads(*names):
-    """The heads of columns, in HTML, by which a table is sorted."""
-    return "".join(f"<th><button>{name}</button></th>" for name in names)
+def row(head, *cells, more=""):
+    """A row of a table, of texts in HTML, and of more cells."""
+    return f"<tr><th>{head}</th>{''.join(f'<td>{cell}</td>' for cell in cells)}{more}</tr>"
+
+
+def table(label, heads, rows, above="", below=""):
+    """A table that scrolls in its place, and is sorted by its heads, which are HTML."""
+    columns = "".join(f"<th><button>{head}</button></th>" for head in heads)
+    return (f'<div class="scroll" tabindex="0" role="group" aria-label="{label}">{above}<table><thead><tr>{columns}</tr>'
+            "</thead><tbody>\n" + "\n".join(rows) + f"\n</tbody>{below}</table></div>")
 
 
 def line_of(student):
     home = f"feedback/{quote(safe_name(student.name))}"
     said = "".join(f"<br><small>{escape(line)}</small>" for line in student.said())
-    cells = "".join(cell(mark, home) for mark in student.row)
-    return (f'<tr><th><a href="{home}/feedback.txt">{plain(student.name)}</a>{said}</th>'
-            f"<td>{number(student.total())}</td>{cells}</tr>")
+    name = f'<a href="{home}/feedback.txt">{plain(student.name)}</a>{said}'
+    return row(name, number(student.total()), more="".join(cell(mark, home) for mark in student.row))
 
 
 def ratios(student):
@@ -145,10 +151,9 @@ def ratios(student):
 
 def line(student):
     seconds = [mark.seconds for mark in student.row if mark.seconds is not None]
-    cells = [len(ratios(student)), f"{fmean(ratios(student)):.3f}",
-             *(mark.cycles if mark.passes() else "" for mark in student.row),
-             number(round(sum(seconds), 2)) if seconds else ""]
-    return f"<tr><th>{plain(student.name)}</th>{''.join(f'<td>{cell}</td>' for cell in cells)}</tr>"
+    return row(plain(student.name), len(ratios(student)), f"{fmean(ratios(student)):.3f}",
+               *(mark.cycles if mark.passes() else "" for mark in student.row),
+               number(round(sum(seconds), 2)) if seconds else "")
 
 
 def dots(students, tasks):
@@ -175,11 +180,9 @@ def cycles(students, tasks):
     if not ranked:
         return ""
     picture = svg.picture(EDGE + WIDE * len(tasks), HIGH + 2 * EDGE, "cycles by task and student", dots(ranked, tasks))
-    columns = heads("student", "passed", "bound", *(plain(task.name) for task in tasks), "seconds")
+    heads = "student", "passed", "bound", *(plain(task.name) for task in tasks), "seconds"
     return (f"<h2>Cycles</h2><p>Passing work: tasks, mean cycles/bound, the bound {tasks[0].rule}, and cycles; and a "
-            "program's seconds of processor time.</p>"
-            f'<div class="scroll" tabindex="0" role="group" aria-label="the cycles">{picture}'
-            f"<table><thead><tr>{columns}</tr></thead><tbody>{''.join(map(line, ranked))}</tbody></table></div>")
+            f"program's seconds of processor time.</p>{table('the cycles', heads, map(line, ranked), picture)}")
 
 
 def shared(groups):
@@ -187,7 +190,7 @@ def shared(groups):
     found = defaultdict(list)
     for (task, how, _), names in groups.items():
         pairs = combinations(names, 2) if how == SAME_WAY and len(names) <= MOST_ALIKE else ()
-        for who in ((name,) for name in names) if how == OURS else pairs:
+        for who in zip(names) if how == OURS else pairs:
             found[who, how].append(task)
     return sorted(found.items(), key=lambda each: -len(each[1]))
 
@@ -202,29 +205,27 @@ def alike(students):
     for (task, how, _), names in groups.items():
         if len(names) > 1:
             hows.setdefault((task, *sorted(names)), how)        # byte-identical hand-ins have the same mistake too
-    lines = [f"<tr><td>{'; '.join(map(plain, sorted(who)))}</td><td>{len(tasks)}</td><td>{how}: "
-             f"{', '.join(map(plain, sorted(tasks)))}</td></tr>" for (who, how), tasks in shared(groups)]
+    lines = [row("; ".join(map(plain, sorted(who))), len(tasks), f"{how}: {', '.join(map(plain, sorted(tasks)))}")
+             for (who, how), tasks in shared(groups)]
     each = [f"<li>{plain(task)}: {how}: {'; '.join(map(plain, names))}</li>"
             for (task, *names), how in sorted(hows.items())]
     about = ("Who submits our own schedule, and pairs that make the same mistake, unless more than "
              f"{MOST_ALIKE} students make it. A right schedule is often everybody's, since there are few.")
-    return (f'<h2>Alike</h2><p>{about}</p><div class="scroll" tabindex="0" role="group" aria-label="who is alike">'
-            f'<table class="names"><thead><tr>{heads("students", "tasks")}<th>how</th></tr></thead><tbody>'
-            f"{''.join(lines)}</tbody></table></div><details><summary>All that is equal, by task</summary>"
-            f"<ul>{''.join(each)}</ul></details>") if lines or each else ""
+    return (f"<h2>Alike</h2><p>{about}</p>{table('who is alike', ('students', 'tasks', 'how'), lines)}<details><summary>"
+            f"All that is equal, by task</summary><ul>{''.join(each)}</ul></details>") if lines or each else ""
 
 
 def write_report(path, students, tasks, warning):
     """A page with all marks, the best first, a warning where there is one, and what only staff should see."""
     best_first = sorted(students, key=lambda student: (-student.total(), student.name))
-    columns = (f"{plain(task.name)}<br><small>{task.ours} / {task.least}</small>" for task in tasks)
-    passed = (f"<td>{sum(student.row[at].passes() for student in students)}</td>" for at in range(len(tasks)))
+    heads = "student", "total", *(f"{plain(task.name)}<br><small>{task.ours} / {task.least}</small>" for task in tasks)
+    passed = row("passed", "", *(sum(student.row[at].passes() for student in students) for at in range(len(tasks))))
     points = number(sum(task.points for task in tasks))
     size = f"{count(len(students), 'student')}, {count(len(tasks), 'task')}, {points} points."
     script = PAGE.with_suffix(".js").read_text("utf-8")
     path.write_text(string.Template(PAGE.read_text("utf-8")).substitute(
         size=size, rule=tasks[0].rule, warning=warning, legend=" ".join(legend(students)),
-        heads=heads("student", "total", *columns), rows="\n".join(map(line_of, best_first)), passed="".join(passed),
+        marks=table("the marks", heads, map(line_of, best_first), below=f"<tfoot>{passed}</tfoot>"),
         speed=cycles(best_first, tasks), alike=alike(best_first), script=script,
         digest=base64.b64encode(hashlib.sha256(script.encode()).digest()).decode()), "utf-8", "replace")
 

@@ -9,6 +9,8 @@ from handins.lenient import ENDINGS, Rows, lenient
 from marks import NoRows, judged, refused, unmarked
 from words import shown
 
+PARTLY = "It prints the right words on the task's own memory: some of the points."
+
 
 class Marker:
     """Marks students as a course asks: by files, or by programs where there is a runner; with pictures where wanted."""
@@ -35,7 +37,7 @@ class Marker:
             rows = Rows(*lenient(data, task.head)) if self.asked.lenient else Rows(data)
             found, why = judge.records(task.path, task.words, self.asked.check, rows.data)
             made = judged(task, found[0], rows, self.asked.require) if found else refused(task, why, rows)
-            made.lines += lines
+            made.lines += lines + [PARTLY] * bool(made.prints and self.asked.partial)
             made.notes += notes
             made.seconds = seconds
         except Exception as why:

@@ -1,6 +1,4 @@
 """Tables of a course's site: who is on the roster, who is late, and the column that grades are filled into."""
-import csv
-import io
 import math
 import re
 from collections import Counter
@@ -23,6 +21,8 @@ NAMED = (("github_username",), ("student",), ("full name",), ("name",), ("first 
 PARTS = {"first name", "last name", "surname", "assignment_name"}
 HEADERS = {*sum(NAMED, ()), *PARTS, "id", "sid", "login", "username", "email", "email address", "identifier",
            "roster_identifier"}
+# A cell as it is written, and what parts it from the next one.
+CELL = r'("(?:[^"]|"")*"|[^{0}\r\n]*)({0}|\r\n|\r|\n|\Z)'
 UNITS = {"day": DAY, "hour": 3600, "min": 60, "sec": 1}
 
 
@@ -36,18 +36,29 @@ def decoded(path):
     return data.decode("cp1252"), "cp1252"
 
 
+def plain(cell):
+    """The text of a cell; None where it begins with a quote that is wrong."""
+    if not cell.startswith('"'):
+        return cell
+    return cell[1:-1].replace('""', '"') if re.fullmatch('"([^"]|"")*"', cell) else None
+
+
 class Table:
     """A CSV file with a comma, a semicolon or a tab between cells, in which a column names students, or two do."""
 
     def __init__(self, path, by, is_bare=False):
         """One that may be bare names its columns in the first line only where that begins with a known name."""
-        self.path, (self.text, self.coding) = path, decoded(path)
-        self.between = max(",;\t", key=self.text.partition("\n")[0].count)
-        try:
-            rows = [*csv.reader(io.StringIO(self.text, newline=""), delimiter=self.between, strict=True)]
-        except csv.Error as why:
-            raise CannotGrade(f"{path}: {why}") from why
-        first = next(iter(rows), [])
+        self.path, (text, self.coding), self.lines = path, decoded(path), [[]]
+        between = max(",;\t", key=text.partition("\n")[0].count)
+        for cell, after in re.findall(CELL.format(between), text):
+            self.lines[-1].append([cell, after])
+            if after != between:
+                self.lines.append([])
+        rows = [[plain(cell) for cell, _ in line] for line in self.lines[:-1]]
+        wrong = [number for number, row in enumerate(rows, 1) if None in row]
+        if wrong:
+            raise CannotGrade(f"{path}: row {wrong[0]}: a quote isn't closed, or isn't all of a cell")
+        first = rows[0]
         self.rows = [row + [""] * (len(first) - len(row)) for row in rows]
         self.header = [] if is_bare and not by and key_of("".join(first[:1])) not in HEADERS else first
         self.heads = [key_of(cell) for cell in self.header]
@@ -129,21 +140,13 @@ class Table:
             times = Counter(shown(word, 40) for word in words.values()).most_common(5)
             some = "; ".join(f"{word} ({number})" for word, number in times)
             say(f"{self.path}: kept in {self.header[at]}: {some}")
-        mark = re.escape(self.between)
-        piece = re.compile(rf'("(?:[^"]|"")*"|[^{mark}\r\n]*)({mark}|\r\n|\r|\n|\Z)')
-        made, row, cell, left = [], 0, 0, len(cells)
-        for found in piece.finditer(self.text):
-            is_wanted = row in cells and cell == at
-            if is_wanted and (next(csv.reader([found[1]], delimiter=self.between), []) or [""]) != [self.rows[row][at]]:
-                raise CannotGrade(f"{self.path}: row {row + 1} can't be filled")
-            quote = '"' * found[1].startswith('"')
-            made += [quote + cells[row] + quote if is_wanted else found[1], found[2]]
-            left -= is_wanted
-            row, cell = (row, cell + 1) if found[2] == self.between else (row + 1, 0)
-        if left:
-            raise CannotGrade(f"{self.path}: {count(left, 'row')} too short to be filled")
-        self.text = "".join(made)
-        return self.text.encode(self.coding)
+        short = sum(at >= len(self.lines[row]) for row in cells)
+        if short:
+            raise CannotGrade(f"{self.path}: {count(short, 'row')} too short to be filled")
+        for row, cell in cells.items():
+            quote = '"' * self.lines[row][at][0].startswith('"')
+            self.lines[row][at][0] = quote + cell + quote
+        return "".join(cell + after for line in self.lines for cell, after in line).encode(self.coding)
 
     def set_days(self, students, due):
         """Notes how many days late each of these students is."""

@@ -3,9 +3,7 @@ import errno
 import json
 import os
 import re
-import select
 import shutil
-import signal
 import stat
 import subprocess
 import sys
@@ -17,7 +15,6 @@ from itertools import accumulate, islice
 from pathlib import Path
 from threading import Lock
 
-import judge
 from handins import unpack
 from handins.unpack import MOST_NAMES, MOST_PACKED
 from judge import CannotGrade
@@ -31,7 +28,7 @@ META = {"__MACOSX", ".git", ".github", ".DS_Store", "Thumbs.db", "desktop.ini", 
 AGAIN = re.compile(r" ?\(\d{1,3}\)(?=\.|$)")        # how browsers name what was downloaded before
 # Errors that are no student's.
 OURS = (errno.ENFILE, errno.EMFILE, errno.ENOMEM, errno.EIO, errno.ENOSPC, errno.EDQUOT)
-LOCK, IDLE = Lock(), []     # who has it may have something unpacked, by the process that is idle
+LOCK = Lock()       # who has it may have something unpacked
 STRANGE = {errno.ELOOP: "It is a link", errno.ENXIO: "It is no regular file", errno.ENOTDIR: "The folder is a link"}
 
 
@@ -40,50 +37,22 @@ def is_meta(path):
     return any(part in META or part.startswith("._") for part in path.split("/"))
 
 
-def begun():
-    """A process that unpacks archives, in bubblewrap where that works."""
-    bubblewrap = [shutil.which("bwrap"), "--unshare-all", "--new-session", "--die-with-parent", "--cap-drop", "ALL"]
+def unpacked_apart(archives, made):
+    """Writes into a file, by a process of its own, in bubblewrap where that works, what is in archives. Of each of their
+    files the archive's number, path and size; and the number of an archive with what is wrong with it."""
+    bubblewrap = [shutil.which("bwrap"), "--unshare-all", "--die-with-parent", "--cap-drop", "ALL"]
     for path in "/usr", *glob("/lib*"), sys.base_prefix, "/etc/ld.so.cache":
         bubblewrap += ["--ro-bind-try", path, path]
     python = [os.path.realpath(sys.executable), "-ISc", Path(unpack.__file__).read_text("utf-8")]
+    given = b"".join([json.dumps([*map(len, archives)]).encode(), b"\n", *archives])
     for words in [[*bubblewrap, "--", *python]] * bool(bubblewrap[0]) + [python]:
-        process = subprocess.Popen(words, stdin=subprocess.PIPE, stdout=subprocess.PIPE, stderr=subprocess.DEVNULL,
-                                   cwd="/", env={**os.environ, "LC_ALL": "C"})
-        if process.stdout.readline():
-            return process
+        done = subprocess.run(words, input=given, stdout=made, stderr=subprocess.DEVNULL, cwd="/",
+                              env={**os.environ, "LC_ALL": "C"})
+        made.seek(0)
+        if made.readline():
+            too_much = f"it takes more than {unpack.SECONDS} s or {unpack.MOST_MEMORY >> 20} MiB"
+            return ([], [0, too_much]) if done.returncode else json.loads(made.readline())
     raise CannotGrade("archives can't be unpacked: Python doesn't begin")
-
-
-def answer(process, archives):
-    """What a process finds in archives: of each file archive's number, path and size; what is wrong; and all bytes.
-    Nothing where it ends, and it ends where it doesn't answer."""
-    with suppress(OSError, ValueError), ExitStack() as stack:
-        stack.enter_context(process)
-        stack.callback(process.kill)
-        process.stdin.write(json.dumps([*map(len, archives)]).encode() + b"\n")
-        process.stdin.writelines(archives)
-        process.stdin.flush()
-        while not select.select([process.stdout], [], [], 0.1)[0]:
-            if judge.stopped.is_set():
-                raise KeyboardInterrupt
-        found, wrong = json.loads(process.stdout.readline())
-        data = process.stdout.read(sum(size for *_, size in found))
-        stack.pop_all()
-        return found, wrong, data
-
-
-def unpacked_apart(archives):
-    """The same of the process that has unpacked others; where it ends before its time a new one, with all memory, has to
-    try."""
-    while True:
-        is_new = not IDLE
-        process = begun() if is_new else IDLE.pop()
-        found = answer(process, archives)
-        if found:
-            IDLE.append(process)
-        is_late = abs(process.returncode or 0) % 128 == signal.SIGXCPU      # bubblewrap's status is 128 more
-        if found or is_new or is_late:
-            return found or ([], [0, f"it takes more than {unpack.SECONDS} s or {unpack.MOST_MEMORY >> 20} MiB"], b"")
 
 
 @contextmanager
@@ -164,19 +133,17 @@ class Folder:
 
     def members(self, names):
         """By path place and size in the store of each file in archives."""
-        archives, self.store = [], tempfile.TemporaryFile()
+        self.store, archives = tempfile.TemporaryFile(), []
         with LOCK:
             for name in names:
                 archives.append(self.read(name, MOST_PACKED))
                 if sum(map(len, archives)) > MOST_PACKED:
                     raise NoRows("refused", f"Archives have more than {MOST_PACKED >> 20} MiB.")
-            found, wrong, data = unpacked_apart(archives)
-            self.store.write(data)
-            self.store.flush()
+            found, wrong = unpacked_apart(archives, self.store)
         if wrong:
             raise NoRows("refused", f"{shown(names[wrong[0]])} can't be unpacked: {shown(wrong[1])}.")
-        ends = accumulate(size for *_, size in found)
-        return {f"{names[number]}/{path}": (end - size, size) for (number, path, size), end in zip(found, ends)
+        ends = accumulate((size for *_, size in found), initial=self.store.tell())
+        return {f"{names[number]}/{path}": (at, size) for (number, path, size), at in zip(found, ends)
                 if not is_meta(path)}
 
     def unpacked(self):

@@ -8,8 +8,8 @@ import signal
 import stat
 import sys
 import tarfile
-import time
 import zipfile
+from contextlib import suppress
 from functools import partial
 from itertools import islice
 
@@ -18,7 +18,7 @@ MOST_PACKED = 1 << 24       # bytes
 MOST_NAMES = 1000           # files
 MOST_MEMORY = 1 << 27       # bytes of addresses, of which Python itself has 20 MiB
 SECONDS, CLOCK = 10, 300    # of processor time, and by the clock
-MOST_SAID = 1 << 20         # bytes of the line that says what was found
+MOST_SAID = 1 << 20         # letters of their names
 OPENERS = {b"\x1f\x8b": gzip.open, b"BZh": bz2.open}
 
 
@@ -43,6 +43,8 @@ def unpacked(data, names, left):
         raise ValueError(f"there are more than {MOST_PACKED >> 20} MiB or {MOST_NAMES} files in archives")
     if any(size < 0 for _, size, _ in found):
         raise ValueError("it has a file of a negative size")
+    if sum(len(path) for path, *_ in found) > MOST_SAID:
+        raise ValueError("names of files are too long")
     outside = [path for path, *_ in found if path.startswith("/") or ".." in path.split("/")]
     if outside:
         raise ValueError(f"it has a file {outside[0][:80]}")
@@ -64,26 +66,20 @@ def unpack(archives):
     return found, None
 
 
-def serve(asked, made):
-    """Answers each line of sizes, which archives of these follow, by a line of what is in them, which all bytes of that
-    follow. It ends where that takes more than it may."""
+def main():
+    """Says that it began; then what is in archives, whose sizes are in the first line, in a line that all bytes follow.
+    It ends before where that takes more than it may."""
+    asked, made = sys.stdin.buffer, sys.stdout.buffer
     made.write(b"begun\n")
     made.flush()
-    for line in asked:
-        limits = {resource.RLIMIT_AS: MOST_MEMORY, resource.RLIMIT_CPU: int(time.process_time()) + SECONDS}
-        for kind, most in limits.items():
-            hard = resource.getrlimit(kind)[1]
-            resource.setrlimit(kind, (most if hard < 0 else min(most, hard), hard))
-        signal.alarm(CLOCK)
-        found, wrong = unpack([asked.read(size) for size in json.loads(line)])
-        said = json.dumps([[(number, path, len(data)) for number, path, data in found], wrong])
-        if len(said) > MOST_SAID:
-            found, said = [], json.dumps([[], [0, "names of files are too long"]])
-        made.write(said.encode() + b"\n")
-        made.writelines(data for _, _, data in found)
-        made.flush()
-        signal.alarm(0)
+    for kind, most in (resource.RLIMIT_AS, MOST_MEMORY), (resource.RLIMIT_CPU, SECONDS):
+        with suppress(ValueError):      # there are less
+            resource.setrlimit(kind, (most, most))
+    signal.alarm(CLOCK)
+    found, wrong = unpack([asked.read(size) for size in json.loads(asked.readline())])
+    made.write(json.dumps([[(number, path, len(data)) for number, path, data in found], wrong]).encode() + b"\n")
+    made.writelines(data for *_, data in found)
 
 
 if __name__ == "__main__":
-    serve(sys.stdin.buffer, sys.stdout.buffer)
+    main()

@@ -9,6 +9,7 @@ import signal
 import subprocess
 import tarfile
 import tempfile
+import threading
 import time
 from contextlib import contextmanager
 from functools import partial
@@ -40,17 +41,20 @@ PACKAGES = {"coreutils": "cat chmod env rm test timeout", "dash": "sh", "finduti
             "tar": "tar", "util-linux": "prlimit setpriv taskset"}      # of Debian, with their commands
 LOOKED = "Memory was looked at ten times a second, and not bounded exactly, since systemd-run doesn't work here."
 STEP = 0.1              # seconds from one look at what is used to the next
+PATIENCE = 4            # times as long by the clock for what starved
 STARVED = 0.1           # of the time that a program has, what it may wait for the processor
 MOST_ERRORS = 1 << 24   # bytes of standard error
 
 
 class Run:
     """A run: its status, or the failure for which it was stopped, what it printed, and how long it computed. It has
-    begun where its script ran, and there is a program where the script found one."""
+    begun where its script ran, and there is a program where the script found one. It starved where the clock ended it
+    while it waited for the processor."""
 
-    def __init__(self, words, runner, most, **how):
-        self.most, self.asked, self.walls, self.patience = most, runner.asked, runner.walls, runner.patience
+    def __init__(self, words, runner, most, patience, **how):
+        self.most, self.asked, self.walls, self.patience = most, runner.asked, runner.walls, patience
         self.status, self.failure, self.output, self.errors = None, None, bytearray(), bytearray()
+        self.is_starved = False
         self.seconds, self.ready, self.times, pipe = 0, 0, {}, subprocess.PIPE      # ready: in which it could run
         self.begun = self.looked = time.monotonic()
         self.process = subprocess.Popen(words, stdout=pipe, stderr=pipe, start_new_session=True, **how)
@@ -92,7 +96,7 @@ class Run:
             return NoRows("timeout", f"No answer within {self.asked.time} s of processor time.")
 
     def fault(self):
-        """Why it has to be stopped, or None. Who starved runs again with more patience, until the clock decides."""
+        """Why it has to be stopped, or None."""
         if len(self.output) > self.most + MARKS:
             what = "It printed" if self.most < MOST_KEPT else "What the build left has"
             return NoRows("crashed", f"{what} more than {self.most >> 20} MiB.")
@@ -111,9 +115,8 @@ class Run:
         clock = self.looked - self.begun
         if clock <= self.patience * (2 * limit + 1):
             return self.late()
-        is_starved = self.seconds < limit and self.ready - self.seconds > STARVED * limit
-        return NoRows("timeout", f"No answer within {clock:.0f} s, in which it computed for {self.seconds:.1f} s.",
-                      is_starved=is_starved)
+        self.is_starved = self.seconds < limit and self.ready - self.seconds > STARVED * limit
+        return NoRows("timeout", f"No answer within {clock:.0f} s, in which it computed for {self.seconds:.1f} s.")
 
 
 def pack(folder, made):
@@ -159,10 +162,10 @@ class Runner:
     """How programs are run on this machine, as tried once."""
 
     def __init__(self, asked, hidden):
-        self.asked, self.cores, self.patience = asked, queue.Queue(), 1
-        for _, core in zip(range(asked.jobs), itertools.cycle(sorted(os.sched_getaffinity(0)))):
-            self.cores.put(core)
+        self.asked, self.cores, self.turn = asked, queue.Queue(), threading.Lock()
         self.jobs, is_root = 1 if asked.unconfined else asked.jobs, os.geteuid() == 0
+        for _, core in zip(range(self.jobs), itertools.cycle(sorted(os.sched_getaffinity(0)))):
+            self.cores.put(core)
         for package, name in ((package, name) for package, names in PACKAGES.items() for name in names.split()):
             if not shutil.which(name):
                 raise CannotGrade(f"programs can't be run: {name} is not on the PATH (Debian: {package})")
@@ -181,30 +184,36 @@ class Runner:
         return " ".join(filter(None, (self.walls.warning, LOOKED * (not self.scope))))
 
     def run(self, *asked):
-        """How a command in a student's folder ends, and the folder's name; without the scope from when it fails on."""
+        """How a command in a student's folder ends, and the folder's name; without the scope from when it fails on. What
+        starved runs once more, alone."""
         scope = self.scope      # which bounds memory exactly, where it works
-        ended, home = self.run_in(scope, *asked)
-        if scope and not ended.has_begun:
+        ended, home = self.run_in(scope, 1, *asked)
+        if scope and not ended.has_begun and not ended.is_starved:
             self.scope = []
-            ended, home = self.run_in([], *asked)
-        return ended, home
+            ended, home = self.run_in([], 1, *asked)
+        return self.run_in(self.scope, PATIENCE, *asked) if ended.is_starved else (ended, home)
 
-    def run_in(self, scope, command, archive, task, script=RUN, most=MOST_BYTES):
-        """The same in a scope, on a core of its own while others run."""
-        core, seconds, processes = self.cores.get(), self.asked.time, self.asked.processes + self.walls.others
+    def run_in(self, scope, patience, command, archive, task):
+        """The same in a scope, on a core of its own while others run, or on the only one in use. It builds where there
+        is no task."""
+        script, most = (BUILD, MOST_KEPT) if task is None else (RUN, MOST_BYTES)
+        with self.turn:
+            cores = [self.cores.get() for _ in range(1 if patience == 1 else self.jobs)]
+        seconds, processes = self.asked.time, self.asked.processes + self.walls.others
         # With a limit on cores that isn't 1 byte, the host may start a program of its own for one.
         limits = ["prlimit", f"--cpu={seconds}:{seconds + 1}", f"--as={SPACE}", f"--nproc={processes}",
                   f"--fsize={MOST_KEPT}", "--nofile=256", "--core=1", "--memlock=0", "--msgqueue=0"]
         try:
             # A program could write to a file that it is handed, so it gets a pipe.
-            with self.walls.start(task) as (words, how, home, given), \
+            with self.walls.start(task or b"") as (words, how, home, given), \
                     open(f"/proc/self/fd/{archive.fileno()}", "rb") as packed, \
                     subprocess.Popen(["cat"], stdin=packed, stdout=subprocess.PIPE) as piped:
-                before = [*scope, "taskset", "-c", f"{core}", "env", "-i", *VARIABLES, f"HOME={home}", *words]
+                before = [*scope, "taskset", "-c", f"{cores[0]}", "env", "-i", *VARIABLES, f"HOME={home}", *words]
                 words = [*before, *limits, "sh", "-c", script, given, *command]
-                return Run(words, self, most, stdin=piped.stdout, **how), home
+                return Run(words, self, most, patience, stdin=piped.stdout, **how), home
         finally:
-            self.cores.put(core)
+            for core in cores:
+                self.cores.put(core)
 
     def refusal(self):
         """Why nothing can be run, in the words of what refuses it."""
@@ -217,7 +226,7 @@ class Runner:
         with tempfile.TemporaryFile() as packed, tempfile.TemporaryFile() as built:
             archive(folder, packed)
             if self.asked.build:
-                built.write(self.ended(folder, self.asked.build, packed, b"", BUILD, MOST_KEPT).output)
+                built.write(self.ended(folder, self.asked.build, packed, None).output)
                 built.flush()
             yield partial(self.printed, folder, built if self.asked.build else packed)
 
@@ -229,7 +238,7 @@ class Runner:
     def ended(self, folder, command, *asked):
         """A run that ended with status 0, or the failure of any other."""
         ended, home = self.run(command, *asked)
-        if not ended.has_begun and not (ended.failure and ended.failure.is_starved and self.patience == 1):
+        if not ended.has_begun:
             raise CannotGrade(f"programs can't be run apart: {why_not(ended, home)}")
         if ended.failure:
             raise ended.failure
