@@ -67,9 +67,10 @@ def is_same(one, other):
 
 
 def chosen(students, names, earlier):
-    """Who of a class is marked again: who has one of these names, and who is new on the roster. Then all, the others
-    with their earlier marks; and each of these with the name that they had."""
+    """Who of a class is marked again: who has one of these names, who submitted together with them, and who is new on
+    the roster. Then all, the others with their earlier marks; and each of these with the name that they had."""
     wanted, found, again, made, was = {key_of(name): name for name in names}, set(), [], [], []
+    together = {student.hand_in() for student in students if student.path and {*student.keys()} & {*wanted}}
     known, left = by_key(earlier), {id(other): other for other in earlier}
     for student in students:
         others = (other for key in student.keys() for other in known[key])
@@ -77,7 +78,7 @@ def chosen(students, names, earlier):
         left.pop(id(other), None)
         keys = {key for each in (student, other) if each for key in each.keys()}
         found |= keys
-        if keys & {*wanted} or not (other or student.path):
+        if keys & {*wanted} or student.hand_in() in together or not (other or student.path):
             again.append(student)
             made.append(student)
         elif other:

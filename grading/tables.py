@@ -1,8 +1,10 @@
-"""Tables of a course's site: who is on the roster, who is late, and the column that grades are filled into."""
+"""Tables of a course's site: who is on the roster, who is late, who submits together, and the columns that grades are
+filled into."""
 import math
 import re
-from collections import Counter
+from collections import Counter, defaultdict
 from contextlib import suppress
+from dataclasses import replace
 from datetime import datetime
 
 from handins.layouts import DAY, by_key, days_late
@@ -13,6 +15,7 @@ from words import count, key_of, number as plainly, say, shown
 
 ODD = {"points possible", "student, test", "test student", "manual posting"}     # Canvas's lines that are no students
 LATE = ("late", "days late", "lateness (h:m:s)", "status", "submission time", "submission_timestamp")
+GROUP = ("group", "group_name", "group name", "team")
 MOST = ("max points", "maximum grade", "points_available")
 # Columns that name students as their site does, those that come first here; columns that name nobody on their own; and
 # all by which a first line is known to name columns.
@@ -122,6 +125,30 @@ class Table:
                 say(f"{len(names)} {what}: {some}")
         return made
 
+    def groups(self):
+        """By number of a row the name of its student's group."""
+        at = self.column(*GROUP)
+        return {number: self.rows[number][at].strip() for number in self.cells()}
+
+    def in_groups(self, students):
+        """The students, and each of a group in which somebody submitted. Who submits as a group isn't one of them."""
+        found, listed, groups = self.matched(students), self.students(), defaultdict(list)
+        for number, group in self.groups().items():
+            groups[key_of(group)].append(number)
+        teams, made, dropped = {key_of(student.name): student for student in students}, [], []
+        for group, numbers in groups.items():
+            given = [found[number] for number in numbers if found.get(number)]
+            if group in teams and teams[group] not in given:
+                given.append(teams[group])
+                dropped.append(teams[group])
+            if len(given) > 1:
+                say(f"{shown(group)}: {len(given)} submitted; for who of it didn't that of {shown(given[0].name)} counts")
+            if group and given:
+                notes = [*given[0].notes, f"submitted by {shown(given[0].name)}"]
+                made += [replace(given[0], name=listed[number].name, id=listed[number].id, email="", notes=notes)
+                         for number in numbers if number not in found]
+        return [student for student in students if student not in dropped] + made
+
     def check_most(self, column, tasks, at):
         """Reports a column that is out of other points than the task at a place, or than all where that is None."""
         points = sum(task.points for task in tasks) if at is None else tasks[at].points
@@ -165,17 +192,10 @@ def text_of(row, places):
 
 def days_of(text, due):
     """Days begun, of `2`, `30:00:00`, `1 day 6 hours late`, a time after one due, or 0 of words; None if unreadable."""
-    text = text.strip().casefold()
-    if not re.search(r"\d", text):
-        return 0
-    if re.fullmatch(r"\d{1,4}(\.\d*)?", text):
-        return math.ceil(float(text))
-    clock = re.fullmatch(r"(\d{1,5}):(\d\d):(\d\d)", text)
-    parts = re.findall(r"(\d{1,4}) (day|hour|min|sec)", text) if "late" in text else []
-    parts += zip(clock.groups(), ("hour", "min", "sec")) if clock else []
-    if parts or not due:
-        return math.ceil(sum(int(number) * UNITS[unit] for number, unit in parts) / DAY) if parts else None
-    try:
-        return days_late(datetime.fromisoformat(re.sub(" ?(utc|z)$", "+00:00", text)), due)
-    except ValueError:
-        return None
+    text = re.sub(r"^(\d{1,5}):(\d\d):(\d\d)$", r"\1 hours \2 mins \3 secs late", text.strip().casefold())
+    text = re.sub(r"^\d{1,4}(\.\d*)?$", r"\g<0> days late", text)
+    late = re.findall(r"(\d{1,5}(?:\.\d*)?) (day|hour|min|sec)", text) if "late" in text else []
+    if late or not re.search(r"\d", text):
+        return math.ceil(sum(float(number) * UNITS[unit] for number, unit in late) / DAY)
+    with suppress(ValueError):
+        return days_late(datetime.fromisoformat(re.sub(" ?(utc|z)$", "+00:00", text)), due) if due else None

@@ -37,16 +37,17 @@ def is_meta(path):
     return any(part in META or part.startswith("._") for part in path.split("/"))
 
 
-def unpacked_apart(archives, made):
-    """Writes into a file, by a process of its own, in bubblewrap where that works, what is in archives. Of each of their
-    files the archive's number, path and size; and the number of an archive with what is wrong with it."""
+def unpacked_apart(given, sizes, made):
+    """Writes into a file, by a process of its own, in bubblewrap where that works, what is in archives, which another
+    has one after the other. Of each of their files the archive's number, path and size; and of an archive that is
+    refused its number and why."""
     bubblewrap = [shutil.which("bwrap"), "--unshare-all", "--die-with-parent", "--cap-drop", "ALL"]
     for path in "/usr", *glob("/lib*"), sys.base_prefix, "/etc/ld.so.cache":
         bubblewrap += ["--ro-bind-try", path, path]
-    python = [os.path.realpath(sys.executable), "-ISc", Path(unpack.__file__).read_text("utf-8")]
-    given = b"".join([json.dumps([*map(len, archives)]).encode(), b"\n", *archives])
+    python = [os.path.realpath(sys.executable), "-ISc", Path(unpack.__file__).read_text("utf-8"), *map(str, sizes)]
     for words in [[*bubblewrap, "--", *python]] * bool(bubblewrap[0]) + [python]:
-        done = subprocess.run(words, input=given, stdout=made, stderr=subprocess.DEVNULL, cwd="/",
+        given.seek(0)
+        done = subprocess.run(words, stdin=given, stdout=made, stderr=subprocess.DEVNULL, cwd="/",
                               env={**os.environ, "LC_ALL": "C"})
         made.seek(0)
         if made.readline():
@@ -109,6 +110,14 @@ class Folder:
     def opened(self, path, flags=0):
         return opened((self.given[path] if self.given else path).split("/"), flags, self.number)
 
+    @contextmanager
+    def regular(self, path):
+        """The number of an open file that isn't of another kind."""
+        with self.opened(path) as number, blamed():
+            if not stat.S_ISREG(os.fstat(number).st_mode):
+                raise NoRows("refused", "It is no regular file.")
+            yield number
+
     def has(self, name):
         return name in self.given if self.given else os.access(name, os.F_OK, dir_fd=self.number, follow_symlinks=False)
 
@@ -132,14 +141,17 @@ class Folder:
         return self.given is not None or {*self.paths} == {*self.archives()} != set()
 
     def members(self, names):
-        """By path place and size in the store of each file in archives."""
-        self.store, archives = tempfile.TemporaryFile(), []
-        with LOCK:
+        """By path place and size in the store of each file in archives, which are in no memory of this process."""
+        self.store, sizes = tempfile.TemporaryFile(), []
+        with LOCK, tempfile.TemporaryFile() as given:
             for name in names:
-                archives.append(self.read(name, MOST_PACKED))
-                if sum(map(len, archives)) > MOST_PACKED:
+                sizes.append(0)
+                with self.regular(name) as number:
+                    while more := os.sendfile(given.fileno(), number, None, MOST_PACKED + 1 - sum(sizes)):
+                        sizes[-1] += more
+                if sum(sizes) > MOST_PACKED:
                     raise NoRows("refused", f"Archives have more than {MOST_PACKED >> 20} MiB.")
-            found, wrong = unpacked_apart(archives, self.store)
+            found, wrong = unpacked_apart(given, sizes, self.store)
         if wrong:
             raise NoRows("refused", f"{shown(names[wrong[0]])} can't be unpacked: {shown(wrong[1])}.")
         ends = accumulate((size for *_, size in found), initial=self.store.tell())
@@ -168,11 +180,8 @@ class Folder:
         if size is not None:
             data = os.pread(self.store.fileno(), min(size, most + 1), at)
         else:
-            with self.opened(path) as number, blamed():
-                if not stat.S_ISREG(os.fstat(number).st_mode):
-                    raise NoRows("refused", "It is no regular file.")
-                with open(number, "rb", closefd=False) as file:
-                    data = file.read(most + 1)
+            with self.regular(path) as number, open(number, "rb", closefd=False) as file:
+                data = file.read(most + 1)
         if len(data) > most:
             raise NoRows("refused", f"It is longer than {most >> 20} MiB.")
         return data

@@ -66,9 +66,9 @@ def unpack(archives):
     return found, None
 
 
-def main():
-    """Says that it began; then what is in archives, whose sizes are in the first line, in a line that all bytes follow.
-    It ends before where that takes more than it may."""
+def main(sizes):
+    """Says that it began; then what is in archives of these sizes, in a line that all bytes follow. It ends before where
+    that takes more than it may."""
     asked, made = sys.stdin.buffer, sys.stdout.buffer
     made.write(b"begun\n")
     made.flush()
@@ -76,10 +76,10 @@ def main():
         with suppress(ValueError):      # there are less
             resource.setrlimit(kind, (most, most))
     signal.alarm(CLOCK)
-    found, wrong = unpack([asked.read(size) for size in json.loads(asked.readline())])
+    found, wrong = unpack([asked.read(int(size)) for size in sizes])
     made.write(json.dumps([[(number, path, len(data)) for number, path, data in found], wrong]).encode() + b"\n")
     made.writelines(data for *_, data in found)
 
 
 if __name__ == "__main__":
-    main()
+    main(sys.argv[1:])

@@ -1,1 +1,0 @@
-"""Hand-ins as they come: folders, and texts that are read leniently."""

@@ -1,1 +1,0 @@
-"""Programs of students, run within walls."""
