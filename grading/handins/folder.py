@@ -15,6 +15,7 @@ from itertools import accumulate, islice
 from pathlib import Path
 from threading import Lock
 
+import judge
 from handins import unpack
 from handins.unpack import MOST_NAMES, MOST_PACKED
 from judge import CannotGrade
@@ -41,18 +42,21 @@ def unpacked_apart(given, sizes, made):
     """Writes into a file, by a process of its own, in bubblewrap where that works, what is in archives, which another
     has one after the other. Of each of their files the archive's number, path and size; and of an archive that is
     refused its number and why."""
-    bubblewrap = [shutil.which("bwrap"), "--unshare-all", "--die-with-parent", "--cap-drop", "ALL"]
+    bubblewrap = [shutil.which("bwrap"), "--unshare-all", "--new-session", "--die-with-parent", "--cap-drop", "ALL"]
     for path in "/usr", *glob("/lib*"), sys.base_prefix, "/etc/ld.so.cache":
         bubblewrap += ["--ro-bind-try", path, path]
     python = [os.path.realpath(sys.executable), "-ISc", Path(unpack.__file__).read_text("utf-8"), *map(str, sizes)]
     for words in [[*bubblewrap, "--", *python]] * bool(bubblewrap[0]) + [python]:
         given.seek(0)
-        done = subprocess.run(words, stdin=given, stdout=made, stderr=subprocess.DEVNULL, cwd="/",
-                              env={**os.environ, "LC_ALL": "C"})
+        with subprocess.Popen(words, stdin=given, stdout=made, stderr=subprocess.DEVNULL, cwd="/",
+                              env={**os.environ, "LC_ALL": "C"}) as process:
+            while process.poll() is None:
+                if judge.stopped.wait(0.01):
+                    process.kill()
         made.seek(0)
         if made.readline():
             too_much = f"it takes more than {unpack.SECONDS} s or {unpack.MOST_MEMORY >> 20} MiB"
-            return ([], [0, too_much]) if done.returncode else json.loads(made.readline())
+            return ([], [0, too_much]) if process.returncode else json.loads(made.readline())
     raise CannotGrade("archives can't be unpacked: Python doesn't begin")
 
 
