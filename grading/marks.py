@@ -6,7 +6,7 @@ from pathlib import Path
 
 from judge import Task, alone
 from language import PASSING
-from words import count, faults, key_of, number, shown
+from words import count, faults, key_of, shown
 
 OURS, SAME_WAY = "equal to our own schedule", "the same mistake with other registers"
 
@@ -75,7 +75,7 @@ class Student:
 
     def said(self):
         """What is said of all that was handed in."""
-        late = f"{count(self.days, 'day')} late" + f": {number(self.less)} points less" * bool(self.less)
+        late = f"{count(self.days, 'day')} late" + f": {count(self.less, 'point')} less" * bool(self.less)
         return [f"{late}."] * bool(self.days) + [f"Note: {note}." for note in self.notes]
 
 

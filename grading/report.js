@@ -1,13 +1,13 @@
 "use strict";
 const verdicts = [...document.querySelectorAll(".legend button")];
 
-/* Sorts a table by the column of a head: the first from A on, others from the greatest on, and then the other way. */
+/* Sorts a table by the column of a head: names from A on, numbers from the greatest on, and then the other way. */
 function sort(head) {
     const at = head.cellIndex, body = head.closest("table").tBodies[0], was = head.getAttribute("aria-sort");
-    const isUp = was ? was === "descending" : at === 0;
-    const text = row => row.cells[at].textContent;
-    const compare = (one, other) => parseFloat(one) - parseFloat(other) || one.localeCompare(other);
-    const rows = [...body.rows].sort((one, other) => compare(text(one), text(other)) * (isUp ? 1 : -1));
+    const text = row => row.cells[at].textContent, value = row => parseFloat(text(row)) || 0, rows = [...body.rows];
+    const isText = at === 0 || !rows.some(value), isUp = was ? was === "descending" : isText;
+    const compare = (one, other) => isText ? text(one).localeCompare(text(other)) : value(one) - value(other);
+    rows.sort((one, other) => compare(one, other) * (isUp ? 1 : -1));
     [...head.parentNode.cells].forEach(each => each.removeAttribute("aria-sort"));
     head.setAttribute("aria-sort", isUp ? "ascending" : "descending");
     body.append(...rows);

@@ -67,7 +67,8 @@ def write_gradebook(path, students, tasks, has_programs):
 
 def feedback(student, tasks, has_pictures=True):
     """What a student reads, beside the pictures where there are any."""
-    lines = [f"{number(student.total())} of {number(sum(task.points for task in tasks))} points", *student.said()]
+    most = count(sum(task.points for task in tasks), "point")
+    lines = [f"{number(student.total())} of {most}", *student.said()]
     for mark in student.row:
         lines += ["", "\n  ".join(told(mark, False))]
         lines += [f"  {'Picture' if name.endswith('.svg') else 'Cycle by cycle'}: {name}"
@@ -133,8 +134,8 @@ def row(head, *cells, more=""):
 def table(label, heads, rows, above="", below=""):
     """A table that scrolls in its place, and is sorted by its heads, which are HTML."""
     columns = "".join(f"<th><button>{head}</button></th>" for head in heads)
-    return (f'<div class="scroll" tabindex="0" role="group" aria-label="{label}">{above}<table><thead><tr>{columns}</tr>'
-            "</thead><tbody>\n" + "\n".join(rows) + f"\n</tbody>{below}</table></div>")
+    return (f'<div class="scroll" tabindex="0" role="group" aria-label="{label}">{above}<table><thead><tr>{columns}'
+            "</tr></thead><tbody>\n" + "\n".join(rows) + f"\n</tbody>{below}</table></div>")
 
 
 def line_of(student):
@@ -153,7 +154,7 @@ def line(student):
     seconds = [mark.seconds for mark in student.row if mark.seconds is not None]
     return row(plain(student.name), len(ratios(student)), f"{fmean(ratios(student)):.3f}",
                *(mark.cycles if mark.passes() else "" for mark in student.row),
-               number(round(sum(seconds), 2)) if seconds else "")
+               *[number(round(sum(seconds), 2))] * bool(seconds))
 
 
 def dots(students, tasks):
@@ -180,9 +181,11 @@ def cycles(students, tasks):
     if not ranked:
         return ""
     picture = svg.picture(EDGE + WIDE * len(tasks), HIGH + 2 * EDGE, "cycles by task and student", dots(ranked, tasks))
-    heads = "student", "passed", "bound", *(plain(task.name) for task in tasks), "seconds"
-    return (f"<h2>Cycles</h2><p>Passing work: tasks, mean cycles/bound, the bound {tasks[0].rule}, and cycles; and a "
-            f"program's seconds of processor time.</p>{table('the cycles', heads, map(line, ranked), picture)}")
+    timed = ["seconds"] * any(mark.seconds is not None for student in ranked for mark in student.row)
+    heads = "student", "passed", "cycles/bound", *(plain(task.name) for task in tasks), *timed
+    about = f"Passing work: tasks, mean cycles/bound, the bound {tasks[0].rule}, and cycles"
+    about += "; and a program's seconds of processor time" * bool(timed)
+    return f"<h2>Cycles</h2><p>{about}.</p>{table('the cycles', heads, map(line, ranked), picture)}"
 
 
 def shared(groups):
@@ -211,8 +214,8 @@ def alike(students):
             for (task, *names), how in sorted(hows.items())]
     about = ("Who submits our own schedule, and pairs that make the same mistake, unless more than "
              f"{MOST_ALIKE} students make it. A right schedule is often everybody's, since there are few.")
-    return (f"<h2>Alike</h2><p>{about}</p>{table('who is alike', ('students', 'tasks', 'how'), lines)}<details><summary>"
-            f"All that is equal, by task</summary><ul>{''.join(each)}</ul></details>") if lines or each else ""
+    return (f"<h2>Alike</h2><p>{about}</p>{table('who is alike', ('students', 'tasks', 'how'), lines)}<details>"
+            f"<summary>All that is equal, by task</summary><ul>{''.join(each)}</ul></details>") if lines or each else ""
 
 
 def write_report(path, students, tasks, warning):
@@ -220,8 +223,8 @@ def write_report(path, students, tasks, warning):
     best_first = sorted(students, key=lambda student: (-student.total(), student.name))
     heads = "student", "total", *(f"{plain(task.name)}<br><small>{task.ours} / {task.least}</small>" for task in tasks)
     passed = row("passed", "", *(sum(student.row[at].passes() for student in students) for at in range(len(tasks))))
-    points = number(sum(task.points for task in tasks))
-    size = f"{count(len(students), 'student')}, {count(len(tasks), 'task')}, {points} points."
+    points = count(sum(task.points for task in tasks), "point")
+    size = f"{count(len(students), 'student')}, {count(len(tasks), 'task')}, {points}."
     script = PAGE.with_suffix(".js").read_text("utf-8")
     path.write_text(string.Template(PAGE.read_text("utf-8")).substitute(
         size=size, rule=tasks[0].rule, warning=warning, legend=" ".join(legend(students)),

@@ -142,7 +142,8 @@ class Table:
                 given.append(teams[group])
                 dropped.append(teams[group])
             if len(given) > 1:
-                say(f"{shown(group)}: {len(given)} submitted; for who of it didn't that of {shown(given[0].name)} counts")
+                first = shown(given[0].name)
+                say(f"{shown(group)}: {len(given)} submitted; for who of it didn't that of {first} counts")
             if group and given:
                 notes = [*given[0].notes, f"submitted by {shown(given[0].name)}"]
                 made += [replace(given[0], name=listed[number].name, id=listed[number].id, email="", notes=notes)

@@ -24,12 +24,12 @@ def say(text):
     print(f"ilocgrade: {text}", file=sys.stderr)
 
 
-def count(number, what):
-    return f"{number} {what}" + "s" * (number != 1)
-
-
 def number(value):
-    return f"{value:.12g}"
+    return f"{value:.12g}" if isinstance(value, float) else f"{value}"
+
+
+def count(value, what):
+    return f"{number(value)} {what}" + "s" * (value != 1)
 
 
 def difference(said):
@@ -72,7 +72,7 @@ def faults(said, rows):
 
 def told(mark, is_staff=True):
     """The lines that are said of a task: to students of one that is hidden its points alone."""
-    head = f"{shown(mark.task.name)}: {number(mark.points)} points."
+    head = f"{shown(mark.task.name)}: {count(mark.points, 'point')}."
     if mark.task.is_hidden and not is_staff:
         return [f"{head} The task is hidden."]
     head += f" {VERDICTS[mark.verdict]}"

@@ -67,8 +67,8 @@ def unpack(archives):
 
 
 def main(sizes):
-    """Says that it began; then what is in archives of these sizes, in a line that all bytes follow. It ends before where
-    that takes more than it may."""
+    """Says that it began; then what is in archives of these sizes, in a line that all bytes follow. It ends before
+    where that takes more than it may."""
     asked, made = sys.stdin.buffer, sys.stdout.buffer
     made.write(b"begun\n")
     made.flush()

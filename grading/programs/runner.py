@@ -184,8 +184,8 @@ class Runner:
         return " ".join(filter(None, (self.walls.warning, LOOKED * (not self.scope))))
 
     def run(self, *asked):
-        """How a command in a student's folder ends, and the folder's name; without the scope from when it fails on. What
-        starved runs once more, alone."""
+        """How a command in a student's folder ends, and the folder's name; without the scope from when it fails on.
+        What starved runs once more, alone."""
         scope = self.scope      # which bounds memory exactly, where it works
         ended, home = self.run_in(scope, 1, *asked)
         if scope and not ended.has_begun and not ended.is_starved:

@@ -87,8 +87,8 @@ class Course(Graded):
         page = self.text("grades/report.html")
         way = "the same mistake with other registers"
         for line in ("<li>both: byte-identical, and right: ada; ann", f"<li>both: {way}: ben; bob",
-                     f"<tr><td>ben; bob</td><td>2</td><td>{way}: both, other",
-                     "<tr><td>own</td><td>1</td><td>equal to our own schedule: other"):
+                     f"<tr><th>ben; bob</th><td>2</td><td>{way}: both, other",
+                     "<tr><th>own</th><td>1</td><td>equal to our own schedule: other"):
             self.expect(line, f"{line}</" in page, True)
 
     def test_groups(self):

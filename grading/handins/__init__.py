@@ -1,0 +1,1 @@
+"""Hand-ins as they come: folders, and texts that are read leniently."""

@@ -1,0 +1,1 @@
+"""Programs of students, run within walls."""
