@@ -110,7 +110,7 @@ pub enum NumbersFault {
         block: u32,
         word: Word,
     },
-    /// There are numbers after those for the last block, and this would be the next.
+    /// The text goes on after the line of the last block; `block` is the number that one more block would have.
     NoBlock {
         block: u32,
     },

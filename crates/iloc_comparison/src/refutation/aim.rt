@@ -11,10 +11,10 @@ use std::alloc::Global;
 /// How many memories are aimed, at most.
 pub(crate) const MOST_AIMS: usize = MOST_MEETINGS + 2 * MOST_EDGES + MOST_STARTS;
 
-/// How many of them are aimed at no good address, or at a known or another unknown one, at most.
+/// How many memories are aimed at no good address, or at a known or another unknown one, at most.
 const MOST_MEETINGS: usize = 20;
 
-/// How many of those aren't aimed at known addresses, at most.
+/// How many of `MOST_MEETINGS` aren't aimed at known addresses, at most.
 const MOST_UNKNOWN: usize = 12;
 
 /// How many places are put at either edge of memory, at most.
