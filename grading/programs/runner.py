@@ -49,7 +49,7 @@ MOST_ERRORS = 1 << 24   # bytes of standard error
 class Run:
     """A run: its status, or the failure for which it was stopped, what it printed, and how long it computed. It has
     begun where its script ran, and there is a program where the script found one. It starved where the clock ended it
-    while it waited for the processor."""
+    while it waited for the processor, or where it was killed, as the kernel does to any where memory is wanting."""
 
     def __init__(self, words, runner, most, patience, **how):
         self.most, self.asked, self.walls, self.patience = most, runner.asked, runner.walls, patience
@@ -70,6 +70,7 @@ class Run:
         if not self.failure:        # bubblewrap may end before it is told what its processes have used
             self.status, self.seconds = self.process.returncode, max(self.seconds, usage.ru_utime + usage.ru_stime)
             self.failure = self.late()
+            self.is_starved = self.seconds < self.asked.time and self.status in (-signal.SIGKILL, 128 + signal.SIGKILL)
         self.has_begun, self.is_there = (len(self.output) >= lines for lines in range(1, MARKS + 1))
         del self.output[:MARKS]
 

@@ -113,6 +113,15 @@ class ByRoot(Programs):
         self.expect("passed", (self.said.partition(":")[0], LOOKED in self.text("grades/report.html")),
                     ("1 student, 1 task, 1 of 1 passed", True))
 
+    def test_killed(self):
+        """What is killed runs once more, alone: others may have taken the memory."""
+        self.hand_in_program("right", "sleep 5.98765 && cat rows || kill -9 $$\n")
+        begun = self.process(*self.user, "ilocgrade", BOTH, "submissions", *PROGRAM, cwd=self.folder,
+                             env=self.environment)
+        until("it runs", lambda: self.call("pkill", "-KILL", "-f", "sleep 5.98765")[0] == 0)
+        said = begun.communicate(timeout=120)[0]
+        self.expect(f"passed: {said}", said.partition(":")[0], "1 student, 1 task, 1 of 1 passed")
+
     def test_stopped(self):
         """A signal ends it at once, and nothing is left, with walls and without."""
         for name in map(str, range(9)):
