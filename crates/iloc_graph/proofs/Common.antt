@@ -23,6 +23,6 @@ pub use Rattle.iloc_sched.specs.Graph.Near.{IsNearBy, IsNearPairBy}
 pub use Rattle.iloc_sched.specs.declared.edges.Edge.{Edge}
 pub use Rattle.iloc_explain.specs.Chain.{Continues, IsChainFrom, IsNext, chain_by, chains_by}
 pub use Rattle.iloc_graph.specs.Laws.{BlocksHaveOneCluster, ChainsRunAlongNearestPairs, NearestPairsImplyAll, RunsAlong, WaitsForNearest}
-pub use Rattle.iloc_graph.specs.Listing.{edge_line, escaped_byte, head_lines, indent, marked, node, node_line, node_lines}
+pub use Rattle.iloc_graph.specs.Listing.{edge_line, escaped_byte, head_lines, link, node_line, node_lines, path_line}
 pub use Rattle.iloc_graph.specs.Nearest.{is_nearest, is_ordered, is_taken_over, longest_delay, nearest_pairs, nearest_to, pair_of, sources, takes_over_by}
 pub use Rattle.iloc_graph.specs.Steps.InOrder.{IsInOrder}

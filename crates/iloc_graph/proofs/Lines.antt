@@ -9,16 +9,6 @@ pub line_more : (text new all : List ℕ) (k i : ℕ) (left rest : List Op) (pri
 line_more text new all k i left rest prios op d known taken so_far pushed = grind (arith, add-one, drop-cons, append_assoc)
 
 -- parts that were pushed one after another
-
-pub head_joined : (text a n b c name d : List ℕ)
-    → ((((((text ++ a) ++ n) ++ b) ++ n) ++ c) ++ name) ++ d ≡ text ++ ((((((a ++ n) ++ b) ++ n) ++ c) ++ name) ++ d)
-head_joined text a n b c name d = simp append_assoc
-
-pub operation_joined : (text a node b i c op d priority e colour f : List ℕ)
-    → ((((((((((text ++ a) ++ node) ++ b) ++ i) ++ c) ++ op) ++ d) ++ priority) ++ e) ++ colour) ++ f
-    ≡ text ++ ((((((((((a ++ node) ++ b) ++ i) ++ c) ++ op) ++ d) ++ priority) ++ e) ++ colour) ++ f)
-operation_joined text a node b i c op d priority e colour f = simp append_assoc
-
 pub cluster_grown : (text headed with_nodes with_edges with_chain whole head nodes edges chain end : List ℕ)
     → headed ≡ text ++ head → with_nodes ≡ headed ++ nodes → with_edges ≡ with_nodes ++ edges → with_chain ≡ with_edges ++ chain
     → whole ≡ with_chain ++ end → whole ≡ text ++ ((((head ++ nodes) ++ edges) ++ chain) ++ end)

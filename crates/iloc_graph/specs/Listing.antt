@@ -42,24 +42,17 @@ abbrev pub escaped_name : Option (List ℕ) → List ℕ
 escaped_name None = codes "-"
 escaped_name (Some name) = flat_map escaped_byte name
 
-abbrev pub indent : List ℕ
-indent = codes "        "
-
--- `bK_I`: operation i of block k
-abbrev pub node : ℕ → ℕ → List ℕ
-node k i = codes "b" ++ decimal k ++ codes "_" ++ decimal i
-
 -- block k with its name
 abbrev pub head_lines : ℕ → Option (List ℕ) → List ℕ
 head_lines k name =
     codes "    subgraph cluster_" ++ decimal k ++ codes " {\n        label=\"block " ++ decimal k ++ codes " "
     ++ escaped_name name ++ codes "\";\n"
 
--- an operation with its number, as it is spelled, which needs no quoting, and with its priority
+-- the node `bK_I`: operation i of block k with its number, as it is spelled, which needs no quoting, and with its priority
 abbrev pub node_line : ℕ → ℕ → Op → ℕ → List ℕ
 node_line k i op priority =
-    indent ++ node k i ++ codes " [label=\"" ++ decimal i ++ codes ": " ++ spelling op ++ codes "\\npriority "
-    ++ decimal priority ++ codes "\", fillcolor=\"" ++ colour (kind op) ++ codes "\"];\n"
+    codes "        b" ++ decimal k ++ codes "_" ++ decimal i ++ codes " [label=\"" ++ decimal i ++ codes ": " ++ spelling op
+    ++ codes "\\npriority " ++ decimal priority ++ codes "\", fillcolor=\"" ++ colour (kind op) ++ codes "\"];\n"
 
 -- operations from number i on with their priorities
 abbrev pub node_lines : ℕ → ℕ → List Op → List ℕ → List ℕ
@@ -70,19 +63,23 @@ node_lines k i (op ∷ ops) (priority ∷ prios) = node_line k i op priority ++ 
 -- an edge with its delay
 abbrev pub edge_line : ℕ → Pair → List ℕ
 edge_line k pair =
-    indent ++ node k pair.first ++ codes " -> " ++ node k pair.second ++ codes " [label=\"" ++ decimal pair.delay
-    ++ codes "\"];\n"
+    codes "        b" ++ decimal k ++ codes "_" ++ decimal pair.first ++ codes " -> b" ++ decimal k ++ codes "_"
+    ++ decimal pair.second ++ codes " [label=\"" ++ decimal pair.delay ++ codes "\"];\n"
 
--- what is said of the nodes and edges of the longest chain
-abbrev pub marked : List ℕ
-marked = codes " [color=\"#e5484d\", penwidth=2];\n"
+-- an edge goes on to operation i
+abbrev pub link : ℕ → ℕ → List ℕ
+link k i = codes " -> b" ++ decimal k ++ codes "_" ++ decimal i
+
+-- operation i or, where there are more, the edges from it along them are marked
+abbrev pub path_line : ℕ → ℕ → List ℕ → List ℕ
+path_line k i more =
+    codes "        b" ++ decimal k ++ codes "_" ++ decimal i ++ flat_map (link k) more
+    ++ codes " [color=\"#e5484d\", penwidth=2];\n"
 
 -- the edges of a chain, and then its nodes, are marked
 abbrev pub chain_lines : ℕ → List ℕ → List ℕ
 chain_lines k [] = []
-chain_lines k (i ∷ chain) =
-    indent ++ node k i ++ flat_map (λ j. codes " -> " ++ node k j) chain ++ marked
-    ++ flat_map (λ j. indent ++ node k j ++ marked) (i ∷ chain)
+chain_lines k (i ∷ chain) = path_line k i chain ++ flat_map (λ j. path_line k j []) (i ∷ chain)
 
 -- The text draws block k by a rule of memory: a node for each operation as it stands in the block, an edge for each nearest pair, and a longest
 -- chain of delays.

@@ -1,6 +1,5 @@
 //! The text that draws blocks, in the language of Graphviz.
-ghost use Rattle.std.specs.Prelude.{◌≡◌, ◌++◌, List, ℕ, length, OnOk, codes};
-ghost use Rattle.std.specs.Fmt.{decimal};
+ghost use Rattle.std.specs.Prelude.{◌≡◌, [], ◌++◌, List, ℕ, length, OnOk};
 ghost use Rattle.std.specs.List.{flat_map};
 ghost use Rattle.std.specs.Option.{option_copied};
 ghost use Rattle.iloc_rules.specs.Renaming.{renamed, without_nops};
@@ -8,8 +7,10 @@ ghost use Rattle.iloc_graph.specs.Listing as listed;
 ghost use Rattle.iloc_graph.specs.Listing.{IsCluster};
 
 use crate::nearest::nearest_pairs;
+use Piece::{Number, Operation, Text};
 use iloc_explain::{Counted, longest_chain};
-use iloc_ops::{Block, Name, NoMemory, Op, push_number, push_op};
+use iloc_ops::{Block, Name, NoMemory, Op};
+use iloc_pieces::{Piece, push_all};
 use iloc_rules::Pair;
 use iloc_sched::Graph;
 use iloc_timed::Kind;
@@ -19,17 +20,19 @@ use std::alloc::Global;
 pub fn push_opening(text: &mut Vec<u8>) -> Result<(), NoMemory>
     ensures { OnOk result (text.new.items ≡ text.old.items ++ listed.opening) }
 {
-    text.extend_from_slice(b"strict digraph blocks {\n")?;
-    text.extend_from_slice(
-        b"    bgcolor=\"transparent\"; fontname=\"monospace\"; fontcolor=\"#59636e\"; color=\"#7d8590\";\n",
-    )?;
-    text.extend_from_slice(
-        b"    node [shape=box, style=\"filled,rounded\", fontname=\"monospace\", fontcolor=\"#0b0f14\", color=\"transparent\"];\n",
-    )?;
-    text.extend_from_slice(
-        b"    edge [fontname=\"monospace\", fontcolor=\"#59636e\", color=\"#7d8590\"];\n",
-    )?;
-    Ok(())
+    push_all(
+        text,
+        &[
+            Text("strict digraph blocks {\n"),
+            Text(
+                "    bgcolor=\"transparent\"; fontname=\"monospace\"; fontcolor=\"#59636e\"; color=\"#7d8590\";\n",
+            ),
+            Text(
+                "    node [shape=box, style=\"filled,rounded\", fontname=\"monospace\", fontcolor=\"#0b0f14\", color=\"transparent\"];\n",
+            ),
+            Text("    edge [fontname=\"monospace\", fontcolor=\"#59636e\", color=\"#7d8590\"];\n"),
+        ],
+    )
 }
 
 /// Promise: Appends what comes after the last block.
@@ -39,24 +42,16 @@ pub fn push_closing(text: &mut Vec<u8>) -> Result<(), NoMemory>
     Ok(text.extend_from_slice(b"}\n")?)
 }
 
-/// Appends words and a number.
-fn push_numbered(text: &mut Vec<u8>, words: &[u8], number: u64) -> Result<(), NoMemory>
-    ensures { OnOk result (text.new.items ≡ text.old.items ++ words.now ++ decimal number) }
-{
-    text.extend_from_slice(words)?;
-    push_number(text, number)
-}
-
 /// The colour of the box of an operation of this kind.
-fn colour(kind: Kind) -> &'static [u8]
+fn colour(kind: Kind) -> &'static str
     ensures { result.now ≡ listed.colour kind }
 {
     match kind {
-        Kind::Load => b"#6cb6ff",
-        Kind::Store => b"#b392f0",
-        Kind::Mult => b"#f0a35e",
-        Kind::Output => b"#6fce7c",
-        Kind::Other => b"#b9c0c8",
+        Kind::Load => "#6cb6ff",
+        Kind::Store => "#b392f0",
+        Kind::Mult => "#f0a35e",
+        Kind::Output => "#6fce7c",
+        Kind::Other => "#b9c0c8",
     }
 }
 
@@ -80,41 +75,31 @@ fn push_name(text: &mut Vec<u8>, name: Option<&Name>) -> Result<(), NoMemory>
 {
     match name {
         Some(name) => push_escaped(text, name.as_str().as_bytes()),
-        None => Ok(text.extend_from_slice(b"-")?),
+        None => Ok(text.push(b'-')?),
     }
 }
 
-/// Appends the lines before the operations of a block.
+/// Appends the lines before the operations of block `number`.
 fn push_head(text: &mut Vec<u8>, number: usize, name: Option<&Name>) -> Result<(), NoMemory>
     ensures { OnOk result
         (text.new.items ≡ text.old.items ++ listed.head_lines number (option_copied name.entry)) }
 {
-    push_numbered(text, b"    subgraph cluster_", number as u64)?;
-    push_numbered(text, b" {\n        label=\"block ", number as u64)?;
-    text.extend_from_slice(b" ")?;
+    let block = Number(number as u64);
+    push_all(
+        text,
+        &[
+            Text("    subgraph cluster_"),
+            block,
+            Text(" {\n        label=\"block "),
+            block,
+            Text(" "),
+        ],
+    )?;
     push_name(text, name)?;
     Ok(text.extend_from_slice(b"\";\n")?)
 }
 
-/// Appends the node of operation i of the block with this number.
-fn push_node(text: &mut Vec<u8>, number: usize, i: usize) -> Result<(), NoMemory>
-    ensures { OnOk result (text.new.items ≡ text.old.items ++ listed.node number i) }
-{
-    push_numbered(text, b"b", number as u64)?;
-    push_numbered(text, b"_", i as u64)
-}
-
-/// Appends the end of the line of an operation of this kind.
-fn push_fill(text: &mut Vec<u8>, kind: Kind) -> Result<(), NoMemory>
-    ensures { OnOk result (text.new.items
-        ≡ text.old.items ++ codes "\", fillcolor=\"" ++ listed.colour kind ++ codes "\"];\n") }
-{
-    text.extend_from_slice(b"\", fillcolor=\"")?;
-    text.extend_from_slice(colour(kind))?;
-    Ok(text.extend_from_slice(b"\"];\n")?)
-}
-
-/// Appends the line of operation i of the block with this number.
+/// Appends the line of operation `i` of block `number`.
 fn push_operation(
     text: &mut Vec<u8>,
     number: usize,
@@ -124,13 +109,25 @@ fn push_operation(
 ) -> Result<(), NoMemory>
     ensures { OnOk result (text.new.items ≡ text.old.items ++ listed.node_line number i op.now priority) }
 {
-    text.extend_from_slice(b"        ")?;
-    push_node(text, number, i)?;
-    push_numbered(text, b" [label=\"", i as u64)?;
-    text.extend_from_slice(b": ")?;
-    push_op(text, op)?;
-    push_numbered(text, b"\\npriority ", priority)?;
-    push_fill(text, Kind::of(op))
+    let (block, i) = (Number(number as u64), Number(i as u64));
+    push_all(
+        text,
+        &[
+            Text("        b"),
+            block,
+            Text("_"),
+            i,
+            Text(" [label=\""),
+            i,
+            Text(": "),
+            Operation(*op),
+            Text("\\npriority "),
+            Number(priority),
+            Text("\", fillcolor=\""),
+            Text(colour(Kind::of(op))),
+            Text("\"];\n"),
+        ],
+    )
 }
 
 /// Appends the lines of all operations of a block that are no `nop`.
@@ -157,56 +154,59 @@ fn push_operations(
     Ok(())
 }
 
-/// Appends the line of an edge.
-fn push_edge(text: &mut Vec<u8>, number: usize, pair: &Pair) -> Result<(), NoMemory>
-    ensures { OnOk result (text.new.items ≡ text.old.items ++ listed.edge_line number pair.now) }
-{
-    text.extend_from_slice(b"        ")?;
-    push_node(text, number, pair.first)?;
-    text.extend_from_slice(b" -> ")?;
-    push_node(text, number, pair.second)?;
-    push_numbered(text, b" [label=\"", pair.delay)?;
-    Ok(text.extend_from_slice(b"\"];\n")?)
-}
-
 /// Appends the lines of all edges.
 fn push_edges(text: &mut Vec<u8>, number: usize, pairs: &[Pair]) -> Result<(), NoMemory>
     ensures { OnOk result (text.new.items ≡ text.old.items ++ flat_map (listed.edge_line number) pairs.now) }
 {
     for pair in pairs {
-        push_edge(text, number, pair)?;
+        let block = Number(number as u64);
+        push_all(
+            text,
+            &[
+                Text("        b"),
+                block,
+                Text("_"),
+                Number(pair.first as u64),
+                Text(" -> b"),
+                block,
+                Text("_"),
+                Number(pair.second as u64),
+                Text(" [label=\""),
+                Number(pair.delay),
+                Text("\"];\n"),
+            ],
+        )?;
     }
     Ok(())
 }
 
 /// Appends each node of `chain`, as the end of an edge.
 fn push_links(text: &mut Vec<u8>, number: usize, chain: &[usize]) -> Result<(), NoMemory>
-    ensures { OnOk result (text.new.items
-        ≡ text.old.items ++ flat_map (λ j. codes " -> " ++ listed.node number j) chain.now) }
+    ensures { OnOk result (text.new.items ≡ text.old.items ++ flat_map (listed.link number) chain.now) }
 {
     for i in chain {
-        text.extend_from_slice(b" -> ")?;
-        push_node(text, number, *i)?;
+        let (block, i) = (Number(number as u64), Number(*i as u64));
+        push_all(text, &[Text(" -> b"), block, Text("_"), i])?;
     }
     Ok(())
 }
 
-/// Appends what is said of nodes and edges of the longest chain.
-fn push_mark(text: &mut Vec<u8>) -> Result<(), NoMemory>
-    ensures { OnOk result (text.new.items ≡ text.old.items ++ listed.marked) }
+/// Appends the line that marks operation `first` or, where `rest` isn't empty, the edges from it along `rest`.
+fn push_path(text: &mut Vec<u8>, number: usize, first: usize, rest: &[usize]) -> Result<(), NoMemory>
+    ensures { OnOk result (text.new.items ≡ text.old.items ++ listed.path_line number first rest.now) }
 {
+    let (block, i) = (Number(number as u64), Number(first as u64));
+    push_all(text, &[Text("        b"), block, Text("_"), i])?;
+    push_links(text, number, rest)?;
     Ok(text.extend_from_slice(b" [color=\"#e5484d\", penwidth=2];\n")?)
 }
 
 /// Appends the lines that mark the nodes of `chain`.
 fn push_marked(text: &mut Vec<u8>, number: usize, chain: &[usize]) -> Result<(), NoMemory>
-    ensures { OnOk result (text.new.items ≡ text.old.items
-        ++ flat_map (λ j. listed.indent ++ listed.node number j ++ listed.marked) chain.now) }
+    ensures { OnOk result (text.new.items ≡ text.old.items ++ flat_map (λ j. listed.path_line number j []) chain.now) }
 {
     for i in chain {
-        text.extend_from_slice(b"        ")?;
-        push_node(text, number, *i)?;
-        push_mark(text)?;
+        push_path(text, number, *i, &[])?;
     }
     Ok(())
 }
@@ -218,18 +218,15 @@ fn push_chain(text: &mut Vec<u8>, number: usize, chain: &[usize]) -> Result<(), 
     match chain {
         [] => Ok(()),
         [first, rest @ ..] => {
-            text.extend_from_slice(b"        ")?;
-            push_node(text, number, *first)?;
-            push_links(text, number, rest)?;
-            push_mark(text)?;
+            push_path(text, number, *first, rest)?;
             push_marked(text, number, chain)
         }
     }
 }
 
-/// Appends what draws the block of this graph by its rule of memory, whose number is counted from 1: a cluster with a node for each operation, an edge for
-/// each nearest pair, labelled with its delay, and a longest chain of delays, which is marked. Where an allocation fails a
-/// part of it may follow the text.
+/// Appends what draws the block of `graph` by its rule of memory, whose `number` is counted from 1: a cluster with a node for
+/// each operation, an edge for each nearest pair, labelled with its delay, and a longest chain of delays, which is marked.
+/// After a refusal of memory a part of it may have been appended.
 ///
 /// Promise: What is appended is a text that draws the block.
 pub fn push_cluster(

@@ -1,0 +1,6 @@
+use Rattle.iloc_graph.proofs.Common.{append_assoc}
+use Rattle.iloc_graph.proofs.cluster.push_path.Goals as goal
+
+pub returns : goal.returns
+returns c =
+    rw (c.in_ok-extend_from_slice.ensures.items, c.in_ok-push_links.ensures, c.in_ok-push_all.ensures) (simp append_assoc)
