@@ -1,5 +1,6 @@
 """The dependence graph of blocks as `graph` prints it for Graphviz: the nearest delays, and a longest chain of all."""
 from listing import CHAIN, COLOURS
+from oracle.scheduler import memory_delays
 
 OPENING = """strict digraph blocks {
     bgcolor="transparent"; fontname="monospace"; fontcolor="#59636e"; color="#7d8590";
@@ -9,26 +10,39 @@ MARKED = f' [color="{CHAIN}", penwidth=2];'
 
 
 def nearest_pairs(schedule):
-    """Of each two operations the longest delay, unless it is one by memory or outputs and an operation between takes
-    the first one's place for the second."""
+    """Of each two operations between which an edge is drawn the longest delay."""
     longest = {}
     for i, j, d in schedule.pairs:
         longest[i, j] = max(d, longest.get((i, j), 0))
     for (i, j), d in sorted(longest.items(), key=lambda entry: (entry[0][1], entry[0][0])):
-        uses = any(register in schedule.ops[j].used for register in schedule.ops[i].defined)
-        if uses or not any(takes_over(schedule, i, k, j) for k in range(i + 1, j)):
+        if uses(schedule, i, j) or (is_near(schedule, i, j) and not has_passed(schedule, i, j)):
             yield i, j, d
 
 
-def takes_over(schedule, i, k, j):
-    """By the book an output takes an output's place, a store any other's. By addresses an output takes an output's for
-    an output, and a store any other's if it counts with both."""
-    first, kind, second = (schedule.ops[n].kind for n in (i, k, j))
-    if schedule.is_by_the_book:
-        return kind == ("output" if first == "output" else "store")
+def uses(schedule, i, j):
+    return any(register in schedule.ops[j].used for register in schedule.ops[i].defined)
+
+
+def waits(schedule, i, j):
+    """Whether operation j has to come after operation i by memory or outputs."""
+    return bool(memory_delays(schedule.ops[i], schedule.ops[j], schedule.latencies, schedule.count(i, j)))
+
+
+def is_near(schedule, i, j):
+    """Whether it uses i's result, or has to come after i with none between that takes i's place: an output between two
+    outputs, else a store that has to come after i and before j."""
+    first, second = schedule.ops[i].kind, schedule.ops[j].kind
     if first == second == "output":
-        return kind == "output"
-    return kind == "store" and schedule.count(i, k) and schedule.count(k, j)
+        taken = any(schedule.ops[k].kind == "output" for k in range(i + 1, j))
+    else:
+        taken = any(schedule.ops[k].kind == "store" and waits(schedule, i, k) and waits(schedule, k, j)
+                    for k in range(i + 1, j))
+    return uses(schedule, i, j) or (waits(schedule, i, j) and not taken)
+
+
+def has_passed(schedule, i, j):
+    """Whether another that is near to j has to come after i."""
+    return any(waits(schedule, i, k) and is_near(schedule, k, j) for k in range(i + 1, j))
 
 
 def cluster(number, name, schedule):

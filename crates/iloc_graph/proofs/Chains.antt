@@ -1,7 +1,7 @@
 -- A longest chain of delays runs along nearest pairs: where it went by way of an operation between, that would come first.
 use Rattle.iloc_graph.proofs.Common.{◌≡◌, ℕ, ◌+◌, ◌<◌, ◌≤◌, List, [], ◌∷◌, Contains, inl, inr, arith, Op, op_at, Latencies, fold_max_each, in_from, delays_where, counts_by, MemoryRule, Continues, IsChainFrom, IsNext, chain_by, ChainsRunAlongNearestPairs, RunsAlong, longest_delay, nearest_pairs}
 use Rattle.iloc_explain.proofs.ChainLengths.{is_chain}
-use Rattle.iloc_graph.proofs.Waiting.{in_nearest, near_or_by_way, nearest, nearest_is_delay}
+use Rattle.iloc_graph.proofs.Waiting.{drawn_or_by_way, in_nearest, nearest_is_delay}
 
 module _ (rule : MemoryRule) (lat : Latencies) (ops : List Op) where
   -- what continues a chain first does so by a nearest pair
@@ -11,11 +11,11 @@ module _ (rule : MemoryRule) (lat : Latencies) (ops : List Op) where
   next_near i j next =
       let goes : Continues rule lat ops i j = next.continues in
       let sum : chain_by rule lat ops i ≡ goes.delay + chain_by rule lat ops j = goes.sum in
-      elim (near_or_by_way rule lat ops i j goes.delay goes.pair) [
+      elim (drawn_or_by_way rule lat ops i j goes.delay goes.pair) [
         | inl near ↦
             let d : ℕ = longest_delay (counts_by rule ops i j) lat (op_at ops i) (op_at ops j) in
             let there : Contains (nearest_pairs rule lat ops) (record { first = i; second = j; delay = d }) =
-            in_nearest rule lat ops i j goes.pair.order goes.pair.within (nearest rule lat ops i j goes.delay near) in
+            in_nearest rule lat ops i j goes.pair.within near in
             let most : goes.delay ≤ d =
             fold_max_each 0 (delays_where (counts_by rule ops i j) lat (op_at ops i) (op_at ops j)) goes.delay
             (in_from (delays_where (counts_by rule ops i j) lat (op_at ops i) (op_at ops j)) goes.delay goes.pair.delay) in

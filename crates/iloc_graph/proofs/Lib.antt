@@ -1,5 +1,6 @@
 pub mod Common
 pub mod Lists
+pub mod Passed
 pub mod Pairs
 pub mod Waiting
 pub mod Sources

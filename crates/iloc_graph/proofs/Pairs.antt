@@ -1,5 +1,5 @@
 -- The nearest pairs, operation by operation.
-use Rattle.iloc_graph.proofs.Common.{◌≡◌, ℕ, zero, suc, ◌+◌, ◌<◌, List, [], ◌∷◌, ◌++◌, map, length, get_or, take, sym, ap, ◌∙◌, append_assoc, append-nil, add-one, arith, map-append, take_more, flat_map, range_with_len, Op, op_at, Latencies, counts_by, Pair, MemoryRule, longest_delay, nearest_to, pair_of, sources}
+use Rattle.iloc_graph.proofs.Common.{◌≡◌, ℕ, zero, suc, ◌+◌, List, [], ◌∷◌, ◌++◌, map, sym, ap, ◌∙◌, append_assoc, append-nil, add-one, arith, false, flat_map, range_with_len, Op, op_at, Latencies, counts_by, Pair, MemoryRule, is_passed, longest_delay, nearest_to, pair_of, sources, unpassed}
 use Rattle.std.proofs.lemmas.List.Concat.{flat_map-append}
 
 -- one number more
@@ -23,19 +23,12 @@ one_more rule lat ops n pairs more found so_far are added =
 abbrev pair : ℕ → ℕ → ℕ → Pair
 pair i j d = record { first = i; second = j; delay = d }
 
--- one more of the pairs to an operation
-pub pair_added : (rule : MemoryRule) (lat : Latencies) (ops : List Op) (j : ℕ) (sources : List ℕ) (k : ℕ) (first all more : List Pair)
-    (a b : Op) (d : ℕ) → k < length sources → all ≡ first ++ map (pair_of rule lat ops j) (take k sources)
-    → a ≡ op_at ops (get_or sources k 0) → b ≡ op_at ops j → d ≡ longest_delay (counts_by rule ops (get_or sources k 0) j) lat a b
-    → more ≡ all ++ pair (get_or sources k 0) j d ∷ [] → more ≡ first ++ map (pair_of rule lat ops j) (take (k + 1) sources)
-pair_added rule lat ops j sources k first all more a b d within so_far from to is added =
-    let i : ℕ = get_or sources k 0 in
+-- one more of the near operations, from which a pair leads
+pub pair_added : (rule : MemoryRule) (lat : Latencies) (ops : List Op) (j i : ℕ) (later : List ℕ) (all more : List Pair) (a b : Op) (d : ℕ)
+    → is_passed rule ops i later ≡ false → a ≡ op_at ops i → b ≡ op_at ops j
+    → d ≡ longest_delay (counts_by rule ops i j) lat a b → more ≡ all ++ pair i j d ∷ []
+    → more ++ map (pair_of rule lat ops j) (unpassed rule ops later) ≡ all ++ map (pair_of rule lat ops j) (unpassed rule ops (i ∷ later))
+pair_added rule lat ops j i later all more a b d free from to is added =
     let long : d ≡ longest_delay (counts_by rule ops i j) lat (op_at ops i) (op_at ops j) =
     is ∙ (ap (λ x. longest_delay (counts_by rule ops i j) lat x b) from ∙ ap (longest_delay (counts_by rule ops i j) lat (op_at ops i)) to) in
-    let whole : map (pair_of rule lat ops j) (take (k + 1) sources)
-    ≡ map (pair_of rule lat ops j) (take k sources) ++ pair_of rule lat ops j i ∷ [] =
-    ap (map (pair_of rule lat ops j)) (take_more sources k 0 within)
-    ∙ map-append (pair_of rule lat ops j) (take k sources) (i ∷ []) in
-    added ∙ (ap (λ e. all ++ pair i j e ∷ []) long ∙ (ap (λ ps. ps ++ pair_of rule lat ops j i ∷ []) so_far
-    ∙ (append_assoc first (map (pair_of rule lat ops j) (take k sources)) (pair_of rule lat ops j i ∷ [])
-    ∙ sym (ap (λ ps. first ++ ps) whole))))
+    rw (free, added, long) (append_assoc all (pair_of rule lat ops j i ∷ []) (map (pair_of rule lat ops j) (unpassed rule ops later)))

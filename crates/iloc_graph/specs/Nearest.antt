@@ -1,10 +1,11 @@
--- The delay pairs that are drawn: all others follow from them, and some of them may follow too.
-use Rattle.std.specs.Prelude.{ℕ, ◌+◌, ◌-◌, max, ◌||◌, ◌&&◌, not, Bool, List, map, filter, fold, length}
+-- The delay pairs that are drawn: all others follow from them.
+use Rattle.std.specs.Prelude.{ℕ, ◌+◌, ◌-◌, max, ◌||◌, ◌&&◌, not, if◌then◌else◌, Bool, List, [], ◌∷◌, map, filter, fold, length}
 use Rattle.std.specs.List.{flat_map, list_any, range_with_len}
 use Rattle.iloc_ops.specs.declared.op.Op.{Op}
 use Rattle.iloc_meaning.specs.Trace.{op_at}
 use Rattle.iloc_timed.specs.declared.latencies.Latencies.{Latencies}
-use Rattle.iloc_timed.specs.Kinds.{kind}
+use Rattle.iloc_timed.specs.declared.kind.Kind.{Kind}
+use Rattle.iloc_timed.specs.Kinds.{is_output, is_store, kind}
 use Rattle.iloc_rules.specs.declared.delay_pairs.Pair.{Pair}
 use Rattle.iloc_rules.specs.declared.memory_rule.MemoryRule.{MemoryRule}
 use Rattle.iloc_rules.specs.declared.memory_rule.MemoryRule.TheVariants.{Book, Address}
@@ -23,20 +24,37 @@ takes_over_by Address ops i j k = takes_over_where (by_address ops) ops i j k
 abbrev pub is_taken_over : MemoryRule → List Op → ℕ → ℕ → Bool
 is_taken_over rule ops i j = list_any (takes_over_by rule ops i j) (range_with_len (i + 1) (j - (i + 1)))
 
--- whether the second has to come after the first by memory or outputs, given whether the two count
-abbrev pub is_ordered : Bool → Op → Op → Bool
-is_ordered counts i j = (counts && reads_stored (kind i) (kind j)) || keeps_order_where counts (kind i) (kind j)
+-- whether the second has to come after the first by memory or outputs, by their kinds, given whether the two count
+abbrev pub is_ordered : Bool → Kind → Kind → Bool
+is_ordered counts i j = (counts && reads_stored i j) || keeps_order_where counts i j
+
+-- whether operation j has to come after operation i so
+abbrev pub comes_after : MemoryRule → List Op → ℕ → ℕ → Bool
+comes_after rule ops j i = is_ordered (counts_by rule ops i j) (kind (op_at ops i)) (kind (op_at ops j))
 
 -- whether operation j uses the result of operation i, or comes after it by memory or outputs with none between that takes
 -- its place
-abbrev pub is_nearest : MemoryRule → List Op → ℕ → ℕ → Bool
-is_nearest rule ops j i =
-    uses_result (op_at ops i) (op_at ops j)
-    || (is_ordered (counts_by rule ops i j) (op_at ops i) (op_at ops j) && not (is_taken_over rule ops i j))
+abbrev pub is_near : MemoryRule → List Op → ℕ → ℕ → Bool
+is_near rule ops j i =
+    uses_result (op_at ops i) (op_at ops j) || (comes_after rule ops j i && not (is_taken_over rule ops i j))
 
--- the earlier operations for which operation j waits so, by rising number
+-- the earlier operations that are near to operation j, by rising number
+abbrev pub near_to : MemoryRule → List Op → ℕ → List ℕ
+near_to rule ops j = filter (is_near rule ops j) (range_with_len 0 j)
+
+-- whether operation i is a store or an output, and one of `later` has to come after it
+abbrev pub is_passed : MemoryRule → List Op → ℕ → List ℕ → Bool
+is_passed rule ops i later =
+    (is_store (kind (op_at ops i)) || is_output (kind (op_at ops i))) && list_any (λ k. comes_after rule ops k i) later
+
+-- those of a rising list that none after them in it passes
+abbrev pub unpassed : MemoryRule → List Op → List ℕ → List ℕ
+unpassed rule ops [] = []
+unpassed rule ops (i ∷ later) = if is_passed rule ops i later then unpassed rule ops later else i ∷ unpassed rule ops later
+
+-- the operations from which an edge leads to operation j, by rising number
 abbrev pub sources : MemoryRule → List Op → ℕ → List ℕ
-sources rule ops j = filter (is_nearest rule ops j) (range_with_len 0 j)
+sources rule ops j = unpassed rule ops (near_to rule ops j)
 
 -- the longest delay that the first puts on the second, given whether the two count, 0 where there is none
 abbrev pub longest_delay : Bool → Latencies → Op → Op → ℕ

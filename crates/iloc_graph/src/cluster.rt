@@ -192,7 +192,12 @@ fn push_links(text: &mut Vec<u8>, number: usize, chain: &[usize]) -> Result<(), 
 }
 
 /// Appends the line that marks operation `first` or, where `rest` isn't empty, the edges from it along `rest`.
-fn push_path(text: &mut Vec<u8>, number: usize, first: usize, rest: &[usize]) -> Result<(), NoMemory>
+fn push_path(
+    text: &mut Vec<u8>,
+    number: usize,
+    first: usize,
+    rest: &[usize],
+) -> Result<(), NoMemory>
     ensures { OnOk result (text.new.items ≡ text.old.items ++ listed.path_line number first rest.now) }
 {
     let (block, i) = (Number(number as u64), Number(first as u64));

@@ -1,22 +1,22 @@
-//! The delay pairs that no others imply.
+//! The delay pairs that are drawn.
 ghost use Rattle.std.specs.Prelude.{ℕ, ◌≡◌, ◌++◌, ◌<◌, length, map, slice_index, IfOk, OnOk};
 ghost use Rattle.iloc_meaning.specs.Trace.{op_at};
 ghost use Rattle.iloc_rules.specs.Rule.{counts_by};
 ghost use Rattle.iloc_explain.specs.Counted.{IsKnownOf};
 ghost use Rattle.iloc_graph.specs.Nearest as near;
-ghost use Rattle.iloc_graph.specs.Nearest.{pair_of};
+ghost use Rattle.iloc_graph.specs.Nearest.{pair_of, unpassed};
 
 use iloc_explain::{Counted, has_delay};
 use iloc_ops::{NoMemory, Op};
 use iloc_rules::Pair;
 use iloc_sched::Graph;
-use iloc_timed::{Latencies, latency};
+use iloc_timed::{Kind, Latencies, latency};
 use std::alloc::Global;
 
-/// The operations from which nearest pairs lead to operation j, by rising number.
-fn sources(alloc: Global, graph: &Graph, j: usize) -> Result<Vec<usize>, NoMemory>
+/// The operations that are near to operation `j`, by rising number.
+fn near_to(alloc: Global, graph: &Graph, j: usize) -> Result<Vec<usize>, NoMemory>
     requires { j < length graph.now.ops }
-    ensures { IfOk result (λ found. found.items ≡ near.sources graph.now.rule graph.now.ops j) }
+    ensures { IfOk result (λ found. found.items ≡ near.near_to graph.now.rule graph.now.ops j) }
 {
     let mut found = Vec::new(alloc);
     for edge in graph.edges_into(j) {
@@ -45,36 +45,64 @@ fn longest_delay(ops: &[Op], latencies: &Latencies, counted: &Counted, i: usize,
     }
 }
 
-/// Appends the pair of each of `sources` with the later operation `second`.
+/// Whether operation `i` is a store or an output, and one of `later` has to come after it.
+fn is_passed(
+    ops: &[Op],
+    latencies: &Latencies,
+    counted: &Counted,
+    i: usize,
+    later: &[usize],
+) -> bool
+    requires counted { IsKnownOf ops.now counted.now }
+    requires first { i < length ops.now }
+    requires within { (k : ℕ) → k < length later.now → slice_index later.now k < length ops.now }
+    ensures { result ≡ near.is_passed counted.now.rule ops.now i later.now }
+{
+    if !matches!(Kind::of(&ops[i]), Kind::Store | Kind::Output) {
+        return false;
+    }
+    for k in later {
+        if longest_delay(ops, latencies, counted, i, *k) > 0 {
+            return true;
+        }
+    }
+    false
+}
+
+/// Appends the pair of each of `near` that none of the later ones passes with the later operation `second`.
 fn push_pairs(
     pairs: &mut Vec<Pair>,
     ops: &[Op],
     latencies: &Latencies,
     counted: &Counted,
-    sources: &[usize],
+    near: &[usize],
     second: usize,
 ) -> Result<(), NoMemory>
     requires counted { IsKnownOf ops.now counted.now }
     requires there { second < length ops.now }
-    requires earlier { (k : ℕ) → k < length sources.now → slice_index sources.now k < second }
-    ensures { OnOk result (pairs.new.items
-        ≡ pairs.old.items ++ map (pair_of counted.now.rule latencies.now ops.now second) sources.now) }
+    requires earlier { (k : ℕ) → k < length near.now → slice_index near.now k < second }
+    ensures { OnOk result (pairs.new.items ≡ pairs.old.items
+        ++ map (pair_of counted.now.rule latencies.now ops.now second) (unpassed counted.now.rule ops.now near.now)) }
 {
-    for first in sources {
-        pairs.push(Pair {
-            first: *first,
-            second,
-            delay: longest_delay(ops, latencies, counted, *first, second),
-        })?;
+    for (place, first) in near.iter().enumerate() {
+        if !is_passed(ops, latencies, counted, *first, &near[place + 1..]) {
+            let delay = longest_delay(ops, latencies, counted, *first, second);
+            let first = *first;
+            pairs.push(Pair {
+                first,
+                second,
+                delay,
+            })?;
+        }
     }
     Ok(())
 }
 
-/// The delay pairs of the operations of `graph` that no others imply, in order of the later operation, then of the
-/// earlier one: from each result to its uses, from a store to the loads and outputs after it and to the next store,
-/// from a load to the next store, and from an output to the next output and to the stores up to it; by address only
-/// between operations that may meet. Of two operations it has the longest delay alone. It takes time of order n log n
-/// in the number of operations and of edges.
+/// The delay pairs of the operations of `graph` that are drawn, in order of the later operation, then of the earlier one:
+/// from each result to its uses, and by memory and outputs from each operation that is near to the later one, but for a
+/// store or an output after which another of these has to come. Of two operations it has the longest delay alone. It takes
+/// time of order n log n in the number of operations and of edges: an operation has one store before it that is near, and
+/// from an output the search ends at the next.
 ///
 /// Promise: The pairs are just the nearest ones, each once, in that order.
 pub(crate) fn nearest_pairs(
@@ -90,8 +118,8 @@ pub(crate) fn nearest_pairs(
     let (ops, latencies) = (graph.ops(), graph.latencies());
     let mut pairs = Vec::new(alloc);
     for second in 0..ops.len() {
-        let sources = sources(alloc, graph, second)?;
-        push_pairs(&mut pairs, ops, latencies, counted, &sources, second)?;
+        let near = near_to(alloc, graph, second)?;
+        push_pairs(&mut pairs, ops, latencies, counted, &near, second)?;
     }
     Ok(pairs)
 }

@@ -1,6 +1,7 @@
-use Rattle.iloc_graph.proofs.Common.{◌≡◌, ◌++◌, map, take, pair_of}
+use Rattle.iloc_graph.proofs.Common.{◌≡◌, ◌++◌, drop, map, pair_of, unpassed}
 use Rattle.iloc_graph.proofs.nearest.push_pairs.Given as goal
 
-abbrev pub invariant-loop-first : goal.invariant-loop-first
-invariant-loop-first l =
-    l.pairs.items ≡ l.initial.pairs.items ++ map (pair_of l.counted.rule l.latencies l.ops l.second) (take l.first-index l.sources)
+abbrev pub invariant-loop-place : goal.invariant-loop-place
+invariant-loop-place l =
+    l.pairs.items ++ map (pair_of l.counted.rule l.latencies l.ops l.second) (unpassed l.counted.rule l.ops (drop l.place l.near))
+    ≡ l.initial.pairs.items ++ map (pair_of l.counted.rule l.latencies l.ops l.second) (unpassed l.counted.rule l.ops l.near)

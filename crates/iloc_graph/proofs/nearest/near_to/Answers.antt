@@ -5,7 +5,7 @@ use Rattle.std.specs.List.Sorted.{IsPermutation, IsSorted}
 use Rattle.std.specs.Ordering.{nat_cmp}
 use Rattle.std.proofs.lemmas.List.Sorted.{Contains-permutation, IsPermutation-sym}
 use Rattle.std.proofs.lemmas.Map.Keys.{IsStrictlyIncreasing-dedup}
-use Rattle.iloc_graph.proofs.nearest.sources.Goals as goal
+use Rattle.iloc_graph.proofs.nearest.near_to.Goals as goal
 
 -- What sorting and striking out what is there twice leave of a list.
 in_order : (listed sorted kept : List ℕ) → IsPermutation listed sorted → IsSorted nat_cmp sorted

@@ -1,0 +1,5 @@
+use Rattle.iloc_graph.proofs.Common.{◌≡◌, false, list_any, take, comes_after}
+use Rattle.iloc_graph.proofs.nearest.is_passed.Given as goal
+
+abbrev pub invariant-loop-k : goal.invariant-loop-k
+invariant-loop-k l = list_any (λ k. comes_after l.counted.rule l.ops k l.i) (take l.k-index l.later) ≡ false
