@@ -1,5 +1,6 @@
 -- A longest chain of delays runs along nearest pairs: where it went by way of an operation between, that would come first.
-use Rattle.iloc_graph.proofs.Common.{◌≡◌, ℕ, ◌+◌, ◌<◌, ◌≤◌, List, [], ◌∷◌, Contains, inl, inr, arith, Op, op_at, Latencies, fold_max_each, in_from, delays_where, counts_by, MemoryRule, Continues, IsChainFrom, IsNext, chain_by, ChainsRunAlongNearestPairs, RunsAlong, longest_delay, nearest_pairs}
+use Rattle.iloc_graph.proofs.Common.{◌≡◌, ℕ, ◌+◌, ◌<◌, ◌≤◌, List, [], ◌∷◌, Contains, inl, inr, arith, Op, op_at, Latencies, fold_max_each, in_from, delays_where, counts_by, MemoryRule}
+use Rattle.iloc_graph.proofs.Common.{Continues, IsChainFrom, IsNext, chain_by, ChainsRunAlongNearestPairs, RunsAlong, longest_delay, nearest_pairs}
 use Rattle.iloc_explain.proofs.ChainLengths.{is_chain}
 use Rattle.iloc_graph.proofs.Waiting.{drawn_or_by_way, in_nearest, nearest_is_delay}
 

@@ -1,5 +1,6 @@
 -- Members of joined lists, and rising lists; for the other proofs.
-use Rattle.iloc_graph.proofs.Common.{◌≡◌, ℕ, suc, ◌<◌, Bool, false, List, [], ◌∷◌, length, get_or, Contains, sym, refl, subst, inl, inr, arith, AllPairs, flat_map, list_any, contains_from, from_append, in_left, in_right, Rises, In}
+use Rattle.iloc_graph.proofs.Common.{◌≡◌, ℕ, suc, ◌<◌, Bool, false, List, [], ◌∷◌, length, get_or, Contains, sym, refl, subst, inl, inr, arith, AllPairs, flat_map, list_any, contains_from}
+use Rattle.iloc_graph.proofs.Common.{from_append, in_left, in_right, Rises, In}
 
 pub in_flat_map : {X Y : Type 0} (f : X → List Y) (xs : List X) (x : X) (y : Y) → In xs x → In (f x) y
     → In (flat_map f xs) y

@@ -1,5 +1,6 @@
 -- The nearest pairs, operation by operation.
-use Rattle.iloc_graph.proofs.Common.{◌≡◌, ℕ, zero, suc, ◌+◌, List, [], ◌∷◌, ◌++◌, map, sym, ap, ◌∙◌, append_assoc, append-nil, add-one, arith, false, flat_map, range_with_len, Op, op_at, Latencies, counts_by, Pair, MemoryRule, is_passed, longest_delay, nearest_to, pair_of, sources, unpassed}
+use Rattle.iloc_graph.proofs.Common.{◌≡◌, ℕ, zero, suc, ◌+◌, List, [], ◌∷◌, ◌++◌, map, sym, ap, ◌∙◌, append_assoc, append-nil, add-one, arith, false, flat_map, range_with_len, Op, op_at}
+use Rattle.iloc_graph.proofs.Common.{Latencies, counts_by, Pair, MemoryRule, is_passed, longest_delay, nearest_to, pair_of, sources, unpassed}
 use Rattle.std.proofs.lemmas.List.Concat.{flat_map-append}
 
 -- one number more

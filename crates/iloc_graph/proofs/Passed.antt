@@ -1,5 +1,7 @@
 -- A store or an output that a nearer operation passes is waited for by way of that one.
-use Rattle.iloc_graph.proofs.Common.{◌≡◌, ℕ, ◌+◌, ◌<◌, ◌≤◌, Bool, true, false, ◌&&◌, ◌||◌, ◌⊎◌, List, [], ◌∷◌, ◌++◌, refl, ap, ◌∙◌, subst, inl, inr, arith, and_parts, or_cases, list_any, Op, op_at, Latencies, from_any, from_append, in_left, in_right, from_when, in_when, keeps_order_where, reads_stored, uses_result, when, In, MemoryRule, Rises, comes_after, is_ordered, is_passed, unpassed}
+use Rattle.iloc_graph.proofs.Common.{◌≡◌, ℕ, ◌+◌, ◌<◌, ◌≤◌, Bool, true, false, ◌&&◌, ◌||◌, ◌⊎◌, List, [], ◌∷◌, ◌++◌, refl, ap, ◌∙◌, subst, inl, inr, arith, and_parts, or_cases, list_any, Op}
+use Rattle.iloc_graph.proofs.Common.{op_at, Latencies, from_any, from_append, in_left, in_right, from_when, in_when, keeps_order_where, reads_stored, uses_result, when, In, MemoryRule}
+use Rattle.iloc_graph.proofs.Common.{Rises, comes_after, is_ordered, is_passed, unpassed}
 use Rattle.std.specs.Prelude.{None}
 use Rattle.iloc_ops.specs.Registers.{defined, used}
 use Rattle.iloc_meaning.specs.Trace.{is_register}

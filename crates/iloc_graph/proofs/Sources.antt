@@ -1,5 +1,7 @@
 -- The operations from which kept edges lead to another, in order, are the near ones.
-use Rattle.iloc_graph.proofs.Common.{◌≡◌, ℕ, ◌+◌, ◌<◌, ◌≤◌, true, List, map, length, slice_index, All, Contains, Any, subst, arith, AllPairs-from_increasing, range_with_len, Op, op_at, Latencies, contains_from, from_filter, from_map, from_range, in_at, in_filter, in_from, in_map, in_range_from, rises_range, rises_same, delays_where, counts_by, In, MemoryRule, IsNearPairBy, Edge, is_near, near_to, IsInOrder}
+use Rattle.iloc_graph.proofs.Common.{◌≡◌, ℕ, ◌+◌, ◌<◌, ◌≤◌, true, List, map, length, slice_index, All, Contains, Any, subst, arith, AllPairs-from_increasing, range_with_len, Op, op_at}
+use Rattle.iloc_graph.proofs.Common.{Latencies, contains_from, from_filter, from_map, from_range, in_at, in_filter, in_from, in_map, in_range_from, rises_range, rises_same, delays_where}
+use Rattle.iloc_graph.proofs.Common.{counts_by, In, MemoryRule, IsNearPairBy, Edge, is_near, near_to, IsInOrder}
 use Rattle.iloc_rules.proofs.Basics.Ordered.{ordered_filter}
 use Rattle.iloc_graph.proofs.Lists.{rises_from}
 use Rattle.iloc_graph.proofs.Waiting.{delayed, near_by, near_under, near_is}

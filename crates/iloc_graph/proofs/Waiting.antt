@@ -1,5 +1,10 @@
 -- Rows that wait for the nearest pairs wait for all delays, and the other way round.
-use Rattle.iloc_graph.proofs.Common.{◌≡◌, ℕ, zero, suc, ◌+◌, ◌-◌, ◌<◌, ◌≤◌, Bool, true, false, not, ◌&&◌, ◌⊎◌, List, length, IsTrue, Contains, sym, refl, ap, ◌∙◌, subst, inl, inr, arith, and_from, and_parts, false_from_ne_true, false≢true, not-true, not_from_false, or_cases, or_left, or_right, range_with_len, Op, op_at, latency, Latencies, fold_max_each, fold_max_reached, any_at, contains_from, from_append, from_filter, from_map, from_range, in_filter, in_from, in_left, in_map, in_range_from, in_right, delay_at_least_where, from_when, in_when, IsDelayPairWhere, delays_where, keeps_order_where, memory_delays_where, reads_stored, uses_result, when, counts_by, In, Pair, MemoryRule, IsNearBy, NearestPairsImplyAll, WaitsForNearest, comes_after, is_near, is_ordered, is_taken_over, longest_delay, near_to, nearest_pairs, nearest_to, pair_of, sources, takes_over_by, ◌||◌, rises_range}
+use Rattle.iloc_graph.proofs.Common.{◌≡◌, ℕ, zero, suc, ◌+◌, ◌-◌, ◌<◌, ◌≤◌, Bool, true, false, not, ◌&&◌, ◌⊎◌, List, length, IsTrue, Contains, sym, refl, ap, ◌∙◌, subst, inl, inr, arith}
+use Rattle.iloc_graph.proofs.Common.{and_from, and_parts, false_from_ne_true, false≢true, not-true, not_from_false, or_cases, or_left, or_right, range_with_len, Op, op_at, latency}
+use Rattle.iloc_graph.proofs.Common.{Latencies, fold_max_each, fold_max_reached, any_at, contains_from, from_append, from_filter, from_map, from_range, in_filter, in_from, in_left, in_map}
+use Rattle.iloc_graph.proofs.Common.{in_range_from, in_right, delay_at_least_where, from_when, in_when, IsDelayPairWhere, delays_where, keeps_order_where, memory_delays_where, reads_stored}
+use Rattle.iloc_graph.proofs.Common.{uses_result, when, counts_by, In, Pair, MemoryRule, IsNearBy, NearestPairsImplyAll, WaitsForNearest, comes_after, is_near, is_ordered, is_taken_over}
+use Rattle.iloc_graph.proofs.Common.{longest_delay, near_to, nearest_pairs, nearest_to, pair_of, sources, takes_over_by, ◌||◌, rises_range}
 use Rattle.iloc_timed.specs.declared.row.Row.{Row}
 use Rattle.iloc_timed.specs.Kinds.{is_output, is_store, kind}
 use Rattle.iloc_timed.specs.Rows.{issue_cycle}

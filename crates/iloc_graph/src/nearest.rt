@@ -86,12 +86,10 @@ fn push_pairs(
 {
     for (place, first) in near.iter().enumerate() {
         if !is_passed(ops, latencies, counted, *first, &near[place + 1..]) {
-            let delay = longest_delay(ops, latencies, counted, *first, second);
-            let first = *first;
             pairs.push(Pair {
-                first,
+                first: *first,
                 second,
-                delay,
+                delay: longest_delay(ops, latencies, counted, *first, second),
             })?;
         }
     }
@@ -99,10 +97,9 @@ fn push_pairs(
 }
 
 /// The delay pairs of the operations of `graph` that are drawn, in order of the later operation, then of the earlier one:
-/// from each result to its uses, and by memory and outputs from each operation that is near to the later one, but for a
-/// store or an output after which another of these has to come. Of two operations it has the longest delay alone. It takes
-/// time of order n log n in the number of operations and of edges: an operation has one store before it that is near, and
-/// from an output the search ends at the next.
+/// from each operation near to the later one, but for a store or an output after which another of them has to come. Of two
+/// operations it has the longest delay alone. It takes time of order n log n in the number of operations and of edges: at
+/// most one store is near to an operation, and an output is passed by the next that is near.
 ///
 /// Promise: The pairs are just the nearest ones, each once, in that order.
 pub(crate) fn nearest_pairs(

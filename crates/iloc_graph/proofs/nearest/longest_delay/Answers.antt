@@ -1,4 +1,5 @@
-use Rattle.iloc_graph.proofs.Common.{◌≡◌, ℕ, ◌≤◌, Bool, List, Contains, sym, ap, ◌∙◌, subst, inl, inr, arith, false≢true, get_or_default, Op, latency, Latencies, fold_max_each, fold_max_reached, contains_from, in_from, delay_at_most_where, delay_is_where, delays_where, longest_delay}
+use Rattle.iloc_graph.proofs.Common.{◌≡◌, ℕ, ◌≤◌, Bool, List, Contains, sym, ap, ◌∙◌, subst, inl, inr, arith, false≢true, get_or_default, Op, latency, Latencies, fold_max_each}
+use Rattle.iloc_graph.proofs.Common.{fold_max_reached, contains_from, in_from, delay_at_most_where, delay_is_where, delays_where, longest_delay}
 use Rattle.iloc_ops.specs.declared.op.Op.TheVariants.{Nop}
 use Rattle.iloc_graph.proofs.nearest.longest_delay.Goals as goal
 
