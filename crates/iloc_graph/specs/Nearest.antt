@@ -15,30 +15,30 @@ use Rattle.iloc_rules.specs.Rule.{counts_by}
 use Rattle.iloc_addresses.specs.Near.{takes_over as takes_over_where}
 use Rattle.iloc_sched.specs.Graph.Near.{takes_over}
 
--- whether operation k takes the place of operation i for operation j, by a rule of memory
+-- whether operation `k` takes the place of operation `i` for operation `j`, by a rule of memory
 abbrev pub takes_over_by : MemoryRule → List Op → ℕ → ℕ → ℕ → Bool
 takes_over_by Book ops i j k = takes_over (op_at ops i) (op_at ops k)
 takes_over_by Address ops i j k = takes_over_where (by_address ops) ops i j k
 
--- whether an operation between i and j takes the place of i for j
+-- whether an operation between `i` and `j` takes the place of `i` for `j`
 abbrev pub is_taken_over : MemoryRule → List Op → ℕ → ℕ → Bool
 is_taken_over rule ops i j = list_any (takes_over_by rule ops i j) (range_with_len (i + 1) (j - (i + 1)))
 
--- whether the second has to come after the first by memory or outputs, by their kinds, given whether the two count
+-- whether an operation of kind `j` has to come after one of kind `i` by memory or outputs, given whether the two count
 abbrev pub is_ordered : Bool → Kind → Kind → Bool
 is_ordered counts i j = (counts && reads_stored i j) || keeps_order_where counts i j
 
--- whether operation j has to come after operation i so
+-- whether operation `j` has to come after operation `i` by memory or outputs
 abbrev pub comes_after : MemoryRule → List Op → ℕ → ℕ → Bool
 comes_after rule ops j i = is_ordered (counts_by rule ops i j) (kind (op_at ops i)) (kind (op_at ops j))
 
--- whether operation j uses the result of operation i, or comes after it by memory or outputs with none between that takes
--- its place
+-- whether operation `j` uses the result of operation `i`, or has to come after `i` by memory or outputs with none between
+-- that takes the place of `i`
 abbrev pub is_near : MemoryRule → List Op → ℕ → ℕ → Bool
 is_near rule ops j i =
     uses_result (op_at ops i) (op_at ops j) || (comes_after rule ops j i && not (is_taken_over rule ops i j))
 
--- the earlier operations that are near to operation j, by rising number
+-- the earlier operations that are near to operation `j`, by rising number
 abbrev pub near_to : MemoryRule → List Op → ℕ → List ℕ
 near_to rule ops j = filter (is_near rule ops j) (range_with_len 0 j)
 
@@ -47,12 +47,12 @@ abbrev pub is_passed : MemoryRule → List Op → ℕ → List ℕ → Bool
 is_passed rule ops i later =
     (is_store (kind (op_at ops i)) || is_output (kind (op_at ops i))) && list_any (λ k. comes_after rule ops k i) later
 
--- those of a rising list that none after them in it passes
+-- a rising list of operations, but for each that is passed by a later one of the list
 abbrev pub unpassed : MemoryRule → List Op → List ℕ → List ℕ
 unpassed rule ops [] = []
 unpassed rule ops (i ∷ later) = if is_passed rule ops i later then unpassed rule ops later else i ∷ unpassed rule ops later
 
--- the operations from which an edge leads to operation j, by rising number
+-- the operations from which an edge leads to operation `j`, by rising number
 abbrev pub sources : MemoryRule → List Op → ℕ → List ℕ
 sources rule ops j = unpassed rule ops (near_to rule ops j)
 

@@ -69,7 +69,7 @@ fn is_passed(
     false
 }
 
-/// Appends the pair of each of `near` that none of the later ones passes with the later operation `second`.
+/// Appends a pair to operation `second` from each operation of `near` that no later one of `near` passes.
 fn push_pairs(
     pairs: &mut Vec<Pair>,
     ops: &[Op],
