@@ -44,6 +44,9 @@ REFUSED = (
     (["timeline", BOOK, "--priority", "nosuch"], 2, None),
     (["compare", BOOK, "--priority", "order"], 2, NOT_TAKEN.format("--priority", "compare")),
     (["compare", BOOK, DAN, "--nodes", "0"], 2, NOT_TAKEN.format("--nodes", "counts")),
+    (["graph", BOOK, "--disambiguate", "-o", "nosuch/book.svg"], 4, "nosuch/book.svg: No such file or directory"),
+    (["timeline", TASK, BEN, "--priorities", "own"], 2, NOT_TAKEN.format("--priorities", "check")),
+    (["compare", "--task", TASK, BEN, "--priorities", "own"], 2, NOT_TAKEN.format("--priorities", "check")),
     (["timeline", BOOK, "--either-slot"], 2, NOT_TAKEN.format("--either-slot", "explain")),
     (["timeline", BOOK, "-i", "1024", "3"], 2, NOT_TAKEN.format("--memory", "explain")),
     (["timeline", BOOK, "-o", "nosuch/book.svg"], 4, "nosuch/book.svg: No such file or directory"),
@@ -123,6 +126,26 @@ class View(Place):
         head, title, rest = self.printed("dot", "-Tsvg", given=dot).partition(b"<title>blocks</title>\n")
         style = element("style", dark(f"text[fill='{TEXT['light']}']")).encode() + b"\n"
         self.draws(["graph", *LAB, BOOK], head + title + style + rest)
+
+    def test_ranks(self):
+        """By numbers of somebody's own, and with addresses compared, as each command that is asked takes them."""
+        self.write("own", b"1 2 3 4 5 6 7 8 9\n")
+        own, apart = ("--priorities", "own"), ("--disambiguate",)
+        listing = self.listings(*([*command, *own, *apart] for command in (["explain"], ["explain", "--cycles"])),
+                                ["graph", *apart], ["trace", *own, *apart], given=self.read(BOOK))
+        self.draws(["page", BOOK, *own, *apart], page_of(listing).encode())
+        listing = self.listings(["explain", *own, *apart], given=self.read(BOOK))
+        self.draws(["timeline", BOOK, *own, *apart], lanes.drawn(lines_of(listing), 1, USUAL).encode())
+        listing = self.listings(["compare", *own, *apart], given=self.read(BOOK))
+        self.draws(["compare", BOOK, *own, *apart], compared([("", BOOK, listing)]).encode())
+        rows = self.read(BEN)
+        listing = rows + b"\n" + self.listings(["check", "--task", TASK, *apart, *WORDS], given=rows)
+        self.draws(["timeline", TASK, BEN, *apart], lanes.drawn(lines_of(listing), 1, USUAL).encode())
+        self.write("few", b"1 2 3\n")
+        few = "block 1: expected 9 numbers, one for each operation except nop, found 3"
+        for name, status, why in (("few", 1, few), ("nosuch", 4, "no such file")):
+            self.expect(name, self.call("ilocview", "timeline", BOOK, "--priorities", name),
+                        (status, b"", f"ilocview: {name}: {why}\n".encode()))
 
     def test_compare(self):
         """One file by each priority, several by their cycles, and schedules of one task by what `check` says."""
