@@ -12,7 +12,7 @@ ENDINGS = {"run": [], "simulate": [], "trace": [], "schedule": ["total"], "count
 TABLES = ("counts", "compare")
 NUMBER = re.compile(rb"^block ([0-9]{1,9})(?![0-9])", re.MULTILINE)
 NUMBER_IN_TABLE = re.compile(rb"^([0-9]{1,9})(?=,)", re.MULTILINE)
-FAULT = re.compile(r"ilocfarm: (line|.*\bblock) ([0-9]{1,9})\b(.*)\n")
+FAULT = re.compile(r"ilocfarm: (line|.*\bblock) ([0-9]{1,9})\b(.*)\n(?:line \2\b(.*\n)((?: .*\n)*))?")
 INDEXED = re.compile(r"([0-9]{1,9}) ([0-9]{1,18}) ([0-9]{1,5})\n")
 DONE, REFUSED = 0, 1
 
@@ -51,7 +51,9 @@ class Piece:
         if self.status != REFUSED or not said:
             raise Unjoined(f"piece {self.number} ended with {self.status}: {self.text('err').rstrip()}")
         is_text, at = said[1] == "line", int(said[2])
-        return is_text, (f"ilocfarm: {said[1]} {at + (self.line - 1 if is_text else before)}{said[3]}\n"
+        number = at + (self.line - 1 if is_text else before)
+        reason = f"line {number}{said[4]}{said[5]}" if said[4] else ""
+        return is_text, (f"ilocfarm: {said[1]} {number}{said[3]}\n{reason}"
                          f"ilocpieces: this is {said[1].split()[-1]} {at} of {self.folder}/{self.number}.iloc\n")
 
 

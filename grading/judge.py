@@ -59,8 +59,9 @@ def call(words, given):
         done = subprocess.run([program, *words], input=given, capture_output=True, timeout=SECONDS, check=False)
     except (subprocess.TimeoutExpired, OSError) as failed:
         raise NoAnswer(str(failed)) from failed
-    lines = done.stderr.decode("utf-8", "replace").strip().splitlines()
-    return done.returncode, done.stdout, next(iter(lines), "").removeprefix("ilocfarm: ") or f"status {done.returncode}"
+    first, reason, *_ = [*done.stderr.decode("utf-8", "replace").splitlines(), "", ""]
+    why = ": ".join([first.removeprefix("ilocfarm: "), *([reason.partition(": ")[2]] if reason else [])])
+    return done.returncode, done.stdout, why or f"status {done.returncode}"
 
 
 def records(task, words, options, rows):

@@ -63,15 +63,19 @@ IN_FISH = (
                              "[ours]\n"),
 )
 READS_TERMINAL = "ilocfarm: reading {} from the terminal; Ctrl-D on a line of its own ends them\n"
-ADVISES_LINT = "ilocfarm: ilocfarm lint says what is wrong in it\n"
+NO_SUCH_OPCODE = 'line 1: no such opcode "nope": nop?\n    nope\n       ^\n'
+CAPITAL = 'line 1: expected a register, found "R1": registers begin with a small r\n    add R1, r2 => r3\n        ^\n'
+HAS_A_ROW = "ilocfarm: it has a row where blocks belong\n"
 ADVISES_WORDS = "ilocfarm: //SIM INPUT: isn't read here; give its words, as in ilocfarm run --at 1024 3 4\n"
 NOT_UNDERSTOOD = "ilocfarm: line 1: not understood\n"
 WITH_WORDS = b"nop\n //\tSIM INPUT: -i 1024 3\noutput 1024\n"
 # Words and input; what is said of them on any standard error, and what on a terminal besides.
 ADVISED = (
-    (["run"], b"nope\n", NOT_UNDERSTOOD, ADVISES_LINT),
-    (["counts"], b"add R1, r2 => r3", NOT_UNDERSTOOD, ADVISES_LINT),
-    (["check"], b"nope\n", NOT_UNDERSTOOD, ""),
+    (["run"], b"nope\n", NOT_UNDERSTOOD, NO_SUCH_OPCODE),
+    (["counts"], b"add R1, r2 => r3", NOT_UNDERSTOOD, CAPITAL),
+    (["run"], b"[ nop ; nop ]\n", NOT_UNDERSTOOD, HAS_A_ROW),
+    (["trace"], b"[ nop ; nop ]\n", NOT_UNDERSTOOD + HAS_A_ROW, ""),
+    (["check"], b"nope\n", NOT_UNDERSTOOD + NO_SUCH_OPCODE, ""),
     (["lint"], b"nope\n", "", ""),
     (["run", "-x"], b"nope\n", None, ""),
     (["run"], b"nop\n", "", ""),
@@ -80,7 +84,7 @@ ADVISED = (
     (["run", "3"], WITH_WORDS, "", ""),
     (["counts"], WITH_WORDS, "", ""),
     (["run"], b"nop //SIM INPUT: -i 1024 3\n//SIM INPUT\n///SIM INPUT: -i 1024 3\n", "", ""),
-    (["run"], b"nope\n//SIM INPUT: -i 1024 3\n", NOT_UNDERSTOOD, ADVISES_LINT + ADVISES_WORDS),
+    (["run"], b"nope\n//SIM INPUT: -i 1024 3\n", NOT_UNDERSTOOD, NO_SUCH_OPCODE + ADVISES_WORDS),
     (["run"], b"nop\n" * 8190 + WITH_WORDS, "", ADVISES_WORDS),    # in two pieces of what is read
 )
 COMPLETE = ('source made/$0.bash; COMP_WORDS=($0 "$@"); COMP_CWORD=$#; _$0; echo "${COMPREPLY[*]}"')

@@ -1,6 +1,7 @@
 """The program that is tested, what is built to test it, and cases of one run."""
 import atexit
 import os
+import re
 import shutil
 import subprocess
 import tempfile
@@ -18,6 +19,7 @@ COMMANDS = ("run", "simulate", "schedule", "counts")
 FARMED = ("schedule", "counts", "compare", "optimize", "explain")   # whose blocks workers share
 ALONE = ("run", "simulate", "check", "graph", "trace")
 ALL = (*ALONE, *FARMED)
+FAULT = re.compile(rb"ilocfarm: line ([0-9]+): (?:not understood|number above 2147483647)\n")
 
 
 def ending(words, given=b"", program=None, **how):
@@ -70,17 +72,30 @@ def unlike(what, got, due):
     return [] if got == due else [f"{what}: {told(got)} in place of {told(due)}"]
 
 
+def with_reason(command, given, said):
+    """What standard error has where this is said of an input: below the fault of a line what `lint` lists of that line,
+    but by the four of COMMANDS."""
+    fault = FAULT.fullmatch(said)
+    if not fault or command in COMMANDS:
+        return said
+    lines = ending(["lint"], given)[1].splitlines(True)
+    first = next((at for at, line in enumerate(lines) if line.startswith(b"line %s: " % fault[1])), len(lines))
+    return said + b"".join(lines[first:first + 3])
+
+
 class Run(Case):
-    """How the program ends with these words on this input."""
+    """How the program ends with these words on this input, where a fault that `lint` lists too stands without the reason
+    below it."""
 
     def __init__(self, name, words, given, out, err, status, by=ending):
         super().__init__(name)
         self.words, self.given, self.out, self.err, self.status, self.by = words, given, out, err, status, by
 
     def passes(self):
+        said = with_reason("".join(self.words[:1]), self.given, self.err)
         got = dict(zip(("status", "standard output", "standard error"), self.by(self.words, self.given)))
         wrong = [f"{what}: {short(got[what])} in place of {short(due)}"
-                 for what, due in zip(got, (self.status, self.out, self.err)) if got[what] != due]
+                 for what, due in zip(got, (self.status, self.out, said)) if got[what] != due]
         if wrong:
             self.fail("; ".join(wrong))
 

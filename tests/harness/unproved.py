@@ -29,7 +29,7 @@ STORED = (
     "drawn_by_address", "trace_of_changes", "trace_of_faults", "reasons", "rows_explained", "rows_traced",
     "outputs_of_checks", "table_of_checks", "version", "help_of_check",
     # faults of the text, of the words and of the task
-    "arrow_with_one_dash", "arrow_with_one_dash/explain", "address_too_large_to_read", "words_beyond_memory",
+    "arrow_with_one_dash", "reason_of_a_bad_line", "address_too_large_to_read", "words_beyond_memory",
     "start_off_a_word", "unknown_command", "priority_of_no_name", "lawful_and_disambiguate", "task_with_a_row",
 )
 # Of judged/rows.cases, by verdict.

@@ -7,7 +7,7 @@ import resource
 
 from bench import inputs, measure
 from bench.measure import contents
-from harness.program import COMMANDS, TESTED, ending, folder, stored, told, unlike
+from harness.program import COMMANDS, TESTED, ending, folder, stored, told, unlike, with_reason
 from harness.suite import Check, table
 from language import LONGEST_LATENCY, MOST_BLOCKS, MOST_BYTES, MOST_OPERATIONS
 from oracle.judge import NOT_SAME
@@ -186,7 +186,7 @@ def refused_so(name, text, line):
     path = stored("given", text)
     for command in (*COMMANDS, "explain"):
         got, wrong = measured(name, [command], path)
-        if got.shown() != (1, b"", refused_line(line)):
+        if got.shown() != (1, b"", with_reason(command, text, refused_line(line))):
             yield f"{command}: status {got.status}, {front(got.output + '.err')!r}"
         yield from wrong
 

@@ -68,6 +68,10 @@ def faults():
             ("empty", "/dev/null", bad_rows, "task: no blocks", NOT_READ)):
         yield Run(f"apart/{name}", ["check", "--task", file], rows, b"", f"ilocfarm: {said}\n".encode(), status)
 
+EXCHANGED = (b"ilocfarm: task: line 2: not understood\n"
+             b"ilocfarm: it has a row where blocks belong, and rows come from standard input: are the two exchanged?\n")
+ARROW = b'line 2: expected "=>", found "-"\n    add r1, r2 -> r3\n               ^\n'
+
 
 def without_a_name():
     end = ending(["check", "--task", ""], b"block 2 b\n")
@@ -83,7 +87,12 @@ def apart_cases():
     yield Check("apart/cut_anywhere", cut_anywhere)
     two = stored("two.iloc", b"a: output 4\nb: output 4\n")
     yield Run("apart/before_a_head", [*WORDS, "--task", two], b"// 9\nhello\nblock 1 a\n", b"",
-              b"ilocfarm: line 2: not understood\n", NOT_READ)
+              b"ilocfarm: line 2: not understood\nline 2: expected [, found hello\n", NOT_READ)
+    for command in ("check", "explain", "trace"):
+        yield Run(f"apart/exchanged/{command}", [command, "--task", stored("rows", b"\nblock 1 -\n[ nop ; nop ]\n")],
+                  b"nop\n", b"", EXCHANGED, NOT_READ)
+        yield Run(f"apart/reason/{command}", [command, "--task", stored("bad.iloc", b"a: nop\nadd r1, r2 -> r3\n")],
+                  b"[ nop ]\n", b"", b"ilocfarm: task: line 2: not understood\n" + ARROW, NOT_READ)
     yield Check("apart/without_a_name", without_a_name)
     yield from faults()
 

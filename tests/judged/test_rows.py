@@ -186,9 +186,11 @@ def refusals():
         yield Run(f"judged/bad_start_{words[1]}", ["check", *words], b"a:", b"",
                   b"ilocfarm: --at is not a multiple of 4\n", 2)
     for line in UNREAD.keys() - OF_A_BLOCK:
-        yield refused(f"unread_at_once: {line!r}", f"a: output 0\n{line}", f"line 2: {BAD}")
-    for text, fault in rows_of(f"{TOP}/tests/judged/refused.tsv"):
-        yield refused(f"refused: {text!r}", text, fault)
+        wanted, found = UNREAD[line]
+        reason = "" if wanted == "[" else f"\nline 2: expected {wanted}, found {found}"
+        yield refused(f"unread_at_once: {line!r}", f"a: output 0\n{line}", f"line 2: {BAD}{reason}")
+    for text, *lines in rows_of(f"{TOP}/tests/judged/refused.tsv"):
+        yield refused(f"refused: {text!r}", text, "\n".join(lines))
 
 
 def unread(name, text, out, *words):

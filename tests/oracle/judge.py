@@ -10,7 +10,7 @@ under some pairing, and schedules of the kinds in students.py that are right hav
 import re
 from functools import cache
 
-from harness.program import ending, told
+from harness.program import ending, told, with_reason
 from language import WORDS
 from oracle import book
 from oracle.machine import Fault, Machine, bad_row, bad_row_text, cycles, difference, memories, row_text, words_from
@@ -179,13 +179,20 @@ def status_of(verdicts, lawful=False):
     return 0 if set(verdicts) <= ({"lawful"} if lawful else PASSING) else NOT_SAME
 
 
+def is_of_row(said, err):
+    """Whether below a fault of a line is what is wanted there of a row."""
+    line = said.split(b": ")[1]
+    return re.fullmatch(re.escape(said + line) + rb": expected [^\n]+, found [^\n]+\n", err)
+
+
 def wrong_ending(ending, given, latencies, start=words_from(AT, []), is_right=False, outputs=False, rule=all_count):
     """What is wrong with how a run of `check` ended."""
     status, out, err = ending
     try:
         entries = entries_of(given, latencies, start, outputs, rule)
     except Refused as why:
-        if ending != (1, b"", f"ilocfarm: {why}\n".encode()):
+        said = f"ilocfarm: {why}\n".encode()
+        if (status, out) != (1, b"") or err != with_reason("check", given, said) and not is_of_row(said, err):
             yield f"{told(ending)} in place of {why}"
         return
     at, verdicts = 0, set()

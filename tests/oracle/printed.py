@@ -2,6 +2,7 @@
 from functools import cached_property
 from itertools import chain, count
 
+from harness.program import with_reason
 from language import USUAL
 from oracle.graph import OPENING, cluster
 from oracle.machine import fault_place, outcome, row_text, signed
@@ -141,6 +142,6 @@ def printed(command, text):
     try:
         blocks = Reader(has_rows=False).read(text)
     except Refused as why:
-        return 1, b"", f"ilocfarm: {why}\n".encode()
+        return 1, b"", with_reason(command, text, f"ilocfarm: {why}\n".encode())
     listing = Listing([block.ops for block in blocks], names=[block.name for block in blocks])
     return 0, getattr(listing, command)(), b""

@@ -6,8 +6,11 @@ that reads: without it one thread reads the whole text, and all ends as always. 
 program asks for is `out of memory`, or, before the last worker is started, may belong to a start. With several workers
 the growths come in another order each time, and each run is judged by what was refused in it.
 
-No growth that was refused is done without. So a body that tries again where it has to answer a refusal is found.
+No growth that was refused is done without, but those of a reason why a text isn't understood: who asks for one looks at
+the words before the run, keeps the input, and may do without it. So a body that tries again where it has to answer a
+refusal is found; one that parses words is by the commands that give no reason, where only the look at their name is left.
 """
+import re
 from dataclasses import dataclass, field
 
 from bench import inputs
@@ -23,6 +26,10 @@ from oracle.scheduler import Schedule
 from refusals.refuser import GROWTH, GROWTH_OF_A_START, NOTHING, THREAD, Asked, refusing, symbols
 
 NO_MEMORY = (3, b"", b"ilocfarm: out of memory\n")
+# Who may do without a growth: whoever looks at the words, by the commands that give no reason and by the others.
+LOOKS = re.compile(r"std_alloc::vec::into_iter::IntoIterClone::clone")
+GIVES_REASONS = re.compile(LOOKS.pattern + r"|(clap|strsim|iloc_args|iloc_farm|iloc_lint|iloc_rows|iloc_text|std_alloc|std_io)::.*")
+TERSE = [[name] for name in ("run", "simulate", "schedule", "counts", "lint")]
 NO_WORKER = (3, b"", b"ilocfarm: a worker could not be started\n")
 # As soon as so many runs in a row asked for no growth of the number, none asks for one any more.
 UNTOUCHED = 20
@@ -54,14 +61,20 @@ class Tally:
     wrong: list = field(default_factory=list)
 
     def add(self, ending, report, what, goes_on=False):
-        if ending == self.whole and report.refused == GROWTH:
+        if report.refused == GROWTH and ending in (self.whole, self.without_reason()):
             asker = symbols(TESTED.program).asker(report)
-            self.wrong.append(f"{self.run}, {what}: {asker} does without a growth that was refused")
+            if not (LOOKS if self.run.words[:1] in TERSE else GIVES_REASONS).fullmatch(asker):
+                self.wrong.append(f"{self.run}, {what}: {asker} does without a growth that was refused")
         elif ending not in self.may_end(report, goes_on):
             self.wrong.append(f"{self.run}, {what}: {told(ending)}")
         self.memory += ending == NO_MEMORY
         self.workers += ending == NO_WORKER
         self.readers += ending == self.whole and report.refused in (GROWTH_OF_A_START, THREAD)
+
+    def without_reason(self):
+        """The whole run's ending with a fault's first line alone."""
+        status, out, err = self.whole
+        return status, out, b"".join(err.splitlines(True)[:1])
 
     def may_end(self, report, goes_on):
         """The endings that are right."""

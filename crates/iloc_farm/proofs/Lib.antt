@@ -7,6 +7,7 @@ pub mod Status
 pub mod Tasks
 pub mod Headline
 pub mod Listings
+pub mod Reasons
 pub mod Receipts
 pub mod Listers
 pub mod TheLeast

@@ -5,6 +5,7 @@ mod commands;
 mod farm;
 pub mod laws;
 mod program;
+mod reason;
 mod receipt;
 mod talking;
 mod watched;

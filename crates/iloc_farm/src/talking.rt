@@ -1,13 +1,16 @@
 //! The program where somebody may sit at a terminal.
 ghost use Rattle.std.specs.Prelude.{◌≡◌};
 ghost use Rattle.iloc_farm.specs.Commands.{command_of};
+ghost use Rattle.iloc_farm.specs.Reason.{Explains, bytes_of};
 ghost use Rattle.iloc_farm.specs.Talking.{EndsTalking};
 ghost use Rattle.iloc_farm.specs.Theorem.{Status0Tells};
 
 use crate::program::run_program;
+use crate::reason::reason_of;
 use crate::watched::Watched;
 use iloc_args::{Request, Task, parse_line};
 use iloc_driver::{Ending, Texts};
+use iloc_listing::write_text;
 use std::alloc::Global;
 use std::env::Args;
 use std::io::{self, Read, Write};
@@ -19,8 +22,25 @@ use std::thread::Threads;
 pub struct Terminals {
     /// Nothing else shows on a terminal that the program waits for its input.
     pub input: bool,
-    /// Where it isn't a terminal, standard error has a fault's one line and nothing else.
+    /// Where it isn't a terminal, standard error has a fault's line and the reason, which the four commands of the papers leave
+    /// out, and nothing else.
     pub faults: bool,
+}
+
+/// The commands that say in one line what they don't understand, unless a terminal looks, and `lint`, which lists it.
+const TERSE: [&str; 5] = ["run", "simulate", "schedule", "counts", "lint"];
+
+/// Whether `words` begin with one of `TERSE`, or memory is refused to a look at them.
+fn are_terse(words: &io::Result<Args>) -> bool {
+    let Ok(words) = words else { return false };
+    let Ok(mut words) = words.clone() else {
+        return true;
+    };
+    let (_, command) = (words.next(), words.next());
+    match &command {
+        Some(command) => TERSE.iter().any(|name| *name == command.as_str()),
+        None => false,
+    }
 }
 
 /// What the words ask for, if they make a request.
@@ -56,28 +76,33 @@ fn gets_no_words(request: &Option<Request>) -> bool {
     }
 }
 
-/// Whether `lint` says more of an input that is refused.
-fn may_be_linted(request: &Request) -> bool {
-    !matches!(request.task, Task::Check | Task::Lint) && request.task_file.is_none()
+/// What helps where a block starts with no words.
+const WORDS: &[u8] =
+    b"ilocfarm: //SIM INPUT: isn't read here; give its words, as in ilocfarm run --at 1024 3 4\n";
+
+/// Says why a text wasn't understood, if something is to be said of a request. Faults that aren't taken change nothing.
+fn explain<T: Texts, F: Write>(
+    alloc: Global,
+    texts: &T,
+    request: Option<&Request>,
+    kept: &[u8],
+    faults: &mut F,
+)
+    ensures { Explains (T.held texts.now) kept.now (F.contents faults.old) (F.contents faults.new) }
+{
+    if let Some(request) = request
+        && let Ok(reason) = reason_of(alloc, texts, request, kept)
+    {
+        let _ = write_text(faults, &reason);
+    }
 }
 
-/// Says what helps after a run that ended with this status. A terminal that doesn't take it changes nothing.
-fn advise<F: Write>(faults: &mut F, request: &Request, status: u8, gives_words: bool) {
-    if status == 1 && may_be_linted(request) {
-        let _ = faults.write_all(b"ilocfarm: ilocfarm lint says what is wrong in it\n");
-    }
-    if gives_words {
-        let _ = faults.write_all(
-            b"ilocfarm: //SIM INPUT: isn't read here; give its words, as in ilocfarm run --at 1024 3 4\n",
-        );
-    }
-}
-
-/// Does what `run_program` does, and talks to somebody at a terminal: before, where the input is one, and after, where faults go
-/// to one.
+/// Does what `run_program` does, and says more: before, what is read, where the input is a terminal; after, why a text wasn't
+/// understood, and where faults go to a terminal, what helps.
 ///
 /// Promise: how the program ends, and what status 0 tells, is as `run_program` has it. Where neither is a terminal, nothing more
-/// is said.
+/// is said but a reason of what was kept of the input, or of a named text: what `lint` lists first of it, or what is wrong with
+/// one of its lines as a row, or that a line is one.
 pub fn run_talking<H: Threads + Wait + Sync, T: Texts, R: Read + Drop, W: Write, F: Write>(
     rt: &H,
     alloc: Global,
@@ -88,7 +113,7 @@ pub fn run_talking<H: Threads + Wait + Sync, T: Texts, R: Read + Drop, W: Write,
     faults: &mut F,
     terminals: Terminals,
 ) -> Ending
-    ensures ends { EndsTalking command_of (T.held texts.now) words terminals
+    ensures ends { EndsTalking command_of (T.held texts.now) words terminals (bytes_of reader.new.kept)
         (R.remaining reader.old.reader) (R.remaining reader.new.reader)
         (W.contents writer.old) (W.contents writer.new)
         (F.contents faults.old) (F.contents faults.new) result }
@@ -96,7 +121,8 @@ pub fn run_talking<H: Threads + Wait + Sync, T: Texts, R: Read + Drop, W: Write,
         (R.remaining reader.old.reader) (R.remaining reader.new.reader)
         (W.contents writer.old) (W.contents writer.new) }
 {
-    let request = if terminals.input || terminals.faults {
+    let explains = terminals.faults || !are_terse(&words);
+    let request = if terminals.input || explains {
         request_of(alloc, &words)
     } else {
         None
@@ -106,12 +132,17 @@ pub fn run_talking<H: Threads + Wait + Sync, T: Texts, R: Read + Drop, W: Write,
     {
         let _ = faults.write_all(waiting(request));
     }
+    reader.keep(alloc, explains);
     reader.watch(terminals.faults && gets_no_words(&request));
     let ending = run_program(rt, alloc, words, texts, reader, writer, faults);
-    if terminals.faults
-        && let Some(request) = &request
-    {
-        advise(faults, request, ending.status, reader.gives_words());
+    let unread = if explains && ending.status == 1 && ending.told.is_ok() {
+        request.as_ref()
+    } else {
+        None
+    };
+    explain(alloc, texts, unread, reader.kept(), faults);
+    if terminals.faults && reader.gives_words() {
+        let _ = faults.write_all(WORDS);
     }
     ending
 }
