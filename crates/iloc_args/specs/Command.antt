@@ -143,13 +143,13 @@ optimize_entry = record {
   rules = nodes_rule ∷ workers_rule ∷ latency_rules ++ flag_rule Disambiguate ∷ [];
 }
 
--- `explain [--workers N] [--load N] [--store N] [--mult N] [--priority NAME] [--priorities FILE] [--task FILE] [--either-slot] [--disambiguate] [--cycles]`
+-- `explain [--workers N] [--load N] [--store N] [--mult N] [--priority NAME] [--priorities FILE] [--task FILE] [--either-slot] [--disambiguate] [--cycles] [--csv]`
 abbrev pub explain_entry : Subcommand
 explain_entry = record {
   name = codes "explain";
   task = Explain;
   rules = workers_rule ∷ latency_rules ++ priority_rule ∷ priorities_rule ∷ task_rule
-      ∷ map flag_rule (EitherSlot ∷ Disambiguate ∷ Cycles ∷ []);
+      ∷ map flag_rule (EitherSlot ∷ Disambiguate ∷ Cycles ∷ Csv ∷ []);
 }
 
 -- `check [--at N] [WORD].. [--load N] [--store N] [--mult N] [--nodes N] [--task FILE] [--either-slot] [--disambiguate] [--lawful] [--operations] [--outputs] [--csv] [--json]`

@@ -1,7 +1,7 @@
 -- Which options of a command exclude each other.
 use Rattle.std.specs.Prelude.{◌&&◌, Bool, true, false, List, [], ◌∷◌, Option, find}
 use Rattle.iloc_args.specs.declared.fault.Exclusion.{Exclusion}
-use Rattle.iloc_args.specs.declared.fault.Exclusion.TheVariants.{CsvAndJson, PriorityAndPriorities, PrioritiesAndTask, LawfulAndDisambiguate, TaskAndPriority, TaskAndDisambiguate, TaskAndCycles}
+use Rattle.iloc_args.specs.declared.fault.Exclusion.TheVariants.{CsvAndJson, PriorityAndPriorities, PrioritiesAndTask, LawfulAndDisambiguate, TaskAndPriority, TaskAndDisambiguate, TaskAndCycles, TaskAndCsv, CsvAndCycles}
 use Rattle.iloc_args.specs.declared.flag.Flag.{Flag}
 use Rattle.iloc_args.specs.declared.flag.Flag.TheVariants.{Csv, Json, Lawful, Cycles, Disambiguate}
 use Rattle.iloc_args.specs.declared.request.Task.{Task}
@@ -28,12 +28,14 @@ excludes task flags named ranked apart LawfulAndDisambiguate = flags Lawful && f
 excludes task flags named ranked apart TaskAndPriority = (apart && traces task) && named
 excludes task flags named ranked apart TaskAndDisambiguate = (apart && shows_rows task) && flags Disambiguate
 excludes task flags named ranked apart TaskAndCycles = (apart && shows_rows task) && flags Cycles
+excludes task flags named ranked apart TaskAndCsv = (apart && shows_rows task) && flags Csv
+excludes task flags named ranked apart CsvAndCycles = flags Csv && flags Cycles
 
 -- all of them, in the order in which they are refused
 abbrev pub exclusions : List Exclusion
 exclusions =
     CsvAndJson ∷ PriorityAndPriorities ∷ PrioritiesAndTask ∷ LawfulAndDisambiguate ∷ TaskAndPriority ∷ TaskAndDisambiguate
-    ∷ TaskAndCycles ∷ []
+    ∷ TaskAndCycles ∷ TaskAndCsv ∷ CsvAndCycles ∷ []
 
 -- the first of which both options are given, if there is one
 abbrev pub first_excluded : Task → (Flag → Bool) → Bool → Bool → Bool → Option Exclusion

@@ -3,7 +3,7 @@ use Rattle.std.specs.Prelude.{ℕ, List, ◌++◌, codes}
 use Rattle.std.specs.List.{join_by}
 use Rattle.std.specs.String.{string_bytes}
 use Rattle.iloc_args.specs.declared.fault.Exclusion.{Exclusion}
-use Rattle.iloc_args.specs.declared.fault.Exclusion.TheVariants.{CsvAndJson, PriorityAndPriorities, PrioritiesAndTask, LawfulAndDisambiguate, TaskAndPriority, TaskAndDisambiguate, TaskAndCycles}
+use Rattle.iloc_args.specs.declared.fault.Exclusion.TheVariants.{CsvAndJson, PriorityAndPriorities, PrioritiesAndTask, LawfulAndDisambiguate, TaskAndPriority, TaskAndDisambiguate, TaskAndCycles, TaskAndCsv, CsvAndCycles}
 use Rattle.iloc_args.specs.declared.fault.LineFault.{LineFault}
 use Rattle.iloc_args.specs.declared.fault.LineFault.TheVariants.{Help, Refused, BadStart, TooManyWords, NoSuchPriority, Excluded, NoMemory}
 use Rattle.iloc_args.specs.Priority.{priority_word}
@@ -18,6 +18,8 @@ excluded_text LawfulAndDisambiguate = codes "--lawful and --disambiguate exclude
 excluded_text TaskAndPriority = codes "--task and --priority exclude each other"
 excluded_text TaskAndDisambiguate = codes "--task and --disambiguate exclude each other"
 excluded_text TaskAndCycles = codes "--task and --cycles exclude each other"
+excluded_text TaskAndCsv = codes "--task and --csv exclude each other"
+excluded_text CsvAndCycles = codes "--csv and --cycles exclude each other"
 
 -- what is said of a fault: the parser's own text, or one of the texts below
 abbrev pub line_text : LineFault → List ℕ

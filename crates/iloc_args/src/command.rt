@@ -227,6 +227,12 @@ const EITHER_SLOT_WITH_TASK: Argument = Argument::FlagSaying(
     "With --task, accept rows whose operations fit only when swapped",
 );
 
+/// `--csv` of a command whose table has a row for each operation.
+const CSV_OF_OPERATIONS: Argument = Argument::FlagSaying(
+    Flag::Csv,
+    "Print a table of comma-separated values, a row for each operation",
+);
+
 /// A command: the task that it asks for, its name, what it is about, how it is used, and its arguments.
 #[derive(Clone, Copy)]
 struct Entry {
@@ -357,6 +363,7 @@ const COMMANDS: [Entry; 11] = [
             EITHER_SLOT_WITH_TASK,
             Argument::Flag(Flag::Disambiguate),
             Argument::Flag(Flag::Cycles),
+            CSV_OF_OPERATIONS,
         ],
     },
     Entry {

@@ -29,6 +29,10 @@ pub enum Exclusion {
     TaskAndDisambiguate,
     /// Rows that others made are explained, which lists no cycles, and cycles are listed.
     TaskAndCycles,
+    /// Rows that others made are explained, which makes no table, and the listing is a table.
+    TaskAndCsv,
+    /// The listing is a table of operations, and cycles are listed.
+    CsvAndCycles,
 }
 
 /// Why a command line gives no request. Its `Display` is the text for the user.
@@ -63,6 +67,8 @@ impl Exclusion {
             Exclusion::TaskAndPriority => "--task and --priority exclude each other",
             Exclusion::TaskAndDisambiguate => "--task and --disambiguate exclude each other",
             Exclusion::TaskAndCycles => "--task and --cycles exclude each other",
+            Exclusion::TaskAndCsv => "--task and --csv exclude each other",
+            Exclusion::CsvAndCycles => "--csv and --cycles exclude each other",
         }
     }
 }

@@ -157,6 +157,10 @@ fn excluded(task: Task, flags: Flags, named: bool, ranked: bool, apart: bool) ->
         Some(Exclusion::TaskAndDisambiguate)
     } else if both(rows, flags.has(Flag::Cycles)) {
         Some(Exclusion::TaskAndCycles)
+    } else if both(rows, flags.has(Flag::Csv)) {
+        Some(Exclusion::TaskAndCsv)
+    } else if both(flags.has(Flag::Csv), flags.has(Flag::Cycles)) {
+        Some(Exclusion::CsvAndCycles)
     } else {
         None
     }
