@@ -1,5 +1,5 @@
 -- The listing of what explains a schedule.
-use Rattle.std.specs.Prelude.{ℕ, ◌+◌, ◌≡◌, ◌==◌, if◌then◌else◌, List, [], ◌∷◌, ◌++◌, codes}
+use Rattle.std.specs.Prelude.{ℕ, ◌+◌, ◌≡◌, ◌==◌, if◌then◌else◌, List, [], ◌∷◌, ◌++◌, Option, Some, None, codes}
 use Rattle.std.specs.List.{flat_map}
 use Rattle.std.specs.Fmt.{decimal}
 use Rattle.iloc_ops.specs.declared.op.Op.{Op}
@@ -21,10 +21,10 @@ use Rattle.iloc_explain.specs.Chain.{IsLongestChain}
 use Rattle.iloc_explain.specs.Explained.{AreExplained}
 use Rattle.iloc_explain.specs.Path.{IsPath}
 
--- numbers with commas between them, `-` where there are none
-abbrev pub comma_separated : List ℕ → List ℕ
-comma_separated [] = codes "-"
-comma_separated (n ∷ rest) = decimal n ++ flat_map (λ m. codes "," ++ decimal m) rest
+-- numbers with `mark` between them, `-` where there are none
+abbrev pub separated : (mark : List ℕ) → List ℕ → List ℕ
+separated mark [] = codes "-"
+separated mark (n ∷ rest) = decimal n ++ flat_map (λ m. mark ++ decimal m) rest
 
 abbrev pub unit_number : unit_type → ℕ
 unit_number unit.Zero = 0
@@ -46,16 +46,49 @@ measures e =
 abbrev pub explained_line : ℕ → Explained → Op → Op → List ℕ
 explained_line j e op issued =
     decimal j ++ column (codes "cycle") e.cycle ++ column (codes "unit") (unit_number e.unit)
-    ++ column (codes "ready") e.ready ++ codes " after " ++ comma_separated e.after.items
+    ++ column (codes "ready") e.ready ++ codes " after " ++ separated (codes ",") e.after.items
     ++ measures e ++ codes " " ++ spelling op ++ codes " ; " ++ spelling issued ++ codes "\n"
 
--- the lines of operations from number j on: each as it stands in the block, and as it is issued
-abbrev pub explained_lines : ℕ → List Explained → List Op → List Op → List ℕ
-explained_lines j [] ops issued = []
-explained_lines j (e ∷ more) [] issued = []
-explained_lines j (e ∷ more) (op ∷ ops) [] = []
-explained_lines j (e ∷ more) (op ∷ ops) (own ∷ issued) =
-    explained_line j e op own ++ explained_lines (j + 1) more ops issued
+-- `,J,C,U,R`
+abbrev pub place_fields : ℕ → Explained → List ℕ
+place_fields j e =
+    codes "," ++ decimal j ++ codes "," ++ decimal e.cycle ++ codes "," ++ decimal (unit_number e.unit)
+    ++ codes "," ++ decimal e.ready
+
+-- `,P,E,S,H`
+abbrev pub measure_fields : Explained → List ℕ
+measure_fields e =
+    codes "," ++ decimal e.priority ++ codes "," ++ decimal e.earliest ++ codes "," ++ decimal e.slack
+    ++ codes "," ++ holder_text e.held
+
+-- `,J,C,U,R,I I,P,E,S,H,"OPERATION","ISSUED"`, a row of a table after its block
+abbrev pub explained_row : ℕ → Explained → Op → Op → List ℕ
+explained_row j e op issued =
+    place_fields j e ++ codes "," ++ separated (codes " ") e.after.items ++ measure_fields e
+    ++ codes ",\"" ++ spelling op ++ codes "\",\"" ++ spelling issued ++ codes "\"\n"
+
+-- the `line` of each operation from number j on, as it is in the block, and as it is issued
+abbrev pub explained_lines : (line : ℕ → Explained → Op → Op → List ℕ) → ℕ → List Explained → List Op → List Op
+    → List (List ℕ)
+explained_lines line j [] ops issued = []
+explained_lines line j (e ∷ more) [] issued = []
+explained_lines line j (e ∷ more) (op ∷ ops) [] = []
+explained_lines line j (e ∷ more) (op ∷ ops) (own ∷ issued) =
+    line j e op own ∷ explained_lines line (j + 1) more ops issued
+
+-- `lines`, each after `head`
+abbrev pub each_after : (head : List ℕ) → (lines : List (List ℕ)) → List ℕ
+each_after head lines = flat_map (λ line. head ++ line) lines
+
+-- what each line begins with: in a table what that has of the `block`, and else nothing
+abbrev pub beginning : (block : Option (List ℕ)) → List ℕ
+beginning None = []
+beginning (Some head) = head
+
+-- the line that follows: in a table a row
+abbrev pub line_after : (block : Option (List ℕ)) → ℕ → Explained → Op → Op → List ℕ
+line_after None = explained_line
+line_after (Some head) = explained_row
 
 -- `chain I J ..`, the operations of a chain, `-` where there are none
 abbrev pub chain_line : List ℕ → List ℕ
@@ -92,7 +125,15 @@ pub record IsExplanation (prios : List ℕ) (rule : MemoryRule) (lat : Latencies
   pub path : List Stretch
   pub is_path : IsPath rule lat ops rows path
   pub listed : text ≡
-      explained_lines 0 explained (without_nops block) issued
+      each_after [] (explained_lines explained_line 0 explained (without_nops block) issued)
       ++ cycles_line (cycles lat ops rows) bound
       ++ chain_line chain
       ++ path_line path
+
+-- `table` has a row for each of the operations `ops` in `rows`, a schedule of `block` by `rule` that the priorities `prios`
+-- rank. What its rows begin with, the block, is left out.
+pub record AreTableRows (prios : List ℕ) (rule : MemoryRule) (lat : Latencies) (block ops : List Op) (rows : List Row)
+    (table : List (List ℕ)) : Type 0 where
+  pub explained : List Explained
+  pub are_explained : AreExplained prios rule lat ops rows explained
+  pub listed : table ≡ explained_lines explained_row 0 explained (without_nops block) ops

@@ -19,6 +19,6 @@ mod waited;
 pub use chain::longest_chain;
 pub use counted::Counted;
 pub use cycle_lines::push_ready_list;
-pub use listing::push_explanation;
+pub use listing::{push_explanation, push_table};
 pub use measures::Measures;
 pub use waited::has_delay;

@@ -1,11 +1,11 @@
 //! The listing of what explains a schedule.
-ghost use Rattle.std.specs.Prelude.{◌≡◌, ◌++◌, List, ℕ, length, OnOk};
+ghost use Rattle.std.specs.Prelude.{◌≡◌, ◌++◌, List, ℕ, length, option_copied, OnOk};
 ghost use Rattle.std.specs.List.{flat_map};
 ghost use Rattle.std.specs.Fmt.{decimal};
 ghost use Rattle.iloc_pieces.specs.Pieces.{piece_text};
 ghost use Rattle.iloc_rules.specs.Renaming.{renamed, without_nops};
 ghost use Rattle.iloc_explain.specs.Listing as listed;
-ghost use Rattle.iloc_explain.specs.Listing.{IsExplanation};
+ghost use Rattle.iloc_explain.specs.Listing.{AreTableRows, IsExplanation};
 ghost use Rattle.iloc_explain.specs.Measures.{AreMeasures};
 ghost use Rattle.iloc_explain.specs.Waiting.{WaitsForAll};
 
@@ -31,15 +31,15 @@ fn push_marked(text: &mut Vec<u8>, mark: &str, numbers: &[usize]) -> Result<(), 
     Ok(())
 }
 
-/// Appends `numbers` with commas between them, `-` where there are none.
-fn push_comma_separated(text: &mut Vec<u8>, numbers: &[usize]) -> Result<(), NoMemory>
-    ensures { OnOk result (text.new.items ≡ text.old.items ++ listed.comma_separated numbers.now) }
+/// Appends `numbers` with `mark` between them, `-` where there are none.
+fn push_separated(text: &mut Vec<u8>, mark: &str, numbers: &[usize]) -> Result<(), NoMemory>
+    ensures { OnOk result (text.new.items ≡ text.old.items ++ listed.separated mark.now numbers.now) }
 {
     match numbers {
         [] => Ok(text.push(b'-')?),
         [first, rest @ ..] => {
             push_number(text, *first)?;
-            push_marked(text, ",", rest)
+            push_marked(text, mark, rest)
         }
     }
 }
@@ -75,26 +75,99 @@ fn push_measures(text: &mut Vec<u8>, explained: &Explained) -> Result<(), NoMemo
     push_all(text, &[Text(" held "), held(explained.held)])
 }
 
-/// Appends the line of operation j, as the block has it and as it is issued.
-fn push_explained(
+/// Appends the line of operation `j`; `ops` are it as the block has it and as it is issued.
+fn push_line(
     text: &mut Vec<u8>,
     j: usize,
     explained: &Explained,
-    op: &Op,
-    issued: &Op,
+    ops: (Op, Op),
 ) -> Result<(), NoMemory>
     ensures { OnOk result (text.new.items
-        ≡ text.old.items ++ listed.explained_line j explained.now op.now issued.now) }
+        ≡ text.old.items ++ listed.explained_line j explained.now ops.0 ops.1) }
 {
     push_number(text, j)?;
     push_column(text, "cycle", explained.cycle as u64)?;
     push_column(text, "unit", unit_number(explained.unit))?;
     push_column(text, "ready", explained.ready as u64)?;
     text.extend_from_slice(b" after ")?;
-    push_comma_separated(text, &explained.after)?;
+    push_separated(text, ",", &explained.after)?;
     push_measures(text, explained)?;
-    let (op, issued) = (Operation(*op), Operation(*issued));
+    let (op, issued) = (Operation(ops.0), Operation(ops.1));
     push_all(text, &[Text(" "), op, Text(" ; "), issued, Text("\n")])
+}
+
+/// Appends the fields of a row that say which operation is issued where, and when it was ready.
+fn push_place_fields(text: &mut Vec<u8>, j: usize, explained: &Explained) -> Result<(), NoMemory>
+    ensures { OnOk result (text.new.items ≡ text.old.items ++ listed.place_fields j explained.now) }
+{
+    let (cycle, ready) = (
+        Number(explained.cycle as u64),
+        Number(explained.ready as u64),
+    );
+    let (number, unit) = (Number(j as u64), Number(unit_number(explained.unit)));
+    let comma = Text(",");
+    push_all(
+        text,
+        &[comma, number, comma, cycle, comma, unit, comma, ready],
+    )
+}
+
+/// Appends the fields of a row that have the priority of an operation, its start, its slack, and what kept it out of the row
+/// before.
+fn push_measure_fields(text: &mut Vec<u8>, explained: &Explained) -> Result<(), NoMemory>
+    ensures { OnOk result (text.new.items ≡ text.old.items ++ listed.measure_fields explained.now) }
+{
+    let (priority, earliest) = (Number(explained.priority), Number(explained.earliest));
+    let (slack, holder) = (Number(explained.slack), held(explained.held));
+    let comma = Text(",");
+    push_all(
+        text,
+        &[
+            comma, priority, comma, earliest, comma, slack, comma, holder,
+        ],
+    )
+}
+
+/// Appends the row of operation `j` of a table, after its block; `ops` are it as the block has it and as it is issued.
+fn push_row(
+    text: &mut Vec<u8>,
+    j: usize,
+    explained: &Explained,
+    ops: (Op, Op),
+) -> Result<(), NoMemory>
+    ensures { OnOk result (text.new.items
+        ≡ text.old.items ++ listed.explained_row j explained.now ops.0 ops.1) }
+{
+    push_place_fields(text, j, explained)?;
+    text.push(b',')?;
+    push_separated(text, " ", &explained.after)?;
+    push_measure_fields(text, explained)?;
+    let (op, issued) = (Operation(ops.0), Operation(ops.1));
+    push_all(
+        text,
+        &[Text(",\""), op, Text("\",\""), issued, Text("\"\n")],
+    )
+}
+
+/// Appends the line of operation `j` or, after what a table has of its `block`, its row; `ops` are it as the block has it and
+/// as it is issued.
+fn push_explained(
+    text: &mut Vec<u8>,
+    block: Option<&[u8]>,
+    j: usize,
+    explained: &Explained,
+    ops: (Op, Op),
+) -> Result<(), NoMemory>
+    ensures { OnOk result (text.new.items ≡ text.old.items ++ (listed.beginning (option_copied block.entry)
+        ++ listed.line_after (option_copied block.entry) j explained.now ops.0 ops.1)) }
+{
+    match block {
+        None => push_line(text, j, explained, ops),
+        Some(head) => {
+            text.extend_from_slice(head)?;
+            push_row(text, j, explained, ops)
+        }
+    }
 }
 
 /// Appends the line of a chain.
@@ -109,24 +182,26 @@ fn push_chain(text: &mut Vec<u8>, chain: &[usize]) -> Result<(), NoMemory>
     Ok(text.extend_from_slice(b"\n")?)
 }
 
-/// Appends the lines of all operations of a block that are no `nop`, as the block has them and as they are issued.
+/// Appends the lines of those of `ops` that are no `nop`, as they are and as they are `issued`, or their rows in a table,
+/// each after what it has of their `block`.
 fn push_lines(
     text: &mut Vec<u8>,
-    block: &[Op],
+    block: Option<&[u8]>,
+    ops: &[Op],
     explained: &[Explained],
     issued: &[Op],
 ) -> Result<(), NoMemory>
     requires all { length explained.now ≡ length issued.now }
-    requires same { length (without_nops block.now) ≡ length issued.now }
-    ensures { OnOk result (text.new.items ≡ text.old.items
-        ++ listed.explained_lines 0 explained.now (without_nops block.now) issued.now) }
+    requires same { length (without_nops ops.now) ≡ length issued.now }
+    ensures { OnOk result (text.new.items ≡ text.old.items ++ listed.each_after (listed.beginning (option_copied block.entry))
+        (listed.explained_lines (listed.line_after (option_copied block.entry)) 0 explained.now (without_nops ops.now) issued.now)) }
 {
     let mut j = 0;
-    for op in block {
+    for op in ops {
         match op {
             Op::Nop => {}
             _ => {
-                push_explained(text, j, &explained[j], op, &issued[j])?;
+                push_explained(text, block, j, &explained[j], (*op, issued[j]))?;
                 j += 1;
             }
         }
@@ -209,11 +284,36 @@ pub fn push_explanation(
         least,
         ..
     } = measures;
-    push_lines(text, block.ops.as_slice(), &explained, issued)?;
+    push_lines(text, None, block.ops.as_slice(), &explained, issued)?;
     push_cycles(text, cycles(schedule, latencies), *least)?;
     push_chain(
         text,
         &longest_chain(alloc, schedule.ops(), latencies, counted, chains)?,
     )?;
     push_path(text, &path_of(alloc, schedule, latencies, &explained)?)
+}
+
+/// Appends a table's rows of the operations of a schedule of the block by a rule of memory, each after `head`, what the table
+/// has of the block.
+///
+/// Promise: The rows are those of the schedule.
+pub fn push_table(
+    alloc: Global,
+    text: &mut Vec<u8>,
+    head: &[u8],
+    block: &Block,
+    latencies: &Latencies,
+    measures: &Measures,
+    schedule: &Schedule,
+) -> Result<(), NoMemory>
+    requires names { schedule.now.ops ≡ renamed block.now.ops }
+    requires measured { AreMeasures latencies.now schedule.now.ops measures.now }
+    requires waits { WaitsForAll measures.now.counted.rule latencies.now schedule.now.ops schedule.now.rows }
+    ensures { OnOk result ((table : List (List ℕ)) × AreTableRows measures.now.ranks.items measures.now.counted.rule latencies.now
+        block.now.ops schedule.now.ops schedule.now.rows table
+        × (text.new.items ≡ text.old.items ++ listed.each_after head.now table)) }
+{
+    let explained = explain(alloc, schedule, latencies, measures)?;
+    let issued = schedule.ops();
+    push_lines(text, Some(head), block.ops.as_slice(), &explained, issued)
 }

@@ -1,5 +1,5 @@
-use Rattle.iloc_explain.proofs.Common.{◌++◌, length, sym, refl, ap, ◌∙◌, on_ok_weaker, cycles, length-renamed_by, without_nops}
-use Rattle.iloc_explain.specs.Listing.{explained_lines, cycles_line, chain_line, path_line}
+use Rattle.iloc_explain.proofs.Common.{[], ◌++◌, length, sym, refl, ap, ◌∙◌, on_ok_weaker, cycles, length-renamed_by, without_nops}
+use Rattle.iloc_explain.specs.Listing.{each_after, explained_line, explained_lines, cycles_line, chain_line, path_line}
 use Rattle.iloc_explain.proofs.Lines.{parts_pushed}
 use Rattle.iloc_explain.proofs.listing.push_explanation.Goals as goal
 
@@ -27,7 +27,7 @@ returns c =
     let chain = c.in_ok-longest_chain.field-0.items in
     let path = c.in_ok-path_of.field-0.items in
     let taken = cycles lat schedule.ops schedule.rows in
-    let lines = explained_lines 0 explained (without_nops block) c.args.issued.now in
+    let lines = each_after [] (explained_lines explained_line 0 explained (without_nops block) c.args.issued.now) in
     on_ok_weaker c.push_path.result (λ pushed. (
       lines ++ cycles_line taken measures.least ++ chain_line chain ++ path_line path,
       record {
