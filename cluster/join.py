@@ -68,7 +68,8 @@ class Form:
         command = words[0]
         if command not in ENDINGS:
             raise Unjoined(f"the listings of {command} can't be joined, only those of {', '.join(ENDINGS)}")
-        other = next((word for word in words if word in ("-h", "--help") or word.startswith("--task")), None)
+        apart = ("-h", "--help", *["--csv"] * (command not in TABLES))
+        other = next((word for word in words if word in apart or word.startswith("--task")), None)
         if other:
             raise Unjoined(f"the listings of {command} {other} can't be joined")
         if "--csv" in words and command in TABLES:

@@ -23,7 +23,8 @@ MOST_PRIORITY = 4_294_967_295
 FORMS = (
     (["run"], Listing.run), (["run", "--where"], Listing.where), (["simulate"], Listing.run),
     (["schedule"], Listing.schedule), (["counts"], Listing.counts), (["counts", "--csv"], Listing.counts_table),
-    (["explain"], Listing.explain), (["explain", "--cycles"], Listing.cycles), (["graph"], Listing.graph),
+    (["explain"], Listing.explain), (["explain", "--cycles"], Listing.cycles),
+    (["explain", "--csv"], Listing.explain_table), (["graph"], Listing.graph),
     (["trace"], Listing.trace), (["optimize", "--nodes", "0"], Listing.optimize), (["compare"], Listing.compare),
     (["compare", "--csv"], Listing.compare_table),
     (["compare", "--nodes", "0"], lambda listing: listing.compare(listing.unsearched())),

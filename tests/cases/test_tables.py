@@ -1,4 +1,5 @@
 """Tables of comma-separated values: what pandas and R read of them."""
+import csv
 import subprocess
 import unittest
 
@@ -6,7 +7,7 @@ from harness.program import SECONDS, ending, needs
 from harness.suite import Check, table
 from oracle.scheduler import ORDERS
 
-UNNAMED = b"output 0\nempty:\nA: output 4\nA: load r1 => r2\n"
+UNNAMED = b"output 0\nempty:\nA: output 4\nA: loadAI r1, 4 => r2\n"
 # Labels that mean a missing value, or a truth, unless the reader is told otherwise.
 ODD_NAMES = b"NA: output 0\nnan: output 0\nT: output 0\n"
 # What has pandas and R read a table, print it again, and print a letter for each column: i of whole numbers.
@@ -15,7 +16,7 @@ PANDAS = """import pandas, sys
 table = pandas.read_csv(sys.stdin, keep_default_na=False)
 print(table.to_csv(index=False) + "".join(column.kind for column in table.dtypes))"""
 R = """table <- read.csv(file("stdin"), na.strings = character(), colClasses = c(name = "character"))
-write.csv(table, quote = FALSE, row.names = FALSE)
+write.csv(table, row.names = FALSE)
 cat(substr(sapply(table, class), 1, 1), "\n", sep = "")"""
 
 
@@ -36,16 +37,21 @@ def by_r():
     return ["Rscript", "-e", R], "c"
 
 
+def cells(text):
+    return [*csv.reader(text.splitlines())]
+
+
 def read_back(command):
     """Each row and column is read as it is written, the numbers as whole ones."""
     words, of_texts = command()
     for given in (UNNAMED, ODD_NAMES):
         rows = ending(["schedule"], given)[1]
         for asked, more, kinds in (("counts", b"", "i"), ("compare", b"", "i" * (1 + len(ORDERS))),
-                                   ("check", rows, f"{of_texts}iiii")):
+                                   ("check", rows, f"{of_texts}iiii"),
+                                   ("explain", b"", f"iiii{of_texts}iii{of_texts * 3}")):
             text = ending([asked, "--csv"], given + more)[1].decode()
             done = subprocess.run(words, input=text, capture_output=True, text=True, timeout=SECONDS, check=False)
-            if done.stdout != f"{text}i{of_texts}{kinds}\n":
+            if cells(done.stdout) != cells(f"{text}i{of_texts}{kinds}\n"):
                 yield f"{asked}: {done.stdout}{done.stderr} in place of {text}"
 
 

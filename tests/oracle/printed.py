@@ -91,6 +91,15 @@ class Listing:
     def explain(self):
         return self.listed(map(Schedule.lines, self.schedules), total(self.schedules))
 
+    def explain_table(self):
+        """What `explain --csv` lists: texts in quotes, and what an operation waited for with blanks between."""
+        lines = ["block,name,number,cycle,unit,ready,after,priority,earliest,slack,held,operation,issued"]
+        for k, (name, schedule) in enumerate(zip(self.names, self.schedules, strict=True), 1):
+            for told in schedule.told():
+                *fields, operation, issued = {**told, "after": told["after"].replace(",", " ")}.values()
+                lines.append(",".join(map(str, (k, name, *fields, f'"{operation}"', f'"{issued}"'))))
+        return text_from(lines)
+
     def cycles(self):
         """What `explain --cycles` lists."""
         entries = ([*ready_lines(schedule), schedule.summary()] for schedule in self.schedules)

@@ -212,14 +212,21 @@ class Schedule:
     def summary(self):
         return f"cycles {self.cycles()} least {self.bound()}"
 
-    def lines(self):
+    def told(self):
+        """What is said of each operation, by the names of a table's columns."""
         cycles, starts = self.cycles(), starts_of(self.ops, self.pairs)
         for j, op in enumerate(self.ops):
             cycle, unit = self.places[j]
             ready = self.ready(j)
-            slack = cycles - cycle - self.priorities[j]
-            yield (f"{j} cycle {cycle} unit {unit} ready {ready} after {self.after(j, ready)} priority {self.ranks[j]}"
-                   f" earliest {starts[j]} slack {slack} held {self.held(j, ready)} {self.originals[j]} ; {op}")
+            yield {"number": j, "cycle": cycle, "unit": unit, "ready": ready, "after": self.after(j, ready),
+                   "priority": self.ranks[j], "earliest": starts[j], "slack": cycles - cycle - self.priorities[j],
+                   "held": self.held(j, ready), "operation": self.originals[j], "issued": op}
+
+    def lines(self):
+        for told in self.told():
+            number, *measures = [*told.items()][:-2]
+            yield (f"{number[1]} {' '.join(f'{name} {value}' for name, value in measures)}"
+                   f" {told['operation']} ; {told['issued']}")
         yield self.summary()
         yield f"chain {self.chain()}"
         yield f"path {self.path()}"

@@ -1,6 +1,7 @@
 -- What listings of schedules keep, by what is known of their entries.
-use Rattle.iloc_farm.proofs.Common.{◌≡◌, ℕ, ◌++◌, Bool, List, map, Some, None, Option, refl, ap, ◌∙◌, ap₂, subst, append-nil, AllZip, zip, Block, Table, Latencies, MemoryRule, ruled_least_bound, has, memory_rule, Csv, Cycles, Where, Request, count_line, cycles_of, outcome_entry, schedule_entry, total_of_all, initial_memory, opening_as, ranks_under, Own, own_of, ListsAs, Held, Finding, command_of}
+use Rattle.iloc_farm.proofs.Common.{◌≡◌, ℕ, ◌++◌, Bool, List, map, Some, None, Option, sym, refl, ap, ◌∙◌, ap₂, subst, append-nil, AllZip, zip, Block, Table, Latencies, MemoryRule, ruled_least_bound, has, memory_rule, Csv, Cycles, Where, Request, count_line, cycles_of, outcome_entry, schedule_entry, total_of_all, initial_memory, opening_as, ranks_under, Own, own_of, ListsAs, Held, Finding, command_of}
 use Rattle.std.specs.Io.KnownBytes.{Appends}
+use Rattle.std.proofs.lemmas.Simd.{map-map}
 use Rattle.std.proofs.lemmas.Slice.Zip.{AllZip-map}
 use Rattle.iloc_meaning.specs.Outcome.{outcome}
 use Rattle.iloc_meaning.specs.declared.outcome.Outcome.{Outcome}
@@ -16,7 +17,7 @@ use Rattle.iloc_block_commands.specs.Optimize.{IsOptimizeEntry}
 use Rattle.iloc_block_commands.specs.Run.{IsRunEntry, IsShownOf}
 use Rattle.iloc_block_commands.specs.Schedule.{IsScheduleEntry}
 use Rattle.iloc_block_commands.specs.Simulate.{IsSimulateEntry}
-use Rattle.iloc_view_commands.specs.Explain.{IsExplainEntry}
+use Rattle.iloc_view_commands.specs.Explain.{IsExplainEntry, explain_header, with_block}
 use Rattle.iloc_farm.proofs.Chosen.{AreOf, IsOf, entries_mapped, first, halves, items_of, mapped, second, total_mapped, total_same, weaker, zip_halves}
 use Rattle.iloc_farm.specs.Headline.{KeepsItsBlock}
 use Rattle.iloc_farm.specs.Reads.{ReadsBlocks}
@@ -159,24 +160,30 @@ module _ (held : Held) (request : Request) (ro rn wo wn : Option (List ℕ)) (fi
             (total_mapped lat first are.items));
       })
 
-  abbrev IsExplained : Block → Table × List ℕ → Type 0
-  IsExplained b of = IsLawfulFor rule lat b of.0 × Explains (has request.flags Cycles) rule lat (b, of.0) of.1
+  abbrev Said : Type 0
+  Said = List (List ℕ)
 
-  abbrev explained_line : ℕ → Option (List ℕ) → Table × List ℕ → List ℕ
-  explained_line k name of = headed k name of.1
+  abbrev SaysOf : Block × Table → Said → Type 0
+  SaysOf of said = Explains (has request.flags Csv) (has request.flags Cycles) rule lat of said
+
+  abbrev IsExplained : Block → Table × Said → Type 0
+  IsExplained b of = IsLawfulFor rule lat b of.0 × SaysOf (b, of.0) of.1
+
+  abbrev explained_line : ℕ → Option (List ℕ) → Table × Said → List ℕ
+  explained_line k name of = with_block (has request.flags Csv) k name of.1
 
   explained_item : (own : Option (List ℕ)) (k : ℕ) (b : Block) (entry : List ℕ) (cycles : ℕ)
       → IsExplainEntry request own k b entry cycles
       → IsOf explained_line first_cycles IsExplained k b entry cycles
   explained_item own k b entry cycles is = record {
-    item = (is.schedule, is.text);
+    item = (is.schedule, is.said);
     right = (
       is.greedy.greedy.lawful,
       record {
         priorities = ranks_under rule request.priority lat own is.schedule.ops;
         bound = least_under rule lat b.ops;
         holds = ruled_least_bound rule lat b.ops;
-        said = is.said;
+        are_said = is.are_said;
       },
     );
     listed = is.listed;
@@ -184,21 +191,22 @@ module _ (held : Held) (request : Request) (ro rn wo wn : Option (List ℕ)) (fi
   }
 
   pub explained_keep : ListsAs command_of task.Explain None held request ro rn finding text
-      → KeepsEachBlock (asked_in request) (ListsExplained (has request.flags Cycles) rule) ro rn wo wn
+      → KeepsEachBlock (asked_in request) (ListsExplained (has request.flags Csv) (has request.flags Cycles) rule) ro rn wo wn
   explained_keep lists =
       let r = lists.0 in
       let is = r.listed in
       let are : AreOf explained_line first_cycles IsExplained 1 r.blocks is.entries is.found =
       items_of explained_line first_cycles IsExplained (λ k. IsExplainEntry request (own_of r.own k) k)
       (λ k. explained_item (own_of r.own k) k) 1 r.blocks is.found is.entries is.listed in
-      kept (ListsExplained (has request.flags Cycles) rule) r.blocks (reads r) (map first are.items)
-      (lawful_first (λ (b : Block) (of : Table × List ℕ). Explains (has request.flags Cycles) rule lat (b, of.0) of.1) r.blocks are.items are.right)
+      let csv : Bool = has request.flags Csv in
+      kept (ListsExplained csv (has request.flags Cycles) rule) r.blocks (reads r) (map first are.items)
+      (lawful_first (λ (b : Block) (of : Table × Said). SaysOf (b, of.0) of.1) r.blocks are.items are.right)
       (record {
         said = map second are.items;
-        explain = halves IsExplained (Explains (has request.flags Cycles) rule lat) (λ b of is. is.1) r.blocks are.items are.right;
-        listed = is.whole ∙ (ap₂ (λ xs cs. xs ++ total_of_all cs)
-            (are.listed ∙ entries_mapped headed second 1 r.blocks are.items) are.are_found
-            ∙ ap (λ end. entries headed 1 r.blocks (map second are.items) ++ end) (total_mapped lat first are.items));
+        explain = halves IsExplained SaysOf (λ b of is. is.1) r.blocks are.items are.right;
+        listed = is.whole ∙ ap₂ (λ xs cs. opening_as csv explain_header ++ xs ++ count_ending csv cs)
+            (are.listed ∙ entries_mapped (with_block csv) second 1 r.blocks are.items)
+            (are.are_found ∙ sym (map-map (cycles_of lat) first are.items));
       })
 
   abbrev IsSimulated : Block → Table × Outcome → Type 0

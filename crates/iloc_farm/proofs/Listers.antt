@@ -1,13 +1,13 @@
 -- Requests that ask alike list one text.
-use Rattle.iloc_farm.proofs.Common.{◌≡◌, ℕ, Bool, true, false, ◌&&◌, List, ◌++◌, is_some, is_none, if◌then◌else◌, Some, None, codes, Option, sym, refl, ap, ◌∙◌, ap₂, arith, transport, Block, Op, words_from, Table, Latencies, MemoryRule, has, memory_rule, Csv, Cycles, Disambiguate, Where, Request, Task, block_head, count_line, cycles_of, opening_as, outcome_entry, schedule_entry, total_of_all, words_or_fault, ranks_under, listing_also, one_listing, one_listing_after, initial_memory, no_ending, Own, own_of, IsListingFor, IsCompareEntry, IsComparedCycles, compare_ending, compare_header, compare_line, ending_for, opening_for, ComparedCycles, command_of, AskAlike, SimulatingListsRuns, searches}
-use Rattle.iloc_explain.proofs.OneText.{one_explanation}
+use Rattle.iloc_farm.proofs.Common.{◌≡◌, ℕ, Bool, true, false, ◌&&◌, List, [], ◌∷◌, ◌++◌, is_some, is_none, if◌then◌else◌, Some, None, codes, Option, sym, refl, ap, ◌∙◌, ap₂, arith, transport, Block, Op, words_from, Table, Latencies, MemoryRule, has, memory_rule, Csv, Cycles, Disambiguate, Where, Request, Task, block_head, count_line, cycles_of, opening_as, outcome_entry, schedule_entry, total_of_all, words_or_fault, ranks_under, listing_also, one_listing, one_listing_after, initial_memory, no_ending, Own, own_of, IsListingFor, IsCompareEntry, IsComparedCycles, compare_ending, compare_header, compare_line, ending_for, opening_for, ComparedCycles, command_of, AskAlike, SimulatingListsRuns, searches}
+use Rattle.iloc_explain.proofs.OneText.{one_explanation, one_table}
 use Rattle.iloc_graph.specs.Listing.{IsCluster}
 use Rattle.iloc_graph.proofs.OneText.{one_cluster}
 use Rattle.iloc_meaning.specs.Outcome.{outcome, shown}
 use Rattle.iloc_args.specs.declared.request.Task.TheVariants as task
 use Rattle.iloc_block_commands.specs.Counts.{IsCountEntry}
 use Rattle.iloc_listing.specs.Listing.{count_ending, count_header}
-use Rattle.iloc_view_commands.specs.Explain.{IsExplainEntry, IsSaid}
+use Rattle.iloc_view_commands.specs.Explain.{AreSaid, IsExplainEntry, IsSaid, explain_header, with_block}
 use Rattle.iloc_view_commands.specs.Graph.{IsGraphEntry, drawing_end, opening_at}
 use Rattle.iloc_block_commands.specs.Run.{IsRunEntry}
 use Rattle.iloc_block_commands.specs.Schedule.{IsScheduleEntry}
@@ -33,6 +33,15 @@ one_said : (by_cycle : Bool) (prios : List ℕ) (rule : MemoryRule) (lat : Laten
 one_said true prios rule lat bound block s text text' said said' = said ∙ sym said'
 one_said false prios rule lat bound block s text text' said said' =
     one_explanation prios rule lat bound block s.ops s.rows s.ops text text' said said'
+
+-- and in a table, or not, one list
+one_list_said : (csv by_cycle : Bool) (prios : List ℕ) (rule : MemoryRule) (lat : Latencies) (bound : ℕ) (block : List Op) (s : Table)
+    (said said' : List (List ℕ)) → AreSaid csv by_cycle prios rule lat bound block s said
+    → AreSaid csv by_cycle prios rule lat bound block s said' → said ≡ said'
+one_list_said true by_cycle prios rule lat bound block s said said' are are' =
+    one_table prios rule lat block s.ops s.rows said said' are are'
+one_list_said false by_cycle prios rule lat bound block s said said' are are' =
+    are.2 ∙ (ap (λ text. text ∷ []) (one_said by_cycle prios rule lat bound block s are.0 are'.0 are.1 are'.1) ∙ sym are'.2)
 
 pub rule_same : (r q : Request) → AskAlike r q → memory_rule r ≡ memory_rule q
 rule_same r q alike = λ i. if has (alike.flags i) Disambiguate then Address else Book
@@ -91,14 +100,14 @@ module _ (r q : Request) (alike : AskAlike r q) (k : ℕ) (b : Block) where
   explain_same own e e' c c' is is' =
       let same : is.schedule ≡ is'.schedule =
       same_schedule own is.schedule is'.schedule is.greedy is'.greedy in
-      let text : is.text ≡ is'.text =
-      one_said (has q.flags Cycles) (ranks_under (memory_rule q) q.priority q.latencies own is'.schedule.ops) (memory_rule q) q.latencies
-      (least_under (memory_rule q) q.latencies b.ops) b.ops is'.schedule is.text is'.text
-      (transport (λ i. IsSaid (has (alike.flags i) Cycles)
+      let said : is.said ≡ is'.said =
+      one_list_said (has q.flags Csv) (has q.flags Cycles) (ranks_under (memory_rule q) q.priority q.latencies own is'.schedule.ops) (memory_rule q) q.latencies
+      (least_under (memory_rule q) q.latencies b.ops) b.ops is'.schedule is.said is'.said
+      (transport (λ i. AreSaid (has (alike.flags i) Csv) (has (alike.flags i) Cycles)
       (ranks_under (rule_same r q alike i) (alike.priority i) (alike.latencies i) own (same i).ops) (rule_same r q alike i)
-      (alike.latencies i) (least_under (rule_same r q alike i) (alike.latencies i) b.ops) b.ops (same i) is.text) is.said)
-      is'.said in (
-        is.listed ∙ (ap (λ t. block_head k b.name ++ codes "\n" ++ t) text ∙ sym is'.listed),
+      (alike.latencies i) (least_under (rule_same r q alike i) (alike.latencies i) b.ops) b.ops (same i) is.said) is.are_said)
+      is'.are_said in (
+        is.listed ∙ (ap₂ (λ flags list. with_block (has flags Csv) k b.name list) alike.flags said ∙ sym is'.listed),
         cycles_same is.schedule is'.schedule c c' same is.counted is'.counted,
       )
 
@@ -150,8 +159,10 @@ of_one_task task.Compare r q alike settled own blocks text text' lists lists' =
     (λ i. compare_ending (has (alike.flags i) Csv) (alike.nodes i) (is_some (alike.priorities_file i))) lists lists'
 of_one_task task.Optimize r q alike settled own blocks text text' lists lists' = absurd cc
 of_one_task task.Explain r q alike settled own blocks text text' lists lists' =
-    one_listing (λ k. IsExplainEntry r (own_of own k) k) (λ k. IsExplainEntry q (own_of own k) k)
-    (λ k b. explain_same r q alike k b (own_of own k)) total_of_all blocks text text' lists lists'
+    one_listing_after (λ k. IsExplainEntry r (own_of own k) k) (λ k. IsExplainEntry q (own_of own k) k)
+    (λ k b. explain_same r q alike k b (own_of own k)) (opening_as (has r.flags Csv) explain_header)
+    (opening_as (has q.flags Csv) explain_header) (count_ending (has r.flags Csv)) (count_ending (has q.flags Csv)) blocks text text'
+    (ap (λ flags. opening_as (has flags Csv) explain_header) alike.flags) (ap (λ flags. count_ending (has flags Csv)) alike.flags) lists lists'
 of_one_task task.Graph r q alike settled own blocks text text' lists lists' =
     one_listing (IsGraphEntry r) (IsGraphEntry q) (graph_same r q alike) drawing_end blocks text text' lists lists'
 of_one_task task.Check r q alike settled own blocks text text' lists lists' = absurd lists

@@ -1,5 +1,5 @@
 -- What a status of 0 tells.
-use Rattle.iloc_farm.proofs.Common.{◌≡◌, ℕ, List, Some, None, Ok, Err, Option, Result, option_map, sym, refl, ap, ◌∙◌, subst, inl, inr, arith, Global, String, Block, placed, Proposed, has, memory_rule, Cycles, EitherSlot, Request, Task, initial_memory, status_of_finding, ListsAs, Held, Finding, Passed, Checks, options_of, command_of}
+use Rattle.iloc_farm.proofs.Common.{◌≡◌, ℕ, List, Some, None, Ok, Err, Option, Result, option_map, sym, refl, ap, ◌∙◌, subst, inl, inr, arith, Global, String, Block, placed, Proposed, has, memory_rule, Csv, Cycles, EitherSlot, Request, Task, initial_memory, status_of_finding, ListsAs, Held, Finding, Passed, Checks, options_of, command_of}
 use Rattle.std.specs.Io.KnownBytes.{Appends}
 use Rattle.std.specs.String.{string_bytes}
 use Rattle.std.specs.declared.io.Error.{Error}
@@ -104,7 +104,7 @@ module _ (held : Held) (words : Result Args Error) (ro rn wo wn so sn : Option (
   explained : (request : Request) (text : List ℕ) (file : Option (String Global)) → file ≡ request.task_file
       → ListsAs command_of task.Explain file held request ro rn Passed text → Appends wo wn text
       → (asked_in request).task_file ≡ None
-      → KeepsEachBlock (asked_in request) (ListsExplained (has request.flags Cycles) (memory_rule request)) ro rn wo wn
+      → KeepsEachBlock (asked_in request) (ListsExplained (has request.flags Csv) (has request.flags Cycles) (memory_rule request)) ro rn wo wn
   explained request text None named lists written none = explained_keep held request ro rn wo wn Passed text written lists
   explained request text (Some name) named lists written none =
       let both : Some (string_bytes name) ≡ None = ap (option_map string_bytes) named ∙ none in absurd cc

@@ -40,5 +40,5 @@ pub record Status0Tells (held : Held) (words : Result Args Error) (read_old read
   pub optimize : IfAsked words task.Optimize
       (λ asked. KeepsEachBlock asked (ListsBounds (rule_asked asked.flags)) read_old read_new written_old written_new)
   pub explain : IfAsked words task.Explain (λ asked. asked.task_file ≡ None
-      → KeepsEachBlock asked (ListsExplained (asked.flags Cycles) (rule_asked asked.flags)) read_old read_new written_old written_new)
+      → KeepsEachBlock asked (ListsExplained (asked.flags Csv) (asked.flags Cycles) (rule_asked asked.flags)) read_old read_new written_old written_new)
   pub check : IfAsked words task.Check (λ asked. ReadsTheSame held asked read_old read_new)

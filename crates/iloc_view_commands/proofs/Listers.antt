@@ -1,5 +1,5 @@
 -- What the commands list of a block.
-use Rattle.iloc_view_commands.proofs.Common.{◌≡◌, ℕ, List, [], ◌++◌, length, ℤ, IfSome, Some, None, codes, Option, sym, refl, ap, ◌∙◌, subst, ap₂, append_assoc, arith, Op, Latencies, length-priorities_by_where, ruled_priorities, counts_by, priorities_under, MemoryRule, GraphOf, of_block, least_of_under, least_under, AreMeasures, IsCluster, memory_rule, block_head, cycles_of, parts_joined, IsExplainEntry, IsSaid}
+use Rattle.iloc_view_commands.proofs.Common.{◌≡◌, ℕ, false, List, [], ◌∷◌, ◌++◌, length, ℤ, IfSome, Some, None, codes, Option, sym, refl, ap, ◌∙◌, subst, ap₂, append_assoc, append-nil, arith, Op, Latencies, length-priorities_by_where, ruled_priorities, counts_by, priorities_under, MemoryRule, GraphOf, of_block, least_of_under, least_under, AreMeasures, IsCluster, memory_rule, block_head, cycles_of, parts_joined, AreSaid, IsExplainEntry}
 use Rattle.std.proofs.Math.Path.{transport}
 use Rattle.iloc_ops.specs.declared.file.Block.{Block}
 use Rattle.iloc_timed.specs.Schedule.{Table}
@@ -11,8 +11,9 @@ use Rattle.iloc_explain.specs.declared.measures.Measures.{Measures}
 use Rattle.iloc_trace.specs.Events.{events}
 use Rattle.iloc_trace.specs.Listing.{trace_lines}
 use Rattle.iloc_args.specs.Flags.{has}
-use Rattle.iloc_args.specs.declared.flag.Flag.TheVariants.{Cycles}
+use Rattle.iloc_args.specs.declared.flag.Flag.TheVariants.{Csv, Cycles}
 use Rattle.iloc_args.specs.declared.request.Request.{Request}
+use Rattle.iloc_view_commands.specs.Explain.{with_block}
 use Rattle.iloc_view_commands.specs.Graph.{IsGraphEntry, opening_at}
 use Rattle.iloc_driver.specs.Command.{IsScheduleFor, initial_memory}
 use Rattle.iloc_view_commands.specs.Trace.{IsTraceEntry}
@@ -95,22 +96,23 @@ measured_too rule lat b s g m is names are =
     let same : g.latencies ≡ lat = ap (λ (x : GraphOf). x.latencies) is in
     transport (λ i. AreMeasures (same i) (ops i) m) are
 
--- the text that grew from nothing by these is the entry
-pub entry_grown : (start head line whole said : List ℕ) (k : ℕ) (b : Block) (name : Option (List ℕ)) → start ≡ []
+-- what was appended, which is no table, is one text with the block
+pub text_with_block : (start head line whole said : List ℕ) (k : ℕ) (b : Block) (name : Option (List ℕ))
     → head ≡ start ++ block_head k name → name ≡ b.name → line ≡ head ++ codes "\n" → whole ≡ line ++ said
-    → whole ≡ block_head k b.name ++ codes "\n" ++ said
-entry_grown start head line whole said k b name empty opened named ended grown =
-    grown ∙ ap (λ xs. xs ++ said) (ended ∙ ap (λ xs. xs ++ codes "\n")
-    (opened ∙ ap₂ (λ xs n. xs ++ block_head k n) empty named))
+    → whole ≡ start ++ with_block false k b.name (said ∷ [])
+text_with_block start head line whole said k b name opened named ended grown =
+    let one : said ≡ said ++ [] = sym (append-nil said) in
+    grown ∙ (ap₂ (λ xs ys. xs ++ ys) (ended ∙ ap (λ xs. xs ++ codes "\n") (opened ∙ ap (λ n. start ++ block_head k n) named)) one
+    ∙ parts_joined start (block_head k b.name) (codes "\n") (said ++ []))
 
 -- what was said of the schedule that is greedy by the numbers found is the entry
-pub explain_is : (request : Request) (own : Option (List ℕ)) (k : ℕ) (b : Block) (s : Table) (g : GraphOf) (found said : List ℕ)
+pub explain_is : (request : Request) (own : Option (List ℕ)) (k : ℕ) (b : Block) (s : Table) (g : GraphOf) (found : List ℕ) (said : List (List ℕ))
     (rule : MemoryRule) (bound : ℕ) → g ≡ of_block (memory_rule request) request.latencies b.ops
     → found ≡ ranks_under g.rule request.priority g.latencies own g.ops → rule ≡ g.rule
     → bound ≡ least_of_under g.rule g.latencies g.ops
     → IsGreedyWhere (counts_by (memory_rule request) s.ops) found request.latencies b.ops s.ops s.rows
-    → IsSaid (has request.flags Cycles) found rule request.latencies bound b.ops s said
-    → (entry : List ℕ) (cycles : ℕ) → entry ≡ block_head k b.name ++ codes "\n" ++ said
+    → AreSaid (has request.flags Csv) (has request.flags Cycles) found rule request.latencies bound b.ops s said
+    → (entry : List ℕ) (cycles : ℕ) → entry ≡ with_block (has request.flags Csv) k b.name said
     → cycles ≡ cycles_of request.latencies s → IsExplainEntry request own k b entry cycles
 explain_is request own k b s g found said rule bound is ranked ruled least_is greedy says entry cycles listed counted =
     let as_asked : MemoryRule = memory_rule request in
@@ -122,8 +124,8 @@ explain_is request own k b s g found said rule bound is ranked ruled least_is gr
     record {
       schedule = s;
       greedy = scheduled request own b s g found is ranked greedy;
-      text = said;
-      said = transport (λ i. IsSaid (has request.flags Cycles) (by i) (asked i) request.latencies (bounds i) b.ops s said) says;
+      said = said;
+      are_said = transport (λ i. AreSaid (has request.flags Csv) (has request.flags Cycles) (by i) (asked i) request.latencies (bounds i) b.ops s said) says;
       listed = listed;
       counted = counted;
     }

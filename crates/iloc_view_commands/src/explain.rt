@@ -1,25 +1,33 @@
 //! `explain`: why blocks' schedules take their cycles.
-ghost use Rattle.std.specs.Prelude.{ℕ, ◌≡◌, ◌≤◌, ◌++◌, List, length, option_copied, IfOk, OnOk};
+ghost use Rattle.std.specs.Prelude.{ℕ, ◌≡◌, ◌≤◌, ◌<◌, ◌^◌, ◌++◌, List, [], ◌∷◌, true, false, length, option_copied, IfOk, OnOk};
 ghost use Rattle.iloc_ops.specs.Limits.{MAX_BLOCKS};
 ghost use Rattle.iloc_rules.specs.Renaming.{renamed};
 ghost use Rattle.iloc_rules.specs.Heuristics.{priorities_under};
 ghost use Rattle.iloc_bound.specs.Bound.{least_of_under, least_under};
-ghost use Rattle.iloc_explain.specs.Listing.{IsExplanation};
+ghost use Rattle.iloc_explain.specs.Listing.{AreTableRows, IsExplanation};
 ghost use Rattle.iloc_explain.specs.Measures.{AreMeasures, ImplyAll};
 ghost use Rattle.iloc_explain.specs.Waiting.{WaitsForAll};
 ghost use Rattle.iloc_listing.specs.Schedules.{ranks_under};
-ghost use Rattle.iloc_view_commands.specs.Explain.{IsSaid};
+ghost use Rattle.iloc_args.specs.Flags.{has};
+ghost use Rattle.iloc_args.specs.declared.flag.Flag.TheVariants.{Csv, Cycles};
+ghost use Rattle.iloc_view_commands.specs.Explain.{AreSaid, IsSaid, listing_of_explained, with_block};
 
 use iloc_args::{Flag, Request};
 use iloc_bound::least_of;
 use iloc_driver::FarmedLister;
-use iloc_explain::{Counted, Measures, push_explanation, push_ready_list};
-use iloc_listing::{EntryMaker, Listing, ScheduleEntry, count_of, push_block_head, with_total};
+use iloc_explain::{Counted, Measures, push_explanation, push_ready_list, push_table};
+use iloc_listing::{
+    EntryMaker, Listing, ScheduleEntry, count_of, push_block_head, push_head, with_total,
+};
 use iloc_ops::{Block, Blocks, NoMemory, Op};
 use iloc_rules::{Heuristic, Pair};
 use iloc_sched::{Graph, Scheduler};
 use iloc_timed::{Latencies, Schedule};
 use std::alloc::Global;
+
+/// What a table begins with.
+const HEADER: &[u8] =
+    b"block,name,number,cycle,unit,ready,after,priority,earliest,slack,held,operation,issued\n";
 
 /// The numbers that rank the operations of `graph`: its `own`, if it has some, else the ones of `heuristic` by its
 /// rule.
@@ -134,6 +142,118 @@ fn push_said(
     push_explanation(alloc, text, block, latencies, measures, schedule, issued)
 }
 
+/// Appends the rows of block `number` in a table.
+fn push_rows(
+    alloc: Global,
+    text: &mut Vec<u8>,
+    number: usize,
+    block: &Block,
+    latencies: &Latencies,
+    measures: &Measures,
+    schedule: &Schedule,
+) -> Result<(), NoMemory>
+    requires number { number < 2 ^ 63 }
+    requires names { schedule.now.ops ≡ renamed block.now.ops }
+    requires measured { AreMeasures latencies.now schedule.now.ops measures.now }
+    requires waits { WaitsForAll measures.now.counted.rule latencies.now schedule.now.ops schedule.now.rows }
+    ensures { OnOk result ((table : List (List ℕ))
+        × AreTableRows measures.now.ranks.items measures.now.counted.rule latencies.now block.now.ops schedule.now.ops
+        schedule.now.rows table
+        × (text.new.items ≡ text.old.items ++ with_block true number block.now.name table)) }
+{
+    let mut head = Vec::new(alloc);
+    push_head(&mut head, true, number, block.name.as_ref())?;
+    push_table(alloc, text, &head, block, latencies, measures, schedule)
+}
+
+/// Appends the head of block `number`, and what is said of `schedule`.
+fn push_text(
+    alloc: Global,
+    text: &mut Vec<u8>,
+    request: &Request,
+    number: usize,
+    block: &Block,
+    measures: &Measures,
+    schedule: &Schedule,
+) -> Result<(), NoMemory>
+    requires number { number < 2 ^ 63 }
+    requires names { schedule.now.ops ≡ renamed block.now.ops }
+    requires measured { AreMeasures request.now.latencies schedule.now.ops measures.now }
+    requires waits { WaitsForAll measures.now.counted.rule request.now.latencies schedule.now.ops schedule.now.rows }
+    ensures { OnOk result ((said : List ℕ)
+        × IsSaid (has request.now.flags Cycles) measures.now.ranks.items measures.now.counted.rule request.now.latencies
+        measures.now.least block.now.ops schedule.now said
+        × (text.new.items ≡ text.old.items ++ with_block false number block.now.name (said ∷ []))) }
+{
+    push_block_head(text, number, block.name.as_ref())?;
+    text.push(b'\n')?;
+    let by_cycle = request.flags.has(Flag::Cycles);
+    push_said(
+        alloc,
+        text,
+        block,
+        &request.latencies,
+        measures,
+        schedule,
+        by_cycle,
+    )
+}
+
+/// Appends the entry of block `number`, as `request` asks for it.
+fn push_entry(
+    alloc: Global,
+    text: &mut Vec<u8>,
+    request: &Request,
+    number: usize,
+    block: &Block,
+    measures: &Measures,
+    schedule: &Schedule,
+) -> Result<(), NoMemory>
+    requires number { number < 2 ^ 63 }
+    requires names { schedule.now.ops ≡ renamed block.now.ops }
+    requires measured { AreMeasures request.now.latencies schedule.now.ops measures.now }
+    requires waits { WaitsForAll measures.now.counted.rule request.now.latencies schedule.now.ops schedule.now.rows }
+    ensures { OnOk result ((said : List (List ℕ))
+        × AreSaid (has request.now.flags Csv) (has request.now.flags Cycles) measures.now.ranks.items measures.now.counted.rule
+        request.now.latencies measures.now.least block.now.ops schedule.now said
+        × (text.new.items ≡ text.old.items ++ with_block (has request.now.flags Csv) number block.now.name said)) }
+{
+    let csv = request.flags.has(Flag::Csv);
+    if csv {
+        push_rows(
+            alloc,
+            text,
+            number,
+            block,
+            &request.latencies,
+            measures,
+            schedule,
+        )
+    } else {
+        push_text(alloc, text, request, number, block, measures, schedule)
+    }
+}
+
+/// The table of `entries`.
+fn table_of(alloc: Global, mut entries: Vec<ScheduleEntry>) -> Result<Listing, NoMemory>
+    ensures { IfOk result (λ text. text ≡ listing_of_explained true entries.items) }
+{
+    let header = EntryMaker::new(alloc).entry_of(HEADER, 0)?;
+    entries.insert(0, header)?;
+    Listing::of_entries(alloc, entries, Vec::new(alloc))
+}
+
+/// The listing of `entries`, as a table or with the cycles of all at the end.
+fn listing_of(alloc: Global, csv: bool, entries: Vec<ScheduleEntry>) -> Result<Listing, NoMemory>
+    requires { length entries.items ≤ MAX_BLOCKS }
+    ensures { IfOk result (λ text. text ≡ listing_of_explained csv entries.items) }
+{
+    if csv {
+        return table_of(alloc, entries);
+    }
+    with_total(alloc, entries)
+}
+
 /// Schedules each block, and lists why its schedule takes its cycles.
 #[derive(Drop)]
 pub struct ExplainLister {
@@ -147,7 +267,6 @@ pub struct ExplainLister {
 impl FarmedLister for ExplainLister {
     ghost use Rattle.iloc_view_commands.specs.Explain.{IsExplainEntry, IsExplainListing};
     ghost use Rattle.iloc_driver.specs.Entries.{AreListed};
-    ghost use Rattle.iloc_listing.specs.Listing.{listing_of_entries};
     ghost use Rattle.iloc_driver.specs.Priorities.{Own};
     ghost use Rattle.iloc_driver.specs.Work.{by_own};
 
@@ -157,7 +276,7 @@ impl FarmedLister for ExplainLister {
 
     ghost cycles_in = { λ entry. entry.cycles };
 
-    ghost made_of = { λ _ _ entries. listing_of_entries entries };
+    ghost made_of = { λ request _ entries. listing_of_explained (has request.flags Csv) entries };
 
     ghost lists = { IsExplainListing };
 
@@ -184,18 +303,15 @@ impl FarmedLister for ExplainLister {
         let measures = measure(alloc, &self.graph, ranks)?;
         let schedule = self.scheduler.lend(&self.graph, &measures.ranks)?;
         let cycles = count_of(&schedule, latencies);
-        let by_cycle = request.flags.has(Flag::Cycles);
         self.text.clear();
-        push_block_head(&mut self.text, number, block.name.as_ref())?;
-        self.text.push(b'\n')?;
-        push_said(
+        push_entry(
             alloc,
             &mut self.text,
+            request,
+            number,
             block,
-            latencies,
             &measures,
             &schedule,
-            by_cycle,
         )?;
         let entry = self.entries.entry_of(&self.text, cycles)?;
         self.scheduler.take_back(schedule);
@@ -208,18 +324,19 @@ impl FarmedLister for ExplainLister {
 
     fn listing(
         alloc: Global,
-        _request: &Request,
+        request: &Request,
         blocks: Blocks,
         entries: Vec<ScheduleEntry>,
     ) -> Result<Listing, NoMemory>
         requires few { length blocks ≤ MAX_BLOCKS }
         requires many { length entries.items ≡ length blocks }
-        ensures made { IfOk result (λ text. text ≡ listing_of_entries entries.items) }
+        ensures made { IfOk result (λ text. text ≡ listing_of_explained (has request.now.flags Csv) entries.items) }
         ensures right { IfOk result (λ text. (own : Own)
-            → AreListed (by_own (λ own k block entry. IsExplainEntry _request.now own k block entry.text entry.cycles) own)
-            blocks entries.items → IsExplainListing _request.now own blocks text) }
+            → AreListed (by_own (λ own k block entry. IsExplainEntry request.now own k block entry.text entry.cycles) own)
+            blocks entries.items → IsExplainListing request.now own blocks text) }
     {
         drop(blocks);
-        with_total(alloc, entries)
+        let csv = request.flags.has(Flag::Csv);
+        listing_of(alloc, csv, entries)
     }
 }

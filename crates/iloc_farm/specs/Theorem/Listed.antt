@@ -7,8 +7,8 @@ use Rattle.iloc_timed.specs.declared.latencies.Latencies.{Latencies}
 use Rattle.iloc_timed.specs.Schedule.{Table}
 use Rattle.iloc_rules.specs.declared.memory_rule.MemoryRule.{MemoryRule}
 use Rattle.iloc_optimum.specs.Bound.{IsBound}
-use Rattle.iloc_listing.specs.Listing.{block_head, bound_comment, cycles_of, entries, listing_of_counts, outcomes_listing, schedule_entry, schedules_listing, total_line}
-use Rattle.iloc_view_commands.specs.Explain.{IsSaid}
+use Rattle.iloc_listing.specs.Listing.{block_head, bound_comment, count_ending, cycles_of, entries, listing_of_counts, opening_as, outcomes_listing, schedule_entry, schedules_listing, total_line}
+use Rattle.iloc_view_commands.specs.Explain.{AreSaid, explain_header, with_block}
 
 -- `schedule` lists their rows and cycles
 abbrev pub ListsSchedules : Latencies → List Block → List Table → (text : List ℕ) → Type 0
@@ -38,17 +38,18 @@ pub record ListsBounds (rule : MemoryRule) (lat : Latencies) (blocks : List Bloc
 abbrev pub headed : ℕ → (name : Option (List ℕ)) → List ℕ → List ℕ
 headed k name text = block_head k name ++ codes "\n" ++ text
 
--- What `explain` says of a schedule, ranked by some priorities: why it takes its cycles or, with `--cycles`, what is ready in
--- each. No schedule of its block that is lawful by `rule` takes fewer cycles than the bound that is said.
-pub record Explains (by_cycle : Bool) (rule : MemoryRule) (lat : Latencies) (of : Block × Table) (text : List ℕ) : Type 0 where
+-- What `explain` says of a schedule, ranked by some priorities: why it takes its cycles, with `--cycles` what is ready in
+-- each, or with `--csv` a row of a table for each operation. No schedule of its block that is lawful by `rule` takes fewer cycles than the bound that is said.
+pub record Explains (csv by_cycle : Bool) (rule : MemoryRule) (lat : Latencies) (of : Block × Table) (said : List (List ℕ)) : Type 0 where
   pub priorities : List ℕ
   pub bound : ℕ
   pub holds : IsBound rule lat of.0.ops bound
-  pub said : IsSaid by_cycle priorities rule lat bound of.0.ops of.1 text
+  pub are_said : AreSaid csv by_cycle priorities rule lat bound of.0.ops of.1 said
 
 -- `explain` says this of each
-pub record ListsExplained (by_cycle : Bool) (rule : MemoryRule) (lat : Latencies) (blocks : List Block) (schedules : List Table)
+pub record ListsExplained (csv by_cycle : Bool) (rule : MemoryRule) (lat : Latencies) (blocks : List Block) (schedules : List Table)
     (text : List ℕ) : Type 0 where
-  pub said : List (List ℕ)
-  pub explain : AllZip (Explains by_cycle rule lat) (zip blocks schedules) said
-  pub listed : text ≡ entries headed 1 blocks said ++ total_line lat schedules
+  pub said : List (List (List ℕ))
+  pub explain : AllZip (Explains csv by_cycle rule lat) (zip blocks schedules) said
+  pub listed : text ≡
+      opening_as csv explain_header ++ entries (with_block csv) 1 blocks said ++ count_ending csv (map (cycles_of lat) schedules)
