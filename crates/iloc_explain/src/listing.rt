@@ -293,10 +293,9 @@ pub fn push_explanation(
     push_path(text, &path_of(alloc, schedule, latencies, &explained)?)
 }
 
-/// Appends a table's rows of the operations of a schedule of the block by a rule of memory, each after `head`, what the table
-/// has of the block.
+/// Appends a row of a table for each operation of `schedule`, each after `head`, which is what the table has of `block`.
 ///
-/// Promise: The rows are those of the schedule.
+/// Promise: Each row has what explains the cycle in which `schedule` issues its operation.
 pub fn push_table(
     alloc: Global,
     text: &mut Vec<u8>,

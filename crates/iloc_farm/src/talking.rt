@@ -22,8 +22,8 @@ use std::thread::Threads;
 pub struct Terminals {
     /// Nothing else shows on a terminal that the program waits for its input.
     pub input: bool,
-    /// Where it isn't a terminal, standard error has a fault's line and the reason, which the four commands of the papers leave
-    /// out, and nothing else.
+    /// Where standard error isn't a terminal, it has a fault's line and, but for `run`, `simulate`, `schedule` and `counts`, the
+    /// reason; nothing else.
     pub faults: bool,
 }
 
