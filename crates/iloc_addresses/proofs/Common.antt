@@ -30,5 +30,5 @@ pub use Rattle.iloc_addresses.specs.Steps.ByConstant.{Moves, count_in, ops_at}
 pub use Rattle.iloc_addresses.specs.Steps.Dependences.{AreFar, ArePlaced, Finds, IsBefore, IsLast, IsShort, IsStoreAt, IsWaiting, at_constant, constant_of, have_one_base, store_for, waiting_by}
 pub use Rattle.iloc_addresses.specs.Steps.LastByConstant.{last_at}
 pub use Rattle.iloc_addresses.specs.Steps.Registers.{AreBefore, ChangesOnly, word_at, word_in}
-pub use Rattle.iloc_addresses.specs.Steps.Successors.{AreCounted, AreCounts, AreDefiners, AreNested, AreNoted, AreUsesCounted, base_cmp, base_of, count_from, definer, is_by_memory, is_by_use, is_number, near, noted, uses_before, waiting_for, waits_by_memory, with_base, with_both, word_cmp}
+pub use Rattle.iloc_addresses.specs.Steps.Successors.{AreCounted, AreCounts, AreDefiners, AreNested, AreNoted, AreReached, AreUsesCounted, base_cmp, base_of, count_from, definer, is_by_memory, is_by_use, is_number, near, noted, one_address, uses_before, waiting_for, waits_by_memory, with_base, with_both, word_cmp}
 pub use Rattle.iloc_addresses.specs.declared.dependences.accesses.Accesses.{Accesses}

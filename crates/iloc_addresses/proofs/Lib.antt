@@ -10,4 +10,5 @@ pub mod Waited
 pub mod Sources
 pub mod Taken
 pub mod AddressesCounted
+pub mod ReachedAddresses
 pub mod SuccessorsCounted

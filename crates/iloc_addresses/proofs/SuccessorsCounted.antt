@@ -1,5 +1,5 @@
 -- The operations that wait for each directly, counted by use and by memory; for `count_successors`.
-use Rattle.iloc_addresses.proofs.Common.{◌≡◌, ℕ, suc, ◌+◌, ◌-◌, ◌<◌, ◌≤◌, Bool, true, false, cond, not, ◌&&◌, ◌||◌, ◌≢◌, List, [], ◌∷◌, ◌++◌, map, length, get_or, set, if◌then◌else◌, nat_lt, ◌==◌, Some, None, count_by, Option, nat_cmp, sym, refl, ap, ◌∙◌, inl, inr, true≢false, arith, length-set, get_or-set_other, get_or-set_same, ext_get_or, ltb-true, lt-ltb, eqb-true, cases_eq, cases_lt, get, is_at, list_any, range_with_len, defined, used, Op, Reg, by_bool, is_register, op_at, is_store, kind, latency, Kind, Latencies, address_at, apart_if_both, by_address, known_before, keeps_order_where, reads_stored, uses_result, when, Word, IsShort, constant_of, AreCounted, AreCounts, AreDefiners, AreNoted, AreUsesCounted, count_from, definer, is_by_memory, is_by_use, is_number, noted, uses_before, waiting_for, waits_by_memory}
+use Rattle.iloc_addresses.proofs.Common.{◌≡◌, ℕ, suc, ◌+◌, ◌-◌, ◌<◌, ◌≤◌, Bool, true, false, cond, not, ◌&&◌, ◌||◌, ◌≢◌, List, [], ◌∷◌, ◌++◌, map, length, get_or, set, if◌then◌else◌, nat_lt, ◌==◌, Some, None, count_by, Option, nat_cmp, sym, refl, ap, ◌∙◌, inl, inr, true≢false, arith, length-set, get_or-set_other, get_or-set_same, ext_get_or, ltb-true, lt-ltb, eqb-true, cases_eq, cases_lt, get, is_at, list_any, range_with_len, defined, used, Op, Reg, by_bool, is_register, op_at, kind, latency, Kind, Latencies, keeps_order_where, reads_stored, uses_result, when, Counts, Word, IsShort, constant_of, AreCounted, AreCounts, AreDefiners, AreNoted, AreReached, AreUsesCounted, count_from, definer, is_by_memory, is_by_use, is_number, noted, uses_before, waiting_for, waits_by_memory}
 use Rattle.std.proofs.lemmas.List.FromFn.{length-map-range_with_len, get_or-map-range_with_len}
 use Rattle.iloc_rules.specs.Heuristics.{waits_for_where, successors_where}
 use Rattle.iloc_rules.specs.Renaming.{IsRenamed}
@@ -8,29 +8,20 @@ use Rattle.iloc_rules.proofs.Basics.CountedRanges.{count_first, count_range, non
 use Rattle.iloc_addresses.specs.declared.successors.definers.Definers.{Definers}
 use Rattle.iloc_addresses.specs.declared.successors.later.Later.{Later}
 use Rattle.iloc_addresses.proofs.AddressesCounted.{numbers_are}
-use Rattle.iloc_addresses.proofs.Taken.{no_address}
-use Rattle.iloc_addresses.proofs.Waited.{reads}
+use Rattle.iloc_timed.specs.Kinds.{is_memory, is_output}
 
 -- there is a delay just where the result is used, or memory or outputs ask for one
 some_delay : (a b c : Bool) (d : ℕ) → nat_lt 0 (length (when a d ++ (when b d ++ when c 1))) ≡ (a || (b || c))
 some_delay a b c d = grind (arith, lt-ltb)
 
--- the rule by kinds: stores count among themselves
-by_kinds : (k l : Kind) (apart : Bool) (v w : Option Word) → apart_if_both v w ≡ apart
-    → ((((is_store k && is_store l) || not apart) && reads_stored k l)
-    || keeps_order_where ((is_store k && is_store l) || not apart) k l) ≡ waits_by_memory k v l w
-by_kinds k l true v w is = grind arith
-by_kinds k l false v w is = grind arith
-
-waits_are : (lat : Latencies) (ops : List Op) (i j : ℕ) → waits_for_where (by_address ops) lat ops i j
-    ≡ (nat_lt i j && (uses_result (op_at ops i) (op_at ops j) || is_by_memory ops i j))
-waits_are lat ops i j = ap (λ b. nat_lt i j && b)
+waits_are : (counts : Counts) (lat : Latencies) (ops : List Op) (reached : List (Option Word)) (i j : ℕ)
+    → AreReached counts ops reached → i < length ops → j < length ops → waits_for_where counts lat ops i j
+    ≡ (nat_lt i j && (uses_result (op_at ops i) (op_at ops j) || is_by_memory ops reached i j))
+waits_are counts lat ops reached i j are first second = ap (λ b. nat_lt i j && b)
     (some_delay (uses_result (op_at ops i) (op_at ops j))
-    (by_address ops i j && reads_stored (kind (op_at ops i)) (kind (op_at ops j)))
-    (keeps_order_where (by_address ops i j) (kind (op_at ops i)) (kind (op_at ops j))) (latency lat (op_at ops i))
-    ∙ ap (λ b. uses_result (op_at ops i) (op_at ops j) || b)
-    (by_kinds (kind (op_at ops i)) (kind (op_at ops j)) (apart_if_both (address_at ops i) (address_at ops j))
-    (address_at ops i) (address_at ops j) refl))
+    (counts i j && reads_stored (kind (op_at ops i)) (kind (op_at ops j)))
+    (keeps_order_where (counts i j) (kind (op_at ops i)) (kind (op_at ops j))) (latency lat (op_at ops i))
+    ∙ ap (λ b. uses_result (op_at ops i) (op_at ops j) || b) (are.waits i j first second))
 
 -- by use or by memory, each once
 parted : (u m : Bool) → cond {A = ℕ} (u || m) 1 0 ≡ cond {A = ℕ} (u && not m) 1 0 + cond {A = ℕ} m 1 0
@@ -46,32 +37,32 @@ no_later : (i j : ℕ) → j ≤ i → nat_lt i j ≡ false
 no_later i j after = by_bool (nat_lt i j) (λ t. absurd (let before : i < j = ltb-true i j t in omega arith)) (λ f. f)
 
 -- the later operations that wait, by use and by memory
-pub successors_are : (lat : Latencies) (ops : List Op) (i : ℕ) → i < length ops
-    → successors_where (by_address ops) lat ops i
-    ≡ uses_before ops i (length ops) + count_from (is_by_memory ops i) ops (i + 1)
-successors_are lat ops i within =
+pub successors_are : (counts : Counts) (lat : Latencies) (ops : List Op) (reached : List (Option Word)) (i : ℕ)
+    → AreReached counts ops reached → i < length ops → successors_where counts lat ops i
+    ≡ uses_before ops reached i (length ops) + count_from (is_by_memory ops reached i) ops (i + 1)
+successors_are counts lat ops reached i are within =
     let rest : ℕ = length ops - (i + 1) in
     let size : (i + 1) + rest ≡ length ops = omega arith in
-    let waits : ℕ → Bool = waits_for_where (by_address ops) lat ops i in
+    let waits : ℕ → Bool = waits_for_where counts lat ops i in
     let all : count_by waits (range_with_len 0 (length ops))
     ≡ count_by waits (range_with_len 0 (i + 1)) + count_by waits (range_with_len (i + 1) rest) =
     ap (λ n. count_by waits (range_with_len 0 n)) (sym size) ∙ count_range waits 0 (i + 1) rest (i + 1) (omega arith) in
-    let uses : uses_before ops i (length ops) ≡ uses_before ops i (i + 1) + count_by (is_by_use ops i) (range_with_len (i + 1) rest) =
-    ap (λ n. count_by (is_by_use ops i) (range_with_len 0 n)) (sym size)
-    ∙ count_range (is_by_use ops i) 0 (i + 1) rest (i + 1) (omega arith) in
+    let uses : uses_before ops reached i (length ops) ≡ uses_before ops reached i (i + 1) + count_by (is_by_use ops reached i) (range_with_len (i + 1) rest) =
+    ap (λ n. count_by (is_by_use ops reached i) (range_with_len 0 n)) (sym size)
+    ∙ count_range (is_by_use ops reached i) 0 (i + 1) rest (i + 1) (omega arith) in
     let none : count_by waits (range_with_len 0 (i + 1)) ≡ 0 =
-    none_in_range waits 0 (i + 1) (λ k after below. waits_are lat ops i k
-    ∙ ap (λ b. b && (uses_result (op_at ops i) (op_at ops k) || is_by_memory ops i k)) (no_later i k (omega arith))) in
-    let unused : uses_before ops i (i + 1) ≡ 0 =
-    none_in_range (is_by_use ops i) 0 (i + 1) (λ k after below.
-    ap (λ b. b && (uses_result (op_at ops i) (op_at ops k) && not (is_by_memory ops i k))) (no_later i k (omega arith))) in
+    none_in_range waits 0 (i + 1) (λ k after below. waits_are counts lat ops reached i k are within (omega arith)
+    ∙ ap (λ b. b && (uses_result (op_at ops i) (op_at ops k) || is_by_memory ops reached i k)) (no_later i k (omega arith))) in
+    let unused : uses_before ops reached i (i + 1) ≡ 0 =
+    none_in_range (is_by_use ops reached i) 0 (i + 1) (λ k after below.
+    ap (λ b. b && (uses_result (op_at ops i) (op_at ops k) && not (is_by_memory ops reached i k))) (no_later i k (omega arith))) in
     let both : count_by waits (range_with_len (i + 1) rest)
-    ≡ count_by (is_by_use ops i) (range_with_len (i + 1) rest) + count_by (is_by_memory ops i) (range_with_len (i + 1) rest) =
-    count_sum waits (is_by_use ops i) (is_by_memory ops i) (i + 1) rest (λ k after below.
+    ≡ count_by (is_by_use ops reached i) (range_with_len (i + 1) rest) + count_by (is_by_memory ops reached i) (range_with_len (i + 1) rest) =
+    count_sum waits (is_by_use ops reached i) (is_by_memory ops reached i) (i + 1) rest (λ k after below.
     let later = later_one i k (omega arith) in
     let u : Bool = uses_result (op_at ops i) (op_at ops k) in
-    let m : Bool = is_by_memory ops i k in
-    ap (λ b. cond {A = ℕ} b 1 0) (waits_are lat ops i k ∙ ap (λ b. b && (u || m)) later)
+    let m : Bool = is_by_memory ops reached i k in
+    ap (λ b. cond {A = ℕ} b 1 0) (waits_are counts lat ops reached i k are within (omega arith) ∙ ap (λ b. b && (u || m)) later)
     ∙ parted u m ∙ ap (λ b. cond {A = ℕ} (b && (u && not m)) 1 0 + cond {A = ℕ} m 1 0) (sym later)) in
     omega arith
 
@@ -182,7 +173,7 @@ uses_listed ops j definers are i (r ∷ rest) =
     shared false b c = refl
 
 -- the sources of operation j
-module _ (ops : List Op) (j : ℕ) (definers : Definers) (first second : Option ℕ) (are : AreDefiners ops j definers)
+module _ (ops : List Op) (reached : List (Option Word)) (j : ℕ) (definers : Definers) (first second : Option ℕ) (are : AreDefiners ops j definers)
     (each : (i : ℕ) → (is_number i first || is_number i second)
     ≡ list_any (λ r. is_number i (definer definers r)) (used (op_at ops j)))
     (once : (i : ℕ) → (is_number i first && is_number i second) ≡ false) where
@@ -195,51 +186,41 @@ module _ (ops : List Op) (j : ℕ) (definers : Definers) (first second : Option 
   by_source a b l u m either not_both = grind arith
 
   -- both are counted
-  pub uses_more : (found found' found'' : List ℕ) → AreUsesCounted ops found j → length found' ≡ length found
+  pub uses_more : (found found' found'' : List ℕ) → AreUsesCounted ops reached found j → length found' ≡ length found
       → length found'' ≡ length found'
       → ((i : ℕ) → get_or found' i 0
-      ≡ get_or found i 0 + (if is_number i first && not (is_by_memory ops i j) then 1 else 0))
+      ≡ get_or found i 0 + (if is_number i first && not (is_by_memory ops reached i j) then 1 else 0))
       → ((i : ℕ) → get_or found'' i 0
-      ≡ get_or found' i 0 + (if is_number i second && not (is_by_memory ops i j) then 1 else 0))
-      → AreUsesCounted ops found'' (j + 1)
+      ≡ get_or found' i 0 + (if is_number i second && not (is_by_memory ops reached i j) then 1 else 0))
+      → AreUsesCounted ops reached found'' (j + 1)
   uses_more found found' found'' counted size size' one two = record {
     size = size' ∙ size ∙ counted.size;
     each = λ i.
         let more = by_source (is_number i first) (is_number i second) (nat_lt i j)
-        (uses_result (op_at ops i) (op_at ops j)) (is_by_memory ops i j) (sources_are i) (once i) in
-        omega (arith, one i, two i, counted.each i, count_last (is_by_use ops i) j, more);
+        (uses_result (op_at ops i) (op_at ops j)) (is_by_memory ops reached i j) (sources_are i) (once i) in
+        omega (arith, one i, two i, counted.each i, count_last (is_by_use ops reached i) j, more);
   }
 
-pub uses_few : (ops : List Op) (i j : ℕ) → uses_before ops i j ≤ j
-uses_few ops i j = count_most (is_by_use ops i) 0 j
+pub uses_few : (ops : List Op) (reached : List (Option Word)) (i j : ℕ) → uses_before ops reached i j ≤ j
+uses_few ops reached i j = count_most (is_by_use ops reached i) 0 j
 
-pub all_uses : (ops : List Op) (found : List ℕ) → AreUsesCounted ops found (length ops)
-    → found ≡ map (λ i. uses_before ops i (length ops)) (range_with_len 0 (length ops))
-all_uses ops found counted =
-    let size : length (map (λ i. uses_before ops i (length ops)) (range_with_len 0 (length ops))) ≡ length ops =
-    length-map-range_with_len (λ i. uses_before ops i (length ops)) 0 (length ops) in
-    ext_get_or 0 found (map (λ i. uses_before ops i (length ops)) (range_with_len 0 (length ops))) (counted.size ∙ sym size)
-    (λ i there. counted.each i ∙ sym (get_or-map-range_with_len (λ k. uses_before ops k (length ops)) 0 (length ops) i i 0
+pub all_uses : (ops : List Op) (reached : List (Option Word)) (found : List ℕ) → AreUsesCounted ops reached found (length ops)
+    → found ≡ map (λ i. uses_before ops reached i (length ops)) (range_with_len 0 (length ops))
+all_uses ops reached found counted =
+    let size : length (map (λ i. uses_before ops reached i (length ops)) (range_with_len 0 (length ops))) ≡ length ops =
+    length-map-range_with_len (λ i. uses_before ops reached i (length ops)) 0 (length ops) in
+    ext_get_or 0 found (map (λ i. uses_before ops reached i (length ops)) (range_with_len 0 (length ops))) (counted.size ∙ sym size)
+    (λ i there. counted.each i ∙ sym (get_or-map-range_with_len (λ k. uses_before ops reached k (length ops)) 0 (length ops) i i 0
     (let all : length found ≡ length ops = counted.size in omega arith) (omega arith)))
 
 -- the tables at an operation
-pub listed_size : (ops : List Op) (addresses : List (Option Word))
-    → addresses ≡ map (address_at ops) (range_with_len 0 (length ops)) → length addresses ≡ length ops
-listed_size ops addresses are = ap length are ∙ length-map-range_with_len (address_at ops) 0 (length ops)
-
-pub address_read : (ops : List Op) (addresses : List (Option Word)) (i : ℕ) (d : Option Word)
-    → addresses ≡ map (address_at ops) (range_with_len 0 (length ops)) → i < length ops
-    → get_or addresses i d ≡ address_at ops i
-address_read ops addresses i d are within =
-    ap (λ xs. get_or xs i d) are ∙ get_or-map-range_with_len (address_at ops) 0 (length ops) i i d within (omega arith)
-
-pub waits_read : (ops : List Op) (i j : ℕ) (k l : Kind) (v w : Option Word) (b : Bool) → b ≡ waits_by_memory k v l w
-    → k ≡ kind (op_at ops i) → v ≡ address_at ops i → l ≡ kind (op_at ops j) → w ≡ address_at ops j
-    → b ≡ is_by_memory ops i j
-waits_read ops i j k l v w b is first at second other = cc
+pub waits_read : (ops : List Op) (reached : List (Option Word)) (i j : ℕ) (k l : Kind) (v w : Option Word) (b : Bool)
+    → b ≡ waits_by_memory k v l w → k ≡ kind (op_at ops i) → v ≡ get_or reached i None → l ≡ kind (op_at ops j)
+    → w ≡ get_or reached j None → b ≡ is_by_memory ops reached i j
+waits_read ops reached i j k l v w b is first at second other = cc
 
 -- operation j is counted at its source i, or waits for that anyway
-module _ (ops : List Op) (found : List ℕ) (i j : ℕ) (source : Option ℕ) (is : source ≡ Some i) where
+module _ (ops : List Op) (reached : List (Option Word)) (found : List ℕ) (i j : ℕ) (source : Option ℕ) (is : source ≡ Some i) where
   counts : (a m : Bool) → a ≡ true → m ≡ false → cond {A = ℕ} (a && not m) 1 0 ≡ 1
   counts a m holds free = grind arith
 
@@ -249,75 +230,75 @@ module _ (ops : List Op) (found : List ℕ) (i j : ℕ) (source : Option ℕ) (i
   anyway : (a m : Bool) → m ≡ true → cond {A = ℕ} (a && not m) 1 0 ≡ 0
   anyway a m waits = grind arith
 
-  pub use_counted : (n : ℕ) → i < length found → n ≡ get_or found i 0 → is_by_memory ops i j ≡ false → (q : ℕ)
+  pub use_counted : (n : ℕ) → i < length found → n ≡ get_or found i 0 → is_by_memory ops reached i j ≡ false → (q : ℕ)
       → get_or (set found i (n + 1)) q 0
-      ≡ get_or found q 0 + (if is_number q source && not (is_by_memory ops q j) then 1 else 0)
+      ≡ get_or found q 0 + (if is_number q source && not (is_by_memory ops reached q j) then 1 else 0)
   use_counted n within read free q = by_eq q i
       (λ same.
       let own : get_or (set found i (n + 1)) q 0 ≡ n + 1 =
       ap (λ k. get_or (set found i (n + 1)) k 0) same ∙ get_or-set_same found i (n + 1) 0 within in
       let was : n ≡ get_or found q 0 = read ∙ ap (λ k. get_or found k 0) (sym same) in
-      let one : cond {A = ℕ} (is_number q source && not (is_by_memory ops q j)) 1 0 ≡ 1 =
-      counts (is_number q source) (is_by_memory ops q j) (is_its q source (is ∙ ap Some (sym same)))
-      (ap (λ k. is_by_memory ops k j) same ∙ free) in
+      let one : cond {A = ℕ} (is_number q source && not (is_by_memory ops reached q j)) 1 0 ≡ 1 =
+      counts (is_number q source) (is_by_memory ops reached q j) (is_its q source (is ∙ ap Some (sym same)))
+      (ap (λ k. is_by_memory ops reached k j) same ∙ free) in
       omega arith)
       (λ apart.
       let other : get_or (set found i (n + 1)) q 0 ≡ get_or found q 0 = get_or-set_other found i q (n + 1) 0 apart in
-      let none : cond {A = ℕ} (is_number q source && not (is_by_memory ops q j)) 1 0 ≡ 0 =
-      counts_none (is_number q source) (is_by_memory ops q j) (not_its q i source is apart) in
+      let none : cond {A = ℕ} (is_number q source && not (is_by_memory ops reached q j)) 1 0 ≡ 0 =
+      counts_none (is_number q source) (is_by_memory ops reached q j) (not_its q i source is apart) in
       omega arith)
 
-  pub use_skipped : is_by_memory ops i j ≡ true → (q : ℕ) → get_or found q 0
-      ≡ get_or found q 0 + (if is_number q source && not (is_by_memory ops q j) then 1 else 0)
+  pub use_skipped : is_by_memory ops reached i j ≡ true → (q : ℕ) → get_or found q 0
+      ≡ get_or found q 0 + (if is_number q source && not (is_by_memory ops reached q j) then 1 else 0)
   use_skipped waits q =
-      let none : cond {A = ℕ} (is_number q source && not (is_by_memory ops q j)) 1 0 ≡ 0 = by_eq q i
-      (λ same. anyway (is_number q source) (is_by_memory ops q j) (ap (λ k. is_by_memory ops k j) same ∙ waits))
-      (λ apart. counts_none (is_number q source) (is_by_memory ops q j) (not_its q i source is apart)) in
+      let none : cond {A = ℕ} (is_number q source && not (is_by_memory ops reached q j)) 1 0 ≡ 0 = by_eq q i
+      (λ same. anyway (is_number q source) (is_by_memory ops reached q j) (ap (λ k. is_by_memory ops reached k j) same ∙ waits))
+      (λ apart. counts_none (is_number q source) (is_by_memory ops reached q j) (not_its q i source is apart)) in
       omega arith
 
--- an operation with no address waits for none by memory, and none for it
-no_memory_first : (k l : Kind) (v w : Option Word) → reads k ≡ false → is_store k ≡ false → waits_by_memory k v l w ≡ false
-no_memory_first k l v w no_read no_store = grind arith
+-- an operation that neither memory nor outputs order waits for none by these, and none for it
+no_memory_first : (k l : Kind) (v w : Option Word) → (is_memory k || is_output k) ≡ false → waits_by_memory k v l w ≡ false
+no_memory_first k l v w free = grind arith
 
-no_memory_second : (k l : Kind) (v w : Option Word) → reads l ≡ false → is_store l ≡ false → waits_by_memory k v l w ≡ false
-no_memory_second k l v w no_read no_store = grind arith
+no_memory_second : (k l : Kind) (v w : Option Word) → (is_memory l || is_output l) ≡ false → waits_by_memory k v l w ≡ false
+no_memory_second k l v w free = grind arith
 
-pub none_noted : (ops : List Op) (later : Later) (j : ℕ) → j ≡ length ops
-    → ((k : Kind) (w : Word) → waiting_for k w later ≡ 0) → noted later ≡ 0 → AreCounts later → AreNoted ops later j
-none_noted ops later j end none few counts = record {
+pub none_noted : (ops : List Op) (reached : List (Option Word)) (later : Later) (j : ℕ) → j ≡ length ops
+    → ((k : Kind) (w : Word) → waiting_for k w later ≡ 0) → noted later ≡ 0 → AreCounts later → AreNoted ops reached later j
+none_noted ops reached later j end none few counts = record {
   waiting = λ k w short. none k w
-      ∙ sym (at_end (λ i. waits_by_memory k (Some w) (kind (op_at ops i)) (address_at ops i)) ops j (omega arith));
+      ∙ sym (at_end (λ i. waits_by_memory k (Some w) (kind (op_at ops i)) (get_or reached i None)) ops j (omega arith));
   few = omega (arith, few);
   counts = counts;
 }
 
-module _ (ops : List Op) (j : ℕ) (within : j < length ops) where
+module _ (ops : List Op) (reached : List (Option Word)) (j : ℕ) (within : j < length ops) where
   noted_front : (k : Kind) (w : Word)
-      → count_from (λ i. waits_by_memory k (Some w) (kind (op_at ops i)) (address_at ops i)) ops j
-      ≡ cond {A = ℕ} (waits_by_memory k (Some w) (kind (op_at ops j)) (address_at ops j)) 1 0
-      + count_from (λ i. waits_by_memory k (Some w) (kind (op_at ops i)) (address_at ops i)) ops (j + 1)
-  noted_front k w = front_one (λ i. waits_by_memory k (Some w) (kind (op_at ops i)) (address_at ops i)) ops j within
+      → count_from (λ i. waits_by_memory k (Some w) (kind (op_at ops i)) (get_or reached i None)) ops j
+      ≡ cond {A = ℕ} (waits_by_memory k (Some w) (kind (op_at ops j)) (get_or reached j None)) 1 0
+      + count_from (λ i. waits_by_memory k (Some w) (kind (op_at ops i)) (get_or reached i None)) ops (j + 1)
+  noted_front k w = front_one (λ i. waits_by_memory k (Some w) (kind (op_at ops i)) (get_or reached i None)) ops j within
 
-  pub skip_noted : (later : Later) → address_at ops j ≡ None → AreNoted ops later (j + 1) → AreNoted ops later j
-  skip_noted later none noted = record {
+  pub skip_noted : (later : Later) → (is_memory (kind (op_at ops j)) || is_output (kind (op_at ops j))) ≡ false
+      → AreNoted ops reached later (j + 1) → AreNoted ops reached later j
+  skip_noted later free noted = record {
     waiting = λ k w short.
-        let neither = no_address (op_at ops j) (known_before ops j) none in
-        let free : cond {A = ℕ} (waits_by_memory k (Some w) (kind (op_at ops j)) (address_at ops j)) 1 0 ≡ 0 =
-        ap (λ b. cond {A = ℕ} b 1 0) (no_memory_second k (kind (op_at ops j)) (Some w) (address_at ops j) neither.0 neither.1) in
-        omega (arith, noted.waiting k w short, noted_front k w, free);
+        let none : cond {A = ℕ} (waits_by_memory k (Some w) (kind (op_at ops j)) (get_or reached j None)) 1 0 ≡ 0 =
+        ap (λ b. cond {A = ℕ} b 1 0) (no_memory_second k (kind (op_at ops j)) (Some w) (get_or reached j None) free) in
+        omega (arith, noted.waiting k w short, noted_front k w, none);
     few = omega (arith, noted.few);
     counts = noted.counts;
   }
 
-  pub one_noted : (old new : Later) (l : Kind) (v : Word) → l ≡ kind (op_at ops j) → address_at ops j ≡ Some v
-      → AreNoted ops old (j + 1)
+  pub one_noted : (old new : Later) (l : Kind) (v : Word) → l ≡ kind (op_at ops j) → get_or reached j None ≡ Some v
+      → AreNoted ops reached old (j + 1)
       → ((k : Kind) (w : Word) → IsShort (constant_of w) → waiting_for k w new
       ≡ waiting_for k w old + (if waits_by_memory k (Some w) l (Some v) then 1 else 0))
-      → noted new ≤ noted old + 2 → AreCounts new → AreNoted ops new j
+      → noted new ≤ noted old + 2 → AreCounts new → AreNoted ops reached new j
   one_noted old new l v is at before more few counts = record {
     waiting = λ k w short.
         let same : cond {A = ℕ} (waits_by_memory k (Some w) l (Some v)) 1 0
-        ≡ cond {A = ℕ} (waits_by_memory k (Some w) (kind (op_at ops j)) (address_at ops j)) 1 0 =
+        ≡ cond {A = ℕ} (waits_by_memory k (Some w) (kind (op_at ops j)) (get_or reached j None)) 1 0 =
         ap (λ q. cond {A = ℕ} (waits_by_memory k (Some w) q (Some v)) 1 0) is
         ∙ ap (λ o. cond {A = ℕ} (waits_by_memory k (Some w) (kind (op_at ops j)) o) 1 0) (sym at) in
         omega (arith, more k w short, before.waiting k w short, noted_front k w, same);
@@ -327,95 +308,96 @@ module _ (ops : List Op) (j : ℕ) (within : j < length ops) where
 
   -- what waits for operation j, by memory
   pub waiting_is : (later : Later) (k : Kind) (v : Word) (waiting : ℕ) → waiting ≡ waiting_for k v later
-      → IsShort (constant_of v) → k ≡ kind (op_at ops j) → address_at ops j ≡ Some v → AreNoted ops later (j + 1)
-      → waiting ≡ count_from (is_by_memory ops j) ops (j + 1)
+      → IsShort (constant_of v) → k ≡ kind (op_at ops j) → get_or reached j None ≡ Some v → AreNoted ops reached later (j + 1)
+      → waiting ≡ count_from (is_by_memory ops reached j) ops (j + 1)
   waiting_is later k v waiting value short is at before =
       value ∙ before.waiting k v short
-      ∙ ap (λ q. count_from (λ i. waits_by_memory q (Some v) (kind (op_at ops i)) (address_at ops i)) ops (j + 1)) is
-      ∙ ap (λ o. count_from (λ i. waits_by_memory (kind (op_at ops j)) o (kind (op_at ops i)) (address_at ops i)) ops (j + 1)) (sym at)
+      ∙ ap (λ q. count_from (λ i. waits_by_memory q (Some v) (kind (op_at ops i)) (get_or reached i None)) ops (j + 1)) is
+      ∙ ap (λ o. count_from (λ i. waits_by_memory (kind (op_at ops j)) o (kind (op_at ops i)) (get_or reached i None)) ops (j + 1)) (sym at)
 
-  pub waiting_few : count_from (is_by_memory ops j) ops (j + 1) ≤ length ops
+  pub waiting_few : count_from (is_by_memory ops reached j) ops (j + 1) ≤ length ops
   waiting_few =
-      let most : count_from (is_by_memory ops j) ops (j + 1) ≤ length ops - (j + 1) =
-      count_most (is_by_memory ops j) (j + 1) (length ops - (j + 1)) in
+      let most : count_from (is_by_memory ops reached j) ops (j + 1) ≤ length ops - (j + 1) =
+      count_most (is_by_memory ops reached j) (j + 1) (length ops - (j + 1)) in
       omega arith
 
-  pub found_few : (found : List ℕ) → AreCounted ops found (j + 1) → get_or found j 0 ≤ length ops
+  pub found_few : (found : List ℕ) → AreCounted ops reached found (j + 1) → get_or found j 0 ≤ length ops
   found_few found counted =
-      let value : get_or found j 0 ≡ uses_before ops j (length ops) + 0 =
+      let value : get_or found j 0 ≡ uses_before ops reached j (length ops) + 0 =
       counted.each j within
-      ∙ ap (λ b. uses_before ops j (length ops) + cond b 0 (count_from (is_by_memory ops j) ops (j + 1)))
+      ∙ ap (λ b. uses_before ops reached j (length ops) + cond b 0 (count_from (is_by_memory ops reached j) ops (j + 1)))
       (later_one j (j + 1) (omega arith)) in
-      omega (arith, value, uses_few ops j (length ops))
+      omega (arith, value, uses_few ops reached j (length ops))
 
-  pub one_counted : (found : List ℕ) (n waiting : ℕ) → AreCounted ops found (j + 1) → n ≡ get_or found j 0
-      → waiting ≡ count_from (is_by_memory ops j) ops (j + 1) → AreCounted ops (set found j (n + waiting)) j
+  pub one_counted : (found : List ℕ) (n waiting : ℕ) → AreCounted ops reached found (j + 1) → n ≡ get_or found j 0
+      → waiting ≡ count_from (is_by_memory ops reached j) ops (j + 1) → AreCounted ops reached (set found j (n + waiting)) j
   one_counted found n waiting counted read value = record {
     size = length-set found j (n + waiting) ∙ counted.size;
     each = λ i there. by_eq i j
         (λ same.
         let size : length found ≡ length ops = counted.size in
         let own : get_or (set found j (n + waiting)) j 0 ≡ n + waiting = get_or-set_same found j (n + waiting) 0 (omega arith) in
-        let before : get_or found j 0 ≡ uses_before ops j (length ops) + 0 =
+        let before : get_or found j 0 ≡ uses_before ops reached j (length ops) + 0 =
         counted.each j within
-        ∙ ap (λ b. uses_before ops j (length ops) + cond b 0 (count_from (is_by_memory ops j) ops (j + 1)))
+        ∙ ap (λ b. uses_before ops reached j (length ops) + cond b 0 (count_from (is_by_memory ops reached j) ops (j + 1)))
         (later_one j (j + 1) (omega arith)) in
         let all : get_or (set found j (n + waiting)) j 0
-        ≡ uses_before ops j (length ops) + count_from (is_by_memory ops j) ops (j + 1) = omega arith in
+        ≡ uses_before ops reached j (length ops) + count_from (is_by_memory ops reached j) ops (j + 1) = omega arith in
         ap (λ k. get_or (set found j (n + waiting)) k 0) same ∙ all
-        ∙ ap (λ k. uses_before ops k (length ops) + count_from (is_by_memory ops k) ops (k + 1)) (sym same)
-        ∙ ap (λ b. uses_before ops i (length ops) + cond b 0 (count_from (is_by_memory ops i) ops (i + 1)))
+        ∙ ap (λ k. uses_before ops reached k (length ops) + count_from (is_by_memory ops reached k) ops (k + 1)) (sym same)
+        ∙ ap (λ b. uses_before ops reached i (length ops) + cond b 0 (count_from (is_by_memory ops reached i) ops (i + 1)))
         (sym (no_later i j (omega arith))))
         (λ apart. get_or-set_other found j i (n + waiting) 0 apart ∙ counted.each i there
-        ∙ ap (λ b. uses_before ops i (length ops) + cond b 0 (count_from (is_by_memory ops i) ops (i + 1)))
+        ∙ ap (λ b. uses_before ops reached i (length ops) + cond b 0 (count_from (is_by_memory ops reached i) ops (i + 1)))
         (next_later i j apart));
   }
 
-  pub skip_counted : (found : List ℕ) → address_at ops j ≡ None → AreCounted ops found (j + 1) → AreCounted ops found j
-  skip_counted found none counted = record {
+  pub skip_counted : (found : List ℕ) → (is_memory (kind (op_at ops j)) || is_output (kind (op_at ops j))) ≡ false
+      → AreCounted ops reached found (j + 1) → AreCounted ops reached found j
+  skip_counted found free counted = record {
     size = counted.size;
     each = λ i there. by_eq i j
         (λ same.
-        let neither = no_address (op_at ops j) (known_before ops j) none in
-        let free : count_from (is_by_memory ops j) ops (j + 1) ≡ 0 =
-        none_in_range (is_by_memory ops j) (j + 1) (length ops - (j + 1)) (λ k after below.
-        no_memory_first (kind (op_at ops j)) (kind (op_at ops k)) (address_at ops j) (address_at ops k) neither.0 neither.1) in
+        let none : count_from (is_by_memory ops reached j) ops (j + 1) ≡ 0 =
+        none_in_range (is_by_memory ops reached j) (j + 1) (length ops - (j + 1)) (λ k after below.
+        no_memory_first (kind (op_at ops j)) (kind (op_at ops k)) (get_or reached j None) (get_or reached k None) free) in
         counted.each i there
-        ∙ ap (λ b. uses_before ops i (length ops) + cond b 0 (count_from (is_by_memory ops i) ops (i + 1)))
+        ∙ ap (λ b. uses_before ops reached i (length ops) + cond b 0 (count_from (is_by_memory ops reached i) ops (i + 1)))
         (later_one i (j + 1) (omega arith))
-        ∙ ap (λ n. uses_before ops i (length ops) + n)
-        (sym free ∙ ap (λ k. count_from (is_by_memory ops k) ops (k + 1)) (sym same))
-        ∙ ap (λ b. uses_before ops i (length ops) + cond b 0 (count_from (is_by_memory ops i) ops (i + 1)))
+        ∙ ap (λ n. uses_before ops reached i (length ops) + n)
+        (sym none ∙ ap (λ k. count_from (is_by_memory ops reached k) ops (k + 1)) (sym same))
+        ∙ ap (λ b. uses_before ops reached i (length ops) + cond b 0 (count_from (is_by_memory ops reached i) ops (i + 1)))
         (sym (no_later i j (omega arith))))
         (λ apart. counted.each i there
-        ∙ ap (λ b. uses_before ops i (length ops) + cond b 0 (count_from (is_by_memory ops i) ops (i + 1)))
+        ∙ ap (λ b. uses_before ops reached i (length ops) + cond b 0 (count_from (is_by_memory ops reached i) ops (i + 1)))
         (next_later i j apart));
   }
 
-pub only_uses : (ops : List Op) (found : List ℕ) (j : ℕ) → j ≡ length ops
-    → found ≡ map (λ i. uses_before ops i (length ops)) (range_with_len 0 (length ops)) → AreCounted ops found j
-only_uses ops found j end are = record {
-  size = ap length are ∙ length-map-range_with_len (λ i. uses_before ops i (length ops)) 0 (length ops);
+pub only_uses : (ops : List Op) (reached : List (Option Word)) (found : List ℕ) (j : ℕ) → j ≡ length ops
+    → found ≡ map (λ i. uses_before ops reached i (length ops)) (range_with_len 0 (length ops)) → AreCounted ops reached found j
+only_uses ops reached found j end are = record {
+  size = ap length are ∙ length-map-range_with_len (λ i. uses_before ops reached i (length ops)) 0 (length ops);
   each = λ i there.
-      let value : get_or found i 0 ≡ uses_before ops i (length ops) =
+      let value : get_or found i 0 ≡ uses_before ops reached i (length ops) =
       ap (λ xs. get_or xs i 0) are
-      ∙ get_or-map-range_with_len (λ k. uses_before ops k (length ops)) 0 (length ops) i i 0 there (omega arith) in
-      let none : cond (nat_lt i j) 0 (count_from (is_by_memory ops i) ops (i + 1)) ≡ 0 =
-      ap (λ b. cond b 0 (count_from (is_by_memory ops i) ops (i + 1))) (later_one i j (omega arith)) in
+      ∙ get_or-map-range_with_len (λ k. uses_before ops reached k (length ops)) 0 (length ops) i i 0 there (omega arith) in
+      let none : cond (nat_lt i j) 0 (count_from (is_by_memory ops reached i) ops (i + 1)) ≡ 0 =
+      ap (λ b. cond b 0 (count_from (is_by_memory ops reached i) ops (i + 1))) (later_one i j (omega arith)) in
       omega arith;
 }
 
-pub all_counted : (lat : Latencies) (ops : List Op) (found : List ℕ) → AreCounted ops found 0
-    → found ≡ map (successors_where (by_address ops) lat ops) (range_with_len 0 (length ops))
-all_counted lat ops found counted =
-    let values : List ℕ = map (successors_where (by_address ops) lat ops) (range_with_len 0 (length ops)) in
+pub all_counted : (counts : Counts) (lat : Latencies) (ops : List Op) (reached : List (Option Word)) (found : List ℕ)
+    → AreReached counts ops reached → AreCounted ops reached found 0
+    → found ≡ map (successors_where counts lat ops) (range_with_len 0 (length ops))
+all_counted counts lat ops reached found are counted =
+    let values : List ℕ = map (successors_where counts lat ops) (range_with_len 0 (length ops)) in
     let size : length values ≡ length ops =
-    length-map-range_with_len (successors_where (by_address ops) lat ops) 0 (length ops) in
+    length-map-range_with_len (successors_where counts lat ops) 0 (length ops) in
     ext_get_or 0 found values (counted.size ∙ sym size) (λ i there.
     let all : length found ≡ length ops = counted.size in
     let within : i < length ops = omega arith in
     counted.each i within
-    ∙ ap (λ b. uses_before ops i (length ops) + cond b 0 (count_from (is_by_memory ops i) ops (i + 1)))
+    ∙ ap (λ b. uses_before ops reached i (length ops) + cond b 0 (count_from (is_by_memory ops reached i) ops (i + 1)))
     (no_later i 0 (omega arith))
-    ∙ sym (successors_are lat ops i within)
-    ∙ sym (get_or-map-range_with_len (successors_where (by_address ops) lat ops) 0 (length ops) i i 0 within (omega arith)))
+    ∙ sym (successors_are counts lat ops reached i are within)
+    ∙ sym (get_or-map-range_with_len (successors_where counts lat ops) 0 (length ops) i i 0 within (omega arith)))

@@ -1,5 +1,5 @@
 -- The operations that wait for each directly, counted.
-use Rattle.std.specs.Prelude.{ℕ, ◌+◌, ◌-◌, ◌*◌, ◌≡◌, ◌<◌, ◌≤◌, ◌==◌, ◌&&◌, not, Bool, true, false, if◌then◌else◌, List, length, nat_lt, slice_index, count_by, unwrap_or, Option, Some, None, ℤ}
+use Rattle.std.specs.Prelude.{ℕ, ◌+◌, ◌-◌, ◌*◌, ◌≡◌, ◌<◌, ◌≤◌, ◌==◌, ◌&&◌, ◌||◌, not, Bool, true, false, if◌then◌else◌, List, length, nat_lt, slice_index, count_by, unwrap_or, Option, Some, None, ℤ, pos, get_or}
 use Rattle.std.specs.List.{range_with_len}
 use Rattle.std.specs.Option.{option_cmp}
 use Rattle.std.specs.Ordering.{nat_cmp, int_cmp, ordering_then}
@@ -11,11 +11,11 @@ use Rattle.iloc_ops.specs.Registers.{defined}
 use Rattle.iloc_meaning.specs.Trace.{op_at, is_register}
 use Rattle.iloc_timed.specs.declared.kind.Kind.{Kind}
 use Rattle.iloc_timed.specs.declared.kind.Kind.TheVariants as K
-use Rattle.iloc_timed.specs.Kinds.{kind}
+use Rattle.iloc_timed.specs.Kinds.{kind, is_memory, is_output}
 use Rattle.iloc_rules.specs.declared.word.Word.{Word}
 use Rattle.iloc_rules.specs.declared.word.Word.TheVariants.{Known, Based}
-use Rattle.iloc_rules.specs.Apart.{address_at, apart_if_both}
-use Rattle.iloc_rules.specs.Delays.{uses_result}
+use Rattle.iloc_rules.specs.Apart.{apart_if_both}
+use Rattle.iloc_rules.specs.Delays.{Counts, keeps_order_where, reads_stored, uses_result}
 use Rattle.iloc_addresses.specs.declared.successors.address_counts.AddressCounts.{AddressCounts}
 use Rattle.iloc_addresses.specs.declared.successors.definers.Definers.{Definers}
 use Rattle.iloc_addresses.specs.declared.successors.later.Later.{Later}
@@ -31,14 +31,33 @@ waits_by_memory K.Output v K.Store w = not (apart_if_both v w)
 waits_by_memory K.Output v K.Output w = true
 waits_by_memory _ v _ w = false
 
--- whether operation j does so for operation i
-abbrev pub is_by_memory : List Op → ℕ → ℕ → Bool
-is_by_memory ops i j =
-    waits_by_memory (kind (op_at ops i)) (address_at ops i) (kind (op_at ops j)) (address_at ops j)
+-- whether operation `j` does so for operation `i`, where the operations reach the addresses `reached`
+abbrev pub is_by_memory : List Op → List (Option Word) → ℕ → ℕ → Bool
+is_by_memory ops reached i j =
+    waits_by_memory (kind (op_at ops i)) (get_or reached i None) (kind (op_at ops j)) (get_or reached j None)
 
--- whether it is a later one, uses the result of that, and doesn't wait for it by memory anyway
-abbrev pub is_by_use : List Op → ℕ → ℕ → Bool
-is_by_use ops i j = nat_lt i j && (uses_result (op_at ops i) (op_at ops j) && not (is_by_memory ops i j))
+-- whether operation `j` is a later one, uses the result of operation `i`, and doesn't wait for it by memory anyway
+abbrev pub is_by_use : List Op → List (Option Word) → ℕ → ℕ → Bool
+is_by_use ops reached i j =
+    nat_lt i j && (uses_result (op_at ops i) (op_at ops j) && not (is_by_memory ops reached i j))
+
+-- the one address that is taken for all, where a kind is ordered by memory or outputs
+abbrev pub one_address : Kind → Option Word
+one_address K.Load = Some (Known (pos 0))
+one_address K.Store = Some (Known (pos 0))
+one_address K.Mult = None
+one_address K.Output = Some (Known (pos 0))
+one_address K.Other = None
+
+-- Each operation that memory or outputs order reaches one of the addresses `reached`, and by these operations wait for each other
+-- just where they do by `counts`.
+pub record AreReached (counts : Counts) (ops : List Op) (reached : List (Option Word)) : Type 0 where
+  pub size : length reached ≡ length ops
+  pub none : (i : ℕ) → i < length ops → get_or reached i None ≡ None
+      → (is_memory (kind (op_at ops i)) || is_output (kind (op_at ops i))) ≡ false
+  pub waits : (i j : ℕ) → i < length ops → j < length ops
+      → ((counts i j && reads_stored (kind (op_at ops i)) (kind (op_at ops j)))
+      || keeps_order_where (counts i j) (kind (op_at ops i)) (kind (op_at ops j))) ≡ is_by_memory ops reached i j
 
 -- the base of a word, if it has one
 abbrev pub base_of : Word → Option ℕ
@@ -100,28 +119,28 @@ abbrev pub AreDefiners : List Op → ℕ → Definers → Type 0
 AreDefiners ops j definers =
     (i : ℕ) (r : Reg) → is_number i (definer definers r) ≡ (nat_lt i j && is_register r (defined (op_at ops i)))
 
--- how many of the operations before operation n use the result of operation i, and don't wait for it by memory anyway
-abbrev pub uses_before : List Op → ℕ → ℕ → ℕ
-uses_before ops i n = count_by (is_by_use ops i) (range_with_len 0 n)
+-- how many of the operations before operation `n` use the result of operation `i`, and don't wait for it by memory anyway
+abbrev pub uses_before : List Op → List (Option Word) → ℕ → ℕ → ℕ
+uses_before ops reached i n = count_by (is_by_use ops reached i) (range_with_len 0 n)
 
 -- `found` has for each operation the number of its uses by operations before `j`
-pub record AreUsesCounted (ops : List Op) (found : List ℕ) (j : ℕ) : Type 0 where
+pub record AreUsesCounted (ops : List Op) (reached : List (Option Word)) (found : List ℕ) (j : ℕ) : Type 0 where
   pub size : length found ≡ length ops
-  pub each : (i : ℕ) → slice_index found i ≡ uses_before ops i j
+  pub each : (i : ℕ) → slice_index found i ≡ uses_before ops reached i j
 
 -- how many operations from operation j on pass a test
 abbrev pub count_from : (ℕ → Bool) → List Op → ℕ → ℕ
 count_from test ops j = count_by test (range_with_len j (length ops - j))
 
 -- the operations from operation j on are noted
-pub record AreNoted (ops : List Op) (later : Later) (j : ℕ) : Type 0 where
+pub record AreNoted (ops : List Op) (reached : List (Option Word)) (later : Later) (j : ℕ) : Type 0 where
   pub waiting : (k : Kind) (w : Word) → IsShort (constant_of w) → waiting_for k w later
-      ≡ count_from (λ i. waits_by_memory k (Some w) (kind (op_at ops i)) (address_at ops i)) ops j
+      ≡ count_from (λ i. waits_by_memory k (Some w) (kind (op_at ops i)) (get_or reached i None)) ops j
   pub few : noted later ≤ 2 * (length ops - j)
   pub counts : AreCounts later
 
 -- `found` has all uses, and of the operations from `j` on also how many wait for them by memory
-pub record AreCounted (ops : List Op) (found : List ℕ) (j : ℕ) : Type 0 where
+pub record AreCounted (ops : List Op) (reached : List (Option Word)) (found : List ℕ) (j : ℕ) : Type 0 where
   pub size : length found ≡ length ops
   pub each : (i : ℕ) → i < length ops → slice_index found i
-      ≡ uses_before ops i (length ops) + (if nat_lt i j then 0 else count_from (is_by_memory ops i) ops (i + 1))
+      ≡ uses_before ops reached i (length ops) + (if nat_lt i j then 0 else count_from (is_by_memory ops reached i) ops (i + 1))

@@ -1,7 +1,7 @@
 //! The operations that use the results of others.
 ghost use Rattle.std.specs.Prelude.{ℕ, ◌≡◌, ◌+◌, ◌*◌, ◌<◌, ◌≤◌, ◌&&◌, if◌then◌else◌, not, length, map, true, slice_index, IfOk};
 ghost use Rattle.std.specs.List.{range_with_len};
-ghost use Rattle.iloc_rules.specs.Apart.{address_at, apart_if_both};
+ghost use Rattle.iloc_rules.specs.Apart.{apart_if_both};
 ghost use Rattle.iloc_rules.specs.Renaming.{IsRenamed};
 ghost use Rattle.iloc_addresses.specs.Steps.Successors.{is_by_memory, is_number, uses_before, waits_by_memory};
 
@@ -46,11 +46,11 @@ fn count_use(
 )
     requires there { j < length ops.now }
     requires source { (i : ℕ) → is_number i source ≡ true → i < j }
-    requires addresses { addresses.now ≡ map (address_at ops.now) (range_with_len 0 (length ops.now)) }
+    requires reached { length addresses.now ≡ length ops.now }
     requires size { length found.old.items ≡ length ops.now }
     requires small { (i : ℕ) → slice_index found.old.items i ≤ 2 * MAX_OPS }
     ensures each { (i : ℕ) → slice_index found.new.items i ≡ slice_index found.old.items i
-        + (if is_number i source && not (is_by_memory ops.now i j) then 1 else 0) }
+        + (if is_number i source && not (is_by_memory ops.now addresses.now i j) then 1 else 0) }
     ensures size { length found.new.items ≡ length found.old.items }
 {
     if let Some(i) = source {
@@ -74,9 +74,9 @@ pub(crate) fn count_uses(
 ) -> Result<Vec<u32>, NoMemory>
     requires renamed { IsRenamed ops.now }
     requires few { length ops.now ≤ MAX_OPS }
-    requires addresses { addresses.now ≡ map (address_at ops.now) (range_with_len 0 (length ops.now)) }
+    requires reached { length addresses.now ≡ length ops.now }
     ensures { IfOk result (λ found. found.items
-        ≡ map (λ i. uses_before ops.now i (length ops.now)) (range_with_len 0 (length ops.now))) }
+        ≡ map (λ i. uses_before ops.now addresses.now i (length ops.now)) (range_with_len 0 (length ops.now))) }
 {
     let mut definers = Definers::new(alloc);
     let mut found = vec![in alloc; 0; ops.len()]?;

@@ -3,6 +3,6 @@ use Rattle.iloc_addresses.proofs.successors.count_successors.Given as goal
 
 abbrev pub invariant-loop-j : goal.invariant-loop-j
 invariant-loop-j l = record {
-  counted : AreCounted l.ops l.found.items l.j;
-  noted : AreNoted l.ops l.later l.j;
+  counted : AreCounted l.ops l.addresses.items l.found.items l.j;
+  noted : AreNoted l.ops l.addresses.items l.later l.j;
 }
