@@ -62,7 +62,6 @@ pub use Rattle.iloc_sched.specs.Steps.Edges.PartialGraph.{AddsFrom, CoversMemory
 pub use Rattle.iloc_sched.specs.Steps.Edges.SoundGraph.{IsByTheBook, IsOfBlock, IsSound}
 pub use Rattle.iloc_sched.specs.Steps.Graph.{Graph, IsGraph, IsGraphOf, IsGraphWhere, IsLast, LeadsTo}
 pub use Rattle.iloc_sched.specs.Steps.Ranking.Dependents.{AreMarked, IsMarked, Reaches}
-pub use Rattle.iloc_sched.specs.Steps.Ranking.Successors.{AreCounted, AreNoted, IsCounting, adds_one, from_on, leads_into, waiting_for, waits_by_kind, waits_by_use}
 pub use Rattle.iloc_sched.specs.Steps.Renaming.ByRegister.{number_at}
 pub use Rattle.iloc_sched.specs.Steps.Renaming.NamingWalk.{Follows, Named, NamesAll, NamesDefinition, NamesNext, NamesUse, NextNamed, UsesNamed, also, also_all, next_renamed, numbering_with}
 pub use Rattle.iloc_sched.specs.Steps.Views.{IsEmptied, IsSized, bucket_of, earliest_list, edge_at, graph_of, issued_list, no_edge, progress_of, unmet_in, unmet_list}

@@ -4,5 +4,3 @@ pub mod Found
 pub mod Dependents
 pub mod DependentsFound
 pub mod DependentsCounted
-pub mod Successors
-pub mod UsesCounted

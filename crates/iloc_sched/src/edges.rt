@@ -18,7 +18,6 @@ ghost use Rattle.iloc_rules.specs.Renaming.{IsRenamed};
 pub(crate) mod by_address;
 pub(crate) mod kinds;
 pub mod lasts;
-pub mod later;
 
 use crate::edges::lasts::Lasts;
 use crate::registers::{OperandRegisters, Uses};
@@ -59,7 +58,6 @@ impl Edges {
     ghost use Rattle.iloc_sched.specs.Steps.Edges.Lasts.{IsNext, loads_before};
     ghost use Rattle.iloc_sched.specs.Steps.Renaming.Registers.{listed};
     ghost use Rattle.iloc_sched.specs.Steps.Edges.PartialGraph.{HasCapacity, IsPartialGraph, KeepsFrame, KeepsCapacity, Grows, AddsFrom, CoversUse, CoversUses, CoversMemory};
-    ghost use Rattle.iloc_sched.specs.Steps.Ranking.Successors.{leads_into};
     ghost use Rattle.iloc_sched.specs.Steps.Views.{edge_at, graph_of, IsEmptied};
 
     /// No operation and no edge.
@@ -115,17 +113,6 @@ impl Edges {
         ensures { result ≡ (graph_of self.now).head i }
     {
         self.heads[i]
-    }
-
-    /// Whether there is this edge, and it leads into operation j.
-    pub fn leads_into(&self, edge: Option<u32>, j: u32) -> bool
-        requires { (x : ℕ) → edge ≡ Some x → x < length self.now.edges.items }
-        ensures { result ≡ leads_into (graph_of self.now) j edge }
-    {
-        match edge {
-            Some(x) => self.edges[x as usize].to == j,
-            None => false,
-        }
     }
 
     /// No operation and no edge.

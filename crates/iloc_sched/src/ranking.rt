@@ -9,7 +9,6 @@ pub mod heuristic;
 pub mod priority;
 pub mod slack;
 pub mod starts;
-pub mod successors;
 
 use crate::edges::lasts::Lasts;
 use crate::ranking::heuristic::fill_ranks;

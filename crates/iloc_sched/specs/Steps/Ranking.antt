@@ -1,3 +1,2 @@
 -- How priorities are found.
 pub mod Dependents
-pub mod Successors

@@ -8,8 +8,8 @@ ghost use Rattle.iloc_sched.specs.Steps.Edges.SoundGraph.{IsSound};
 use crate::ranking::descendants::count_descendants;
 use crate::ranking::priority::{copy_latencies, fill_chains};
 use crate::ranking::slack::fill_through;
-use crate::ranking::successors::fill_successors;
 use crate::tables::Tables;
+use iloc_addresses::count_successors;
 use iloc_ops::{MAX_OPS, NoMemory};
 use iloc_rules::Heuristic;
 use std::alloc::Global;
@@ -41,7 +41,10 @@ pub(crate) fn fill_ranks(
         Heuristic::Chain => fill_chains(found, tables),
         Heuristic::Slack => fill_through(found, alloc, tables),
         Heuristic::Descendants => count_descendants(found, alloc, tables),
-        Heuristic::Successors => fill_successors(found, alloc, tables),
+        Heuristic::Successors => {
+            *found = count_successors(alloc, tables.rule, &tables.ops)?;
+            Ok(())
+        }
         Heuristic::Latency => copy_latencies(found, tables),
         Heuristic::Order => fill_zeros(found, tables.ops.len()),
     }
