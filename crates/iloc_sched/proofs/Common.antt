@@ -55,7 +55,7 @@ pub use Rattle.iloc_sched.specs.Steps.Cycle.Opening.{IsOpening, not_issued}
 pub use Rattle.iloc_sched.specs.Steps.Cycle.Order.{AreKeys, AreRanks, AreSortedKeys, GoesFirst, key_of}
 pub use Rattle.iloc_sched.specs.Steps.Cycle.Progress.{CanIssue, KeepsPlaces, MatchesRows, Progress, UpTo, Waits, Walks, count_from, edges_left}
 pub use Rattle.iloc_sched.specs.Steps.Cycle.RankSets.{AddsBit, HoldsBits, IsFirstBit, IsFirstWithin, IsSearched, IsSummary, MovesAt, NotesMoved, TakesBit, open_bit, rank_bit, word_at}
-pub use Rattle.iloc_sched.specs.Steps.Cycle.SoFar.{IsBest, IsCalendar, IsOpen, IsPlan, IsQueued, IsRanked, IsSoFar, IsUnderWay, Issues, IssuesAny, KeepsOut, class_at, counts_of, needs_zero_choice, number_of, rank_of, row_with, slot_count, waiting_count}
+pub use Rattle.iloc_sched.specs.Steps.Cycle.SoFar.{HasTaken, IsBest, IsCalendar, IsOpen, IsPlan, IsQueued, IsRanked, IsSoFar, IsUnderWay, Issues, IssuesAny, KeepsOut, class_at, counts_of, needs_zero_choice, number_of, rank_of, row_with, slot_count, took_of, waiting_count}
 pub use Rattle.iloc_sched.specs.Steps.Edges.ByAddress.{CoversSources, delay_after}
 pub use Rattle.iloc_sched.specs.Steps.Edges.Lasts.{IsLasts, IsNext, NoStoreBetween, NotesDefiner, NotesKind}
 pub use Rattle.iloc_sched.specs.Steps.Edges.PartialGraph.{AddsFrom, CoversMemory, CoversUse, CoversUses, Grows, HasCapacity, HasEdge, HasOneMore, IsPartialGraph, KeepsFrame}

@@ -6,3 +6,4 @@ pub mod Walking
 pub mod PriorityValues
 pub mod Ranks
 pub mod Choice
+pub mod Counted

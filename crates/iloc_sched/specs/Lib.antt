@@ -1,3 +1,4 @@
 pub mod Scheduled
+pub mod Counted
 pub mod Steps
 pub mod Graph

@@ -6,7 +6,8 @@ use Rattle.iloc_timed.specs.declared.latencies.Latencies.{Latencies}
 use Rattle.iloc_timed.specs.declared.row.Row.{Row}
 use Rattle.iloc_timed.specs.Cycles.{cycles}
 use Rattle.iloc_timed.specs.Latency.{latency}
-use Rattle.iloc_timed.specs.Rows.{issue_cycle}
+use Rattle.iloc_timed.specs.Limits.{MAX_ROWS}
+use Rattle.iloc_timed.specs.Rows.{IsTable, issue_cycle}
 use Rattle.iloc_timed.specs.Schedule.{Table}
 use Rattle.iloc_timed.specs.Timed.{timed_outcome}
 use Rattle.iloc_rules.specs.declared.memory_rule.MemoryRule.{MemoryRule}
@@ -15,6 +16,7 @@ use Rattle.iloc_rules.specs.Lawful.{IsLawfulWhere}
 use Rattle.iloc_rules.specs.Greedy.{IsGreedyWhere}
 use Rattle.iloc_rules.specs.Rule.{counts_by}
 use Rattle.iloc_rules.specs.Priority.{priority_under}
+use Rattle.iloc_sched.specs.Graph.GraphOf.{GraphOf, of_block}
 
 -- `s` is the schedule of `block` by `rule` and by priorities: `by` gives each renamed operation its own.
 pub record IsTheScheduleBy (rule : MemoryRule) (by : List Op → List ℕ) (lat : Latencies) (block : List Op) (s : Table) : Type 0 where
@@ -35,3 +37,10 @@ pub record IsTheScheduleBy (rule : MemoryRule) (by : List Op → List ℕ) (lat 
 -- the same by the book
 abbrev pub IsTheSchedule : (List Op → List ℕ) → Latencies → List Op → Table → Type 0
 IsTheSchedule = IsTheScheduleBy Book
+
+-- `rows` are those of the schedule of the block of `graph` that is greedy by priorities: `by` gives each renamed operation its own.
+pub record AreRowsBy (by : MemoryRule → Latencies → List Op → List ℕ) (graph : GraphOf) (rows : List Row) : Type 0 where
+  pub table : IsTable graph.ops rows
+  pub few : length rows ≤ MAX_ROWS
+  pub schedule : (rule : MemoryRule) (lat : Latencies) (block : List Op) → graph ≡ of_block rule lat block
+      → IsTheScheduleBy rule (by rule lat) lat block (record { ops = graph.ops; rows = rows })

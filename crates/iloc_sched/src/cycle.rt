@@ -1,7 +1,8 @@
 //! One cycle of a schedule after another.
-ghost use Rattle.std.specs.Prelude.{◌≡◌, ◌+◌, ◌^◌, ◌<◌, [], length, IfOk, OnOk};
-ghost use Rattle.iloc_timed.specs.Rows.{row_at, slots};
-ghost use Rattle.iloc_sched.specs.Steps.Cycle.SoFar.{IsPlan, IsUnderWay, IsSoFar, IsBest, IssuesAny, row_with, slot_count, waiting_count};
+ghost use Rattle.std.specs.Prelude.{◌≡◌, ◌+◌, ◌^◌, ◌<◌, ◌≤◌, List, [], ◌∷◌, ◌++◌, IfOk};
+ghost use Rattle.iloc_timed.specs.declared.row.Row.{Row as row_value};
+ghost use Rattle.iloc_timed.specs.Rows.{slots};
+ghost use Rattle.iloc_sched.specs.Steps.Cycle.SoFar.{HasTaken, IsPlan, IsUnderWay, IsBest, IssuesAny, row_with, slot_count, waiting_count};
 ghost use Rattle.iloc_sched.specs.Steps.Views.{issued_list};
 
 pub mod calendar;
@@ -17,9 +18,10 @@ pub mod words;
 use crate::cycle::class::Class;
 use crate::cycle::plan::Plan;
 use crate::cycle::waiting::Waiting;
-use iloc_ops::NoMemory;
+use crate::taker::TakeRows;
+use iloc_ops::{NoMemory, Op};
 use iloc_rules::LONGEST_DELAY;
-use iloc_timed::{Kind, Row};
+use iloc_timed::{Kind, MAX_ROWS, Row};
 
 /// An operation that is chosen for a row.
 #[derive(Clone, Copy)]
@@ -87,32 +89,41 @@ impl Waiting {
         Some(Choice { number, kind })
     }
 
-    /// Makes the row of one more cycle. Answers how many operations it issues. It stands in its caller's loop, where the compiler
+    /// Hands on the row of one more cycle. Answers how many operations it issues. It stands in its caller's loop, where the compiler
     /// sees that the plan's flag stays (`Plan::short`).
     #[inline(always)]
-    pub fn step(&mut self, plan: &Plan, rows: &mut Vec<Row>) -> Result<usize, NoMemory>
-        requires small { length rows.old.items + LONGEST_DELAY + 1 < 2 ^ 32 }
+    pub fn step<T: TakeRows>(
+        &mut self,
+        plan: &Plan,
+        taker: &mut T,
+        cycle: u32,
+    ) -> Result<usize, NoMemory>
+        requires early { cycle ≤ MAX_ROWS }
         requires plan { IsPlan plan.now }
-        requires so_far { IsSoFar plan.now self.old rows.old.items }
-        ensures so_far { OnOk result (IsSoFar plan.now self.new rows.new.items) }
-        ensures length { OnOk result (length rows.new.items ≡ length rows.old.items + 1) }
+        requires under_way { IsUnderWay plan.now self.old cycle }
+        ensures taken { IfOk result (λ n. (start : T) (rows : List row_value)
+            → HasTaken T.took plan.now self.old start taker.old cycle rows
+            → (row : row_value) × HasTaken T.took plan.now self.new start taker.new (cycle + 1) (rows ++ row ∷ [])
+            × (0 < n → slots row ≡ [] → ⊥)) }
+        ensures kept { T.kept taker.new ≡ T.kept taker.old }
         ensures count { IfOk result (λ n. waiting_count self.new + n ≡ waiting_count self.old) }
-        ensures filled { IfOk result (λ n. 0 < n → slots (row_at rows.new.items (length rows.old.items)) ≡ [] → ⊥) }
     {
-        let cycle = rows.len() as u32;
+        let ops: &[Op] = &plan.tables.ops;
+        let own: &[u32] = &plan.tables.own;
         self.release(plan, cycle);
         let first = self.issue_first(plan, Class::Rest, cycle);
         match first {
             None => {
-                rows.push(Row {
+                let empty = Row {
                     zero: None,
                     one: None,
-                })?;
+                };
+                taker.take(ops, own, empty, cycle)?;
                 Ok(0)
             }
             Some(a) => {
                 let b = self.issue_first(plan, Class::of(a.kind), cycle);
-                rows.push(row_of(&a, &b))?;
+                taker.take(ops, own, row_of(&a, &b), cycle)?;
                 Ok(slot_count(&b))
             }
         }

@@ -12,6 +12,7 @@ mod registers;
 mod renaming;
 mod scheduler;
 mod tables;
+mod taker;
 
 pub use edges::Edge;
 pub use graph::Graph;
@@ -19,3 +20,4 @@ pub use iloc_rules::{Pair, pairs};
 pub use ranking::{priorities, priorities_by};
 pub use renaming::rename;
 pub use scheduler::{Scheduler, schedule, schedule_as, schedule_by};
+pub use taker::{CountCycles, TakeRows};

@@ -1,7 +1,9 @@
 //! The list scheduler.
-ghost use Rattle.std.specs.Prelude.{◌≡◌, ◌≤◌, ◌+◌, ◌*◌, List, length, IfOk, OnOk};
+ghost use Rattle.std.specs.Prelude.{◌≡◌, ◌≤◌, ◌+◌, ◌*◌, List, [], length, IfOk, OnOk};
 ghost use Rattle.iloc_ops.specs.declared.op.Op.{Op};
 ghost use Rattle.iloc_timed.specs.declared.latencies.Latencies.{Latencies as latencies_value};
+ghost use Rattle.iloc_timed.specs.declared.row.Row.{Row as row_value};
+ghost use Rattle.iloc_timed.specs.Rows.{IsTable};
 ghost use Rattle.iloc_rules.specs.declared.memory_rule.MemoryRule.{MemoryRule as rule_value};
 ghost use Rattle.iloc_sched.specs.Graph.GraphOf.{of_block};
 ghost use Rattle.iloc_rules.specs.Greedy.{IsGreedyWhere};
@@ -9,17 +11,18 @@ ghost use Rattle.iloc_rules.specs.Heuristics.{priorities_by, priorities_under};
 ghost use Rattle.iloc_rules.specs.Priority.{priorities, priorities_where};
 ghost use Rattle.iloc_rules.specs.Renaming.{renamed};
 ghost use Rattle.iloc_rules.specs.Rule.{counts_by};
-ghost use Rattle.iloc_sched.specs.Scheduled.{IsTheSchedule, IsTheScheduleBy};
-ghost use Rattle.iloc_sched.specs.Steps.Cycle.SoFar.{IsPlan, counts_of};
+ghost use Rattle.iloc_sched.specs.Scheduled.{AreRowsBy, IsTheSchedule, IsTheScheduleBy};
+ghost use Rattle.iloc_sched.specs.Steps.Cycle.SoFar.{IsPlan, counts_of, took_of};
 
 use crate::cycle::calendar::SHORT;
 use crate::cycle::order::Order;
 use crate::cycle::plan::Plan;
 use crate::cycle::waiting::Waiting;
 use crate::graph::Graph;
+use crate::taker::TakeRows;
 use iloc_ops::{Block, MAX_OPS, NoMemory, Op};
 use iloc_rules::{Heuristic, LONGEST_DELAY, MemoryRule};
-use iloc_timed::{Latencies, Row, Schedule};
+use iloc_timed::{Latencies, MAX_ROWS, Row, Schedule};
 use std::alloc::Global;
 use std::mem;
 
@@ -48,16 +51,22 @@ impl Scheduler {
         }
     }
 
-    /// The schedule of a graph's block that is greedy by these priorities, one for each operation, and by the graph's rule of
-    /// memory: in each cycle the first of the ready operations is issued, with the first of the others that can go beside it, in
-    /// order of falling priority, then of number. It is in own buffers, which `take_back` takes back, and the graph stays as it is.
+    /// Hands `taker` the rows of the schedule of a graph's block that is greedy by these priorities, one for each operation, and by
+    /// the graph's rule of memory: in each cycle the first of the ready operations is issued, with the first of the others that can
+    /// go beside it, in order of falling priority, then of number. The graph stays as it is.
     ///
-    /// Promise: It is the only schedule of the block that is greedy by these priorities and by the graph's rule, with the block's
-    /// outcome, and its cycles lie between the bounds of `schedule`, whatever graphs came before.
-    pub fn lend(&mut self, graph: &Graph, ranks: &[u32]) -> Result<Schedule, NoMemory>
+    /// Promise: The taker takes just the rows of the only schedule of the block that is greedy by these priorities and by the
+    /// graph's rule, with the block's outcome, and its cycles lie between the bounds of `schedule`, whatever graphs came before.
+    pub fn feed<T: TakeRows>(
+        &mut self,
+        graph: &Graph,
+        ranks: &[u32],
+        taker: &mut T,
+    ) -> Result<(), NoMemory>
         requires { length ranks.now ≡ length graph.now.ops }
-        ensures { IfOk result (λ s. (rule : rule_value) (lat : latencies_value) (block : List Op) →
-            graph.now ≡ of_block rule lat block → IsTheScheduleBy rule (λ _. ranks.now) lat block s) }
+        ensures kept { T.kept taker.new ≡ T.kept taker.old }
+        ensures took { OnOk result ((rows : List row_value) × T.took graph.now.latencies graph.now.ops taker.old rows taker.new
+            × AreRowsBy (λ _ _ _. ranks.now) graph.now rows) }
     {
         let tables = graph.tables();
         self.order.fill(ranks)?;
@@ -68,12 +77,60 @@ impl Scheduler {
             ranks: &self.order.ranks,
             short: ranks.len() < SHORT,
         };
-        fill_rows(&plan, &mut self.waiting, &mut self.rows)?;
+        fill_rows(&plan, &mut self.waiting, taker)
+    }
+
+    /// Hands `taker` the rows of the schedule of a graph's block that is greedy by a heuristic and by the graph's rule, as `feed`.
+    pub fn feed_as<T: TakeRows>(
+        &mut self,
+        graph: &Graph,
+        heuristic: Heuristic,
+        taker: &mut T,
+    ) -> Result<(), NoMemory>
+        ensures kept { T.kept taker.new ≡ T.kept taker.old }
+        ensures took { OnOk result ((rows : List row_value) × T.took graph.now.latencies graph.now.ops taker.old rows taker.new
+            × AreRowsBy (λ rule lat. priorities_under rule heuristic lat) graph.now rows) }
+    {
+        let mut ranks = mem::replace(&mut self.ranks, Vec::new(self.alloc));
+        graph.rank(heuristic, &mut ranks)?;
+        let fed = self.feed(graph, &ranks, taker);
+        self.ranks = ranks;
+        fed
+    }
+
+    /// No rows, in the scheduler's buffer.
+    fn no_rows(&mut self) -> Vec<Row>
+        ensures { result.items ≡ [] }
+    {
+        self.rows.clear();
+        mem::replace(&mut self.rows, Vec::new(self.alloc))
+    }
+
+    /// The schedule of the operations of a graph in `rows`.
+    fn schedule_in(&mut self, graph: &Graph, rows: Vec<Row>) -> Result<Schedule, NoMemory>
+        requires table { IsTable graph.now.ops rows.items }
+        requires few { length rows.items ≤ MAX_ROWS }
+        ensures { IfOk result (λ s. s ≡ record { ops = graph.now.ops; rows = rows.items }) }
+    {
         self.ops.clear();
         self.ops.extend_from_slice(graph.ops())?;
         let ops = mem::replace(&mut self.ops, Vec::new(self.alloc));
-        let rows = mem::replace(&mut self.rows, Vec::new(self.alloc));
         Ok(Schedule::of_table(ops, rows))
+    }
+
+    /// The schedule of a graph's block that is greedy by these priorities, whose rows `feed` hands on. It is in own buffers, which
+    /// `take_back` takes back.
+    ///
+    /// Promise: It is the only schedule of the block that is greedy by these priorities and by the graph's rule, with the block's
+    /// outcome, and its cycles lie between the bounds of `schedule`, whatever graphs came before.
+    pub fn lend(&mut self, graph: &Graph, ranks: &[u32]) -> Result<Schedule, NoMemory>
+        requires { length ranks.now ≡ length graph.now.ops }
+        ensures { IfOk result (λ s. (rule : rule_value) (lat : latencies_value) (block : List Op) →
+            graph.now ≡ of_block rule lat block → IsTheScheduleBy rule (λ _. ranks.now) lat block s) }
+    {
+        let mut rows = self.no_rows();
+        self.feed(graph, ranks, &mut rows)?;
+        self.schedule_in(graph, rows)
     }
 
     /// The schedule of a graph's block that is greedy by a heuristic and by the graph's rule, lent as `lend` does.
@@ -84,11 +141,9 @@ impl Scheduler {
         ensures { IfOk result (λ s. (rule : rule_value) (lat : latencies_value) (block : List Op) →
             graph.now ≡ of_block rule lat block → IsTheScheduleBy rule (priorities_under rule heuristic lat) lat block s) }
     {
-        let mut ranks = mem::replace(&mut self.ranks, Vec::new(self.alloc));
-        graph.rank(heuristic, &mut ranks)?;
-        let lent = self.lend(graph, &ranks);
-        self.ranks = ranks;
-        lent
+        let mut rows = self.no_rows();
+        self.feed_as(graph, heuristic, &mut rows)?;
+        self.schedule_in(graph, rows)
     }
 
     /// Takes back the buffers of a schedule, for the next one.
@@ -97,16 +152,17 @@ impl Scheduler {
     }
 }
 
-/// Makes the rows of the greedy schedule.
-fn fill_rows(plan: &Plan, waiting: &mut Waiting, rows: &mut Vec<Row>) -> Result<(), NoMemory>
+/// Hands `taker` the rows of the greedy schedule.
+fn fill_rows<T: TakeRows>(plan: &Plan, waiting: &mut Waiting, taker: &mut T) -> Result<(), NoMemory>
     requires { IsPlan plan.now }
-    ensures greedy { OnOk result ((block : List Op) → plan.now.tables.now.ops.items ≡ renamed block
+    ensures kept { T.kept taker.new ≡ T.kept taker.old }
+    ensures took { OnOk result ((rows : List row_value) × took_of T.took plan.now taker.old rows taker.new
+        × (length rows ≤ LONGEST_DELAY * MAX_OPS + 1)
+        × ((block : List Op) → plan.now.tables.now.ops.items ≡ renamed block
         → IsGreedyWhere (counts_of plan.now) plan.now.priorities.now plan.now.tables.now.latencies block
-        plan.now.tables.now.ops.items rows.new.items) }
-    ensures few { OnOk result (length rows.new.items ≤ LONGEST_DELAY * MAX_OPS + 1) }
+        plan.now.tables.now.ops.items rows)) }
 {
     waiting.open(plan)?;
-    rows.clear();
     // The same plan. Its flag comes from the calendar, since one that is computed from a length is computed anew at each test: that
     // takes 10 instructions more for an operation of a block of ten.
     let known = Plan {
@@ -114,8 +170,11 @@ fn fill_rows(plan: &Plan, waiting: &mut Waiting, rows: &mut Vec<Row>) -> Result<
         ..*plan
     };
     let mut left = plan.tables.ops.len();
+    let mut cycle = 0;
     while left > 0 {
-        left -= waiting.step(&known, rows)?;
+        let issued = waiting.step(&known, taker, cycle)?;
+        left -= issued;
+        cycle += 1;
     }
     Ok(())
 }

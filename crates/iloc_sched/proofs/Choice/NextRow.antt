@@ -1,5 +1,5 @@
 -- One more row of a schedule that is being made, and its end; for `Waiting::step`, `Scheduler::fill_rows`.
-use Rattle.iloc_sched.proofs.Common.{◌≡◌, ℕ, suc, ◌+◌, ◌*◌, ◌<◌, ◌≤◌, true, false, cond, ◌≢◌, ◌⊎◌, List, [], ◌∷◌, ◌++◌, length, get_or, set, is_none, Some, None, sum_by, count_by, Option, option_to_list, sym, refl, ap, ◌∙◌, subst, arith, length-append, rules, sum_by-le, sum_by-set, Op, by_bool, kind, latency, empty_row, holds, row_at, slots, Latencies, Row, IsGreedyWhere, renamed, In, class_of, MatchesRows, IsBest, IsPlan, IsSoFar, IsUnderWay, Issues, IssuesAny, counts_of, number_of, row_with, slot_count, waiting_count, issued_list, progress_of, Plan, Waiting}
+use Rattle.iloc_sched.proofs.Common.{◌≡◌, ℕ, suc, ◌+◌, ◌*◌, ◌<◌, ◌≤◌, true, false, cond, ◌≢◌, ◌⊎◌, List, [], ◌∷◌, ◌++◌, map, length, get_or, get_or_push, set, is_none, Some, None, sum_by, count_by, Option, option_to_list, sym, refl, ap, ◌∙◌, subst, arith, length-append, rules, sum_by-le, sum_by-set, Op, by_bool, kind, latency, empty_row, holds, row_at, slots, Latencies, Row, IsGreedyWhere, renamed, In, class_of, MatchesRows, IsBest, IsPlan, IsSoFar, IsUnderWay, Issues, IssuesAny, counts_of, number_of, row_with, slot_count, took_of, waiting_count, issued_list, progress_of, Plan, Waiting}
 use Rattle.iloc_sched.specs.declared.cycle.Choice.{Choice}
 use Rattle.iloc_sched.specs.declared.cycle.class.Class.TheVariants as C
 use Rattle.iloc_rules.proofs.Basics.IssueCycles.{issue_cycle_more, issue_cycle_last, issue_cycle_beyond}
@@ -39,6 +39,37 @@ in_first a b = grind (arith, in_last)
 
 in_second : (a b : Choice) → In (slots (row_with a (Some b))) b.number
 in_second a b = grind arith
+
+-- the row of a choice isn't empty
+pub row_filled : (a : Choice) (b : Option Choice) (row : Row) → row ≡ row_with a b → slots row ≡ [] → ⊥
+row_filled a b row is none = grind (arith, in_first)
+
+-- the last row isn't empty
+pub last_filled : (rows : List Row) (row : Row) (c : ℕ) → (slots row ≡ [] → ⊥) → length (rows ++ row ∷ []) ≡ c + 1
+    → slots (row_at (rows ++ row ∷ []) c) ≡ [] → ⊥
+last_filled rows row c filled long empty =
+    let size : length (rows ++ row ∷ []) ≡ length rows + 1 = length-append rows (row ∷ []) in
+    let here : c ≡ length rows = omega arith in
+    filled (sym (ap slots (ap (row_at (rows ++ row ∷ [])) here ∙ get_or_push rows row empty_row (length rows) refl)) ∙ empty)
+
+-- the operations of a plan and their latencies, as a taker is handed them
+module _ (p : Plan) (plan : IsPlan p) (ops : List Op) (own : List ℕ) (same : ops ≡ p.tables.now.ops.items)
+    (same_own : own ≡ p.tables.now.own.items) where
+  own_is : own ≡ map (latency p.tables.now.latencies) ops
+  own_is = same_own ∙ (plan.own ∙ ap (map (latency p.tables.now.latencies)) (sym same))
+
+  pub own_of_plan : (lat : Latencies) × (own ≡ map (latency lat) ops)
+  own_of_plan = (p.tables.now.latencies, own_is)
+
+  module _ {T : Type 0} (took : Latencies → List Op → T → List Row → T → Type 0) (before after : T) (row : Row) (cycle : ℕ) where
+    pub row_taken : ((lat : Latencies) (start : T) (rows : List Row) → own ≡ map (latency lat) ops → took lat ops start rows before
+        → length rows ≡ cycle → took lat ops start (rows ++ row ∷ []) after)
+        → (start : T) (rows : List Row) → took_of took p start rows before → length rows ≡ cycle
+        → took_of took p start (rows ++ row ∷ []) after
+    row_taken takes start rows taken count =
+        subst (λ xs. took p.tables.now.latencies xs start (rows ++ row ∷ []) after) same
+        (takes p.tables.now.latencies start rows own_is
+        (subst (λ xs. took p.tables.now.latencies xs start rows before) (sym same) taken) count)
 
 -- nothing is ready
 pub so_far_none : (p : Plan) (w w1 w2 : Waiting) (rows rows' : List Row) (row : Row) → IsPlan p

@@ -2,8 +2,10 @@
 use Rattle.std.specs.Prelude.{ℕ, ◌+◌, ◌≡◌, ◌<◌, ◌≤◌, ◌==◌, ◌||◌, nat_lt, List, length, map, slice_index, slice_index_or, slice_set, count_by, is_none, Option, Some, None, Bool, true, false, if◌then◌else◌}
 use Rattle.iloc_meaning.specs.Trace.{op_at}
 use Rattle.iloc_ops.specs.declared.op.Op.{Op}
+use Rattle.iloc_timed.specs.declared.latencies.Latencies.{Latencies}
 use Rattle.iloc_timed.specs.declared.row.Row.{Row}
 use Rattle.iloc_timed.specs.Kinds.{kind}
+use Rattle.iloc_timed.specs.Latency.{latency}
 use Rattle.iloc_timed.specs.Units.{needs_zero, needs_one}
 use Rattle.iloc_sched.specs.declared.cycle.Choice.{Choice}
 use Rattle.iloc_sched.specs.declared.cycle.calendar.Calendar.{Calendar}
@@ -28,9 +30,10 @@ class_at ops i = class_of (kind (op_at ops i))
 abbrev pub counts_of : Plan → Counts
 counts_of p = counts_by p.tables.now.rule p.tables.now.ops.items
 
--- a plan has the kinds and the edges of its operations, and by a priority for each their ranks; it knows whether they are few
+-- a plan has the kinds, the latencies and the edges of its operations, and by a priority for each their ranks; it knows whether they are few
 pub record IsPlan (p : Plan) : Type 0 where
   pub kinds : p.tables.now.kinds.items ≡ map kind p.tables.now.ops.items
+  pub own : p.tables.now.own.items ≡ map (latency p.tables.now.latencies) p.tables.now.ops.items
   pub graph : IsGraphWhere (counts_of p) p.tables.now.latencies p.tables.now.ops.items (graph_of p.tables.now.edges)
   pub priorities : length p.priorities.now ≡ length p.tables.now.ops.items
   pub ranked : AreRanks p.priorities.now p.order.now p.ranks.now
@@ -74,6 +77,16 @@ pub record IsSoFar (p : Plan) (w : Waiting) (rows : List Row) : Type 0 where
   pub under_way : IsUnderWay p w (length rows)
   pub matches : MatchesRows (length p.tables.now.ops.items) rows (progress_of p.ranks.now w).issued
   pub each : IsChosenWhere (counts_of p) p.priorities.now p.tables.now.latencies p.tables.now.ops.items rows
+
+-- what `took` says of the rows of a plan's operations
+abbrev pub took_of : {T : Type 0} → (Latencies → List Op → T → List Row → T → Type 0) → Plan → T → List Row → T → Type 0
+took_of took p = took p.tables.now.latencies p.tables.now.ops.items
+
+-- From `start` to `now` the rows so far were taken, those of the cycles before `cycle`.
+pub record HasTaken {T : Type 0} (took : Latencies → List Op → T → List Row → T → Type 0) (p : Plan) (w : Waiting) (start now : T) (cycle : ℕ) (rows : List Row) : Type 0 where
+  pub so_far : IsSoFar p w rows
+  pub taken : took_of took p start rows now
+  pub count : length rows ≡ cycle
 
 -- operation j can be issued beside an operation of a class
 abbrev pub IsOpen : Plan → Waiting → Class → ℕ → Type 0
