@@ -9,3 +9,4 @@ pub mod Spelling
 pub mod Timed
 pub mod Wheel
 pub mod Steps
+pub mod RowByRow

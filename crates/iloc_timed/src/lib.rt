@@ -16,6 +16,7 @@ mod wheel;
 pub use build_fault::BuildFault;
 pub use kind::Kind;
 pub use latencies::{LONGEST_LATENCY, Latencies};
+pub use machine::Machine;
 pub use row::{Row, kind_in};
 pub use run::run_schedule;
 pub use schedule::{MAX_ROWS, Schedule};

@@ -1,16 +1,20 @@
 //! A schedule in mid-run.
-ghost use Rattle.std.specs.Prelude.{ℕ, ◌≡◌, ◌+◌, ◌<◌, ◌≤◌, pos, [], List, ℤ, length, fold, option_to_list, All, IfOk, OnOk, IfSome, IsTrue, true};
+ghost use Rattle.std.specs.Prelude.{ℕ, ◌≡◌, ◌+◌, ◌<◌, ◌≤◌, pos, [], ◌∷◌, ◌++◌, List, ℤ, length, map, fold, option_to_list, All, IfOk, OnOk, IfSome, IsTrue, true};
+ghost use Rattle.iloc_ops.specs.declared.op.Op.{Op as op_value};
 ghost use Rattle.iloc_ops.specs.declared.op.Reg.{Reg as Register};
+ghost use Rattle.iloc_meaning.specs.Outcome.{shown};
+ghost use Rattle.std.specs.Option.{option_copied};
+ghost use Rattle.iloc_timed.specs.declared.latencies.Latencies.{Latencies as latencies_value};
+ghost use Rattle.iloc_timed.specs.declared.row.Row.{Row as row_value};
+ghost use Rattle.iloc_timed.specs.Latency.{latency};
 ghost use Rattle.iloc_meaning.specs.Address.{is_good};
 ghost use Rattle.iloc_meaning.specs.Memory.{word_at};
 ghost use Rattle.iloc_meaning.specs.Registers.{value_of};
 ghost use Rattle.iloc_timed.specs.Limits.{LONGEST_LATENCY};
 ghost use Rattle.iloc_timed.specs.Steps.Pending.{landed_in_register, landed_in_word, CanLand};
 
-use crate::latencies::Latencies;
 use crate::row::Row;
 use crate::schedule::{MAX_ROWS, Schedule};
-use crate::timing::latency;
 use crate::wheel::{LONGEST, Pending, Wheel};
 use iloc_meaning::{Effect, MachineState, Memory, Registers, Scratch};
 use iloc_ops::{NoMemory, Op, defines};
@@ -59,8 +63,8 @@ fn land_all(
 
 /// A schedule in mid-run: results that were due are written, and the others are under way.
 #[derive(Drop)]
-pub(crate) struct Machine {
-    pub(crate) state: MachineState,
+pub struct Machine {
+    pub state: MachineState,
     wheel: Wheel<Pending>,
 }
 
@@ -69,10 +73,11 @@ impl Machine {
     ghost use Rattle.iloc_timed.specs.Timed.{Issued, issue_all, timed_outcome};
     ghost use Rattle.iloc_timed.specs.Rows.{slots};
     ghost use Rattle.iloc_timed.specs.Steps.Machine.{then_issued, Follows, After};
+    ghost use Rattle.iloc_timed.specs.RowByRow.{HasRun};
     ghost use Rattle.iloc_meaning.specs.MachineState.{leaves};
 
-    /// All registers 0, this memory, nothing under way.
-    pub(crate) fn new(alloc: Global, memory: Memory) -> Result<Machine, NoMemory>
+    /// Promise: all registers 0, this memory, nothing under way.
+    pub fn new(alloc: Global, memory: Memory) -> Result<Machine, NoMemory>
         ensures memory { IfOk result (λ machine. machine.state.memory ≡ record { first = memory; words = memory }) }
         ensures outputs { IfOk result (λ machine. machine.state.outputs.items ≡ []) }
         ensures finished { IfOk result (λ machine. machine.state.finished ≡ true) }
@@ -148,54 +153,90 @@ impl Machine {
         Ok(true)
     }
 
-    /// Issues the operation in a slot. Answers whether the run goes on.
+    /// Issues the operation in a slot. Answers whether the run goes on. Of each of `ops` the latency is in `own`.
     #[inline(always)]
     fn issue_slot(
         &mut self,
         ops: &[Op],
+        own: &[u32],
         slot: Option<usize>,
         cycle: usize,
-        latencies: &Latencies,
     ) -> Result<bool, NoMemory>
         requires known { IfSome slot (λ i. i < length ops.now) }
+        requires size { length own.now ≡ length ops.now }
         requires early { cycle ≤ MAX_ROWS }
         ensures first { self.new.state.memory.first ≡ self.old.state.memory.first }
-        ensures after { IfOk result (λ goes_on. (memory : List ℤ) (log : List Issued) →
-            Follows memory (cycle + 1) log self.old →
-            After goes_on memory (cycle + 1)
-            (issue_all latencies.now memory ops.now cycle (option_to_list slot) log) self.new) }
+        ensures after { IfOk result (λ goes_on. (lat : latencies_value) (memory : List ℤ) (log : List Issued) →
+            own.now ≡ map (latency lat) ops.now → Follows memory (cycle + 1) log self.old →
+            After goes_on memory (cycle + 1) (issue_all lat memory ops.now cycle (option_to_list slot) log) self.new) }
     {
         match slot {
-            Some(i) => {
-                let op = &ops[i];
-                self.issue(op, cycle + latency(op, latencies) as usize)
-            }
+            Some(i) => self.issue(&ops[i], cycle + own[i] as usize),
             None => Ok(true),
         }
     }
 
     /// Writes what is due at a cycle, and issues the operations of its row. Answers whether the run
     /// goes on.
-    fn run_row(
-        &mut self,
-        ops: &[Op],
-        row: Row,
-        cycle: usize,
-        latencies: &Latencies,
-    ) -> Result<bool, NoMemory>
+    fn run_row(&mut self, ops: &[Op], own: &[u32], row: Row, cycle: usize) -> Result<bool, NoMemory>
         requires zero { IfSome row.zero (λ i. i < length ops.now) }
         requires one { IfSome row.one (λ i. i < length ops.now) }
+        requires size { length own.now ≡ length ops.now }
         requires early { cycle ≤ MAX_ROWS }
         ensures first { self.new.state.memory.first ≡ self.old.state.memory.first }
-        ensures after { IfOk result (λ goes_on. (memory : List ℤ) (log : List Issued) →
-            Follows memory cycle log self.old →
-            After goes_on memory (cycle + 1) (issue_all latencies.now memory ops.now cycle (slots row) log) self.new) }
+        ensures after { IfOk result (λ goes_on. (lat : latencies_value) (memory : List ℤ) (log : List Issued) →
+            own.now ≡ map (latency lat) ops.now → Follows memory cycle log self.old →
+            After goes_on memory (cycle + 1) (issue_all lat memory ops.now cycle (slots row) log) self.new) }
     {
         self.land(cycle)?;
-        if !self.issue_slot(ops, row.zero, cycle, latencies)? {
+        if !self.issue_slot(ops, own, row.zero, cycle)? {
             return Ok(false);
         }
-        self.issue_slot(ops, row.one, cycle, latencies)
+        self.issue_slot(ops, own, row.one, cycle)
+    }
+
+    /// Starts a run of a schedule, whose rows are then run one by one, on the memory that was first passed in.
+    pub fn begin(&mut self)
+        ensures first { self.new.state.memory.first ≡ self.old.state.memory.first }
+        ensures ran { (lat : latencies_value) (ops : List op_value) → HasRun lat ops [] self.new }
+    {
+        self.restart();
+        self.state.finished = true;
+    }
+
+    /// Runs the row of a cycle, the next after those that were run, unless a fault has ended the run. Of each of `ops`, the
+    /// operations of the schedule, the latency is in `own`.
+    ///
+    /// Promise: what has run of the schedule has run with this row too.
+    pub fn take_row(
+        &mut self,
+        ops: &[Op],
+        own: &[u32],
+        row: Row,
+        cycle: usize,
+    ) -> Result<(), NoMemory>
+        requires zero { IfSome row.zero (λ i. i < length ops.now) }
+        requires one { IfSome row.one (λ i. i < length ops.now) }
+        requires size { length own.now ≡ length ops.now }
+        requires early { cycle ≤ MAX_ROWS }
+        ensures first { self.new.state.memory.first ≡ self.old.state.memory.first }
+        ensures ran { OnOk result ((lat : latencies_value) (rows : List row_value) →
+            own.now ≡ map (latency lat) ops.now → length rows ≡ cycle →
+            HasRun lat ops.now rows self.old → HasRun lat ops.now (rows ++ row ∷ []) self.new) }
+    {
+        if !self.state.finished {
+            return Ok(());
+        }
+        self.state.finished = self.run_row(ops, own, row, cycle)?;
+        Ok(())
+    }
+
+    /// Promise: the words that the rows emitted that have run, in order, or `None` if one faulted.
+    pub fn outputs(&self) -> Option<&[i32]>
+        ensures { (lat : latencies_value) (ops : List op_value) (rows : List row_value) → HasRun lat ops rows self.now →
+            option_copied result ≡ shown (timed_outcome lat ops rows self.now.state.memory.first) }
+    {
+        self.state.outputs()
     }
 
     /// Writes whatever is under way, from a cycle on.
@@ -211,26 +252,26 @@ impl Machine {
         Ok(())
     }
 
-    /// Runs a schedule from the start, on the memory that was first passed in. Answers whether the run came to its end:
-    /// a fault ends it.
-    pub(crate) fn run(
-        &mut self,
-        schedule: &Schedule,
-        latencies: &Latencies,
-    ) -> Result<bool, NoMemory>
+    /// Runs a schedule from the start to its end, on the memory that was first passed in. Of each of its operations the latency is
+    /// in `own`.
+    pub(crate) fn run(&mut self, schedule: &Schedule, own: &[u32]) -> Result<(), NoMemory>
+        requires size { length own.now ≡ length schedule.now.ops }
         ensures first { self.new.state.memory.first ≡ self.old.state.memory.first }
-        ensures outcome { IfOk result (λ finished. leaves finished self.new.state
-            ≡ timed_outcome latencies.now schedule.now.ops schedule.now.rows self.old.state.memory.first) }
+        ensures outcome { OnOk result ((lat : latencies_value) → own.now ≡ map (latency lat) schedule.now.ops →
+            leaves self.new.state.finished self.new.state
+            ≡ timed_outcome lat schedule.now.ops schedule.now.rows self.old.state.memory.first) }
     {
-        self.restart();
+        self.begin();
         let ops = schedule.ops();
         let rows = schedule.rows();
         for (cycle, row) in rows.iter().enumerate() {
-            if !self.run_row(ops, *row, cycle, latencies)? {
-                return Ok(false);
-            }
+            self.take_row(ops, own, *row, cycle)?;
+        }
+        if !self.state.finished {
+            return Ok(());
         }
         self.land_rest(rows.len())?;
-        Ok(true)
+        self.state.finished = true;
+        Ok(())
     }
 }

@@ -7,6 +7,7 @@ ghost use Rattle.iloc_timed.specs.Timed.{timed_outcome};
 use crate::latencies::Latencies;
 use crate::machine::Machine;
 use crate::schedule::Schedule;
+use crate::timing::fill_latencies;
 use iloc_meaning::{Memory, Outcome};
 use iloc_ops::NoMemory;
 use std::alloc::Global;
@@ -17,6 +18,8 @@ use std::marker::Model;
 #[derive(Drop)]
 pub struct Simulator {
     machine: Machine,
+    /// The latencies of the last schedule's operations.
+    own: Vec<u32>,
 }
 
 impl Model for Simulator {
@@ -36,6 +39,7 @@ impl Simulator {
     {
         Ok(Simulator {
             machine: Machine::new(alloc, memory)?,
+            own: Vec::new(alloc),
         })
     }
 
@@ -47,8 +51,8 @@ impl Simulator {
         ensures outcome { OnOk result (self.new.last
             ≡ timed_outcome latencies.now schedule.now.ops schedule.now.rows self.old.memory) }
     {
-        self.machine.state.finished = self.machine.run(schedule, latencies)?;
-        Ok(())
+        fill_latencies(&mut self.own, schedule.ops(), latencies)?;
+        self.machine.run(schedule, &self.own)
     }
 
     /// Promise: the words that the last schedule emitted, in order, or `None` if it faulted.

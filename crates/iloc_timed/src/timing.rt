@@ -1,5 +1,5 @@
 //! How long operations and schedules take.
-ghost use Rattle.std.specs.Prelude.{◌≡◌, ◌+◌, ◌<◌, ◌≤◌, length, get_or, IfSome, unwrap_or, option_map};
+ghost use Rattle.std.specs.Prelude.{◌≡◌, ◌+◌, ◌<◌, ◌≤◌, length, map, get_or, IfSome, OnOk, unwrap_or, option_map};
 ghost use Rattle.iloc_meaning.specs.Trace.{op_at};
 ghost use Rattle.iloc_timed.specs.Kinds.{kind};
 ghost use Rattle.iloc_timed.specs.Latency.{latency, IsLatency};
@@ -11,7 +11,7 @@ use crate::kind::Kind;
 use crate::latencies::Latencies;
 use crate::row::Row;
 use crate::schedule::{MAX_ROWS, Schedule};
-use iloc_ops::Op;
+use iloc_ops::{NoMemory, Op};
 
 /// As `Kind::of`, which compiles to a table by itself, and inlined to a jump: so `simulate` mispredicts 0.35 branches less for
 /// each operation.
@@ -28,6 +28,21 @@ pub fn latency(op: &Op, latencies: &Latencies) -> u64
     ensures within { IsLatency result }
 {
     u64::from(latencies.of(kind_of(op)))
+}
+
+/// Fills a list with the latency of each operation.
+pub(crate) fn fill_latencies(
+    own: &mut Vec<u32>,
+    ops: &[Op],
+    latencies: &Latencies,
+) -> Result<(), NoMemory>
+    ensures { OnOk result (own.new.items ≡ map (latency latencies.now) ops.now) }
+{
+    own.clear();
+    for op in ops {
+        own.push(latencies.of(kind_of(op)))?;
+    }
+    Ok(())
 }
 
 /// When the result of what is issued in a slot arrives, by the latencies of the kinds; 0 for an empty slot.

@@ -1,10 +1,12 @@
-use Rattle.std.proofs.Common.{◌≡◌}
-use Rattle.iloc_timed.specs.Timed.{issued_before}
-use Rattle.iloc_timed.specs.Steps.Machine.{Follows}
+use Rattle.std.proofs.Common.{◌≡◌, map, take}
+use Rattle.iloc_timed.specs.declared.latencies.Latencies.{Latencies}
+use Rattle.iloc_timed.specs.Latency.{latency}
+use Rattle.iloc_timed.specs.RowByRow.{HasRun}
 use Rattle.iloc_timed.proofs.machine.Machine.run.Given as goal
 
 abbrev pub invariant-loop-cycle : goal.invariant-loop-cycle
-invariant-loop-cycle l =
-    (l.self.state.memory.first ≡ l.fn.self.state.memory.first)
-    × Follows l.fn.self.state.memory.first l.cycle
-    (issued_before l.latencies l.fn.self.state.memory.first l.schedule.ops l.schedule.rows l.cycle) l.self
+invariant-loop-cycle l = record {
+  first : l.self.state.memory.first ≡ l.fn.self.state.memory.first;
+  ran : (lat : Latencies) → l.own ≡ map (latency lat) l.schedule.ops
+      → HasRun lat l.schedule.ops (take l.cycle l.schedule.rows) l.self;
+}
