@@ -6,7 +6,7 @@ ghost use Rattle.iloc_timed.specs.declared.row.Row.{Row as row_value};
 ghost use Rattle.iloc_timed.specs.Latency.{latency};
 
 use iloc_ops::{NoMemory, Op};
-use iloc_timed::{MAX_ROWS, Row};
+use iloc_timed::{MAX_ROWS, Machine, Row};
 
 /// Takes the rows of a schedule, one after another.
 pub trait TakeRows {
@@ -85,4 +85,20 @@ impl TakeRows for CountCycles {
     }
 
     ghost took_none = { λ lat ops start. none_later lat ops start.cycles };
+}
+
+impl TakeRows for Machine {
+    ghost use Rattle.std.specs.Prelude.{[]};
+    ghost use Rattle.iloc_timed.specs.RowByRow.{HasRun};
+
+    ghost took = { λ lat ops start rows now. HasRun lat ops [] start → HasRun lat ops rows now };
+
+    ghost kept = { λ machine. machine.state.memory.first };
+
+    #[inline(always)]
+    fn take(&mut self, ops: &[Op], own: &[u32], row: Row, cycle: u32) -> Result<(), NoMemory> {
+        self.take_row(ops, own, row, cycle as usize)
+    }
+
+    ghost took_none = { λ _ _ _ begun. begun };
 }
