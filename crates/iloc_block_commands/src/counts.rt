@@ -3,12 +3,12 @@ ghost use Rattle.std.specs.Prelude.{◌≡◌, ◌≤◌, ◌<◌, ◌++◌, len
 ghost use Rattle.iloc_ops.specs.Limits.{MAX_BLOCKS};
 ghost use Rattle.iloc_listing.specs.Listing.{count_ending};
 
-use crate::schedule::lend;
+use crate::schedule::feed;
 use iloc_args::{Flag, Request};
 use iloc_driver::FarmedLister;
-use iloc_listing::{Listing, count_of, push_count, push_opening, push_total_of};
+use iloc_listing::{Listing, push_count, push_opening, push_total_of};
 use iloc_ops::{Block, Blocks, NoMemory};
-use iloc_sched::{Graph, Scheduler};
+use iloc_sched::{CountCycles, Graph, Scheduler};
 use std::alloc::Global;
 
 /// What a table begins with.
@@ -72,10 +72,15 @@ impl FarmedLister for CountLister {
     ) -> Result<u32, NoMemory> {
         self.graph
             .refill(request.memory_rule(), block, &request.latencies)?;
-        let schedule = lend(&mut self.scheduler, &self.graph, own, request.priority)?;
-        let cycles = count_of(&schedule, &request.latencies);
-        self.scheduler.take_back(schedule);
-        Ok(cycles)
+        let mut counted = CountCycles { cycles: 0 };
+        feed(
+            &mut self.scheduler,
+            &self.graph,
+            own,
+            request.priority,
+            &mut counted,
+        )?;
+        Ok(counted.cycles)
     }
 
     fn cycles(cycles: &u32) -> u32 {

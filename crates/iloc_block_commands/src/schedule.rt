@@ -1,11 +1,12 @@
 //! `schedule`: blocks' schedules, a line a row.
-ghost use Rattle.std.specs.Prelude.{◌≡◌, ◌≤◌, List, length, option_copied, IfOk, IfSome};
+ghost use Rattle.std.specs.Prelude.{◌≡◌, ◌≤◌, List, length, option_copied, IfOk, OnOk, IfSome};
 ghost use Rattle.iloc_ops.specs.Limits.{MAX_BLOCKS};
 ghost use Rattle.iloc_ops.specs.declared.op.Op.{Op};
 ghost use Rattle.iloc_timed.specs.declared.latencies.Latencies.{Latencies as latencies_value};
+ghost use Rattle.iloc_timed.specs.declared.row.Row.{Row};
 ghost use Rattle.iloc_rules.specs.declared.memory_rule.MemoryRule.{MemoryRule as rule_value};
 ghost use Rattle.iloc_sched.specs.Graph.GraphOf.{of_block};
-ghost use Rattle.iloc_sched.specs.Scheduled.{IsTheScheduleBy};
+ghost use Rattle.iloc_sched.specs.Scheduled.{AreRowsBy, IsTheScheduleBy};
 ghost use Rattle.iloc_listing.specs.Schedules.{ranks_under};
 
 use iloc_args::Request;
@@ -13,7 +14,7 @@ use iloc_driver::FarmedLister;
 use iloc_listing::{EntryMaker, Listing, ScheduleEntry, with_total};
 use iloc_ops::{Block, Blocks, NoMemory};
 use iloc_rules::Heuristic;
-use iloc_sched::{Graph, Scheduler};
+use iloc_sched::{Graph, Scheduler, TakeRows};
 use iloc_timed::Schedule;
 use std::alloc::Global;
 
@@ -33,6 +34,25 @@ pub(crate) fn lend(
     match own {
         Some(numbers) => scheduler.lend(graph, numbers),
         None => scheduler.lend_as(graph, heuristic),
+    }
+}
+
+/// Hands `taker` the rows of the schedule that `lend` lends.
+pub(crate) fn feed<T: TakeRows>(
+    scheduler: &mut Scheduler,
+    graph: &Graph,
+    own: Option<&[u32]>,
+    heuristic: Heuristic,
+    taker: &mut T,
+) -> Result<(), NoMemory>
+    requires { IfSome (option_copied own) (λ numbers. length numbers ≡ length graph.now.ops) }
+    ensures kept { T.kept taker.new ≡ T.kept taker.old }
+    ensures took { OnOk result ((rows : List Row) × T.took graph.now.latencies graph.now.ops taker.old rows taker.new
+        × AreRowsBy (λ rule lat. ranks_under rule heuristic lat (option_copied own.entry)) graph.now rows) }
+{
+    match own {
+        Some(numbers) => scheduler.feed(graph, numbers, taker),
+        None => scheduler.feed_as(graph, heuristic, taker),
     }
 }
 

@@ -1,11 +1,11 @@
 //! `simulate`: what comes of blocks' schedules on the timed machine.
-use crate::schedule::lend;
+use crate::schedule::feed;
 use iloc_args::Request;
 use iloc_driver::{Lister, initial_memory};
 use iloc_listing::push_outcome;
 use iloc_ops::{Block, NoMemory};
 use iloc_sched::{Graph, Scheduler};
-use iloc_timed::Simulator;
+use iloc_timed::Machine;
 use std::alloc::Global;
 
 /// Runs each block's schedule, and lists what comes of it.
@@ -13,7 +13,7 @@ use std::alloc::Global;
 pub struct SimulateLister {
     graph: Graph,
     scheduler: Scheduler,
-    simulator: Simulator,
+    machine: Machine,
 }
 
 impl Lister for SimulateLister {
@@ -26,14 +26,14 @@ impl Lister for SimulateLister {
 
     ghost ending = { no_ending };
 
-    ghost memory = { λ _ lister. lister.simulator.memory };
+    ghost memory = { λ _ lister. lister.machine.state.memory.first };
 
     fn new(alloc: Global, request: &Request) -> Result<SimulateLister, NoMemory> {
         let memory = initial_memory(alloc, request)?;
         Ok(SimulateLister {
             graph: Graph::new(alloc),
             scheduler: Scheduler::new(alloc),
-            simulator: Simulator::new(alloc, memory)?,
+            machine: Machine::new(alloc, memory)?,
         })
     }
 
@@ -48,10 +48,15 @@ impl Lister for SimulateLister {
     ) -> Result<(), NoMemory> {
         self.graph
             .refill(request.memory_rule(), block, &request.latencies)?;
-        let schedule = lend(&mut self.scheduler, &self.graph, own, request.priority)?;
-        self.simulator.run(&schedule, &request.latencies)?;
-        self.scheduler.take_back(schedule);
-        push_outcome(text, number, block.name.as_ref(), self.simulator.outputs())
+        self.machine.begin();
+        feed(
+            &mut self.scheduler,
+            &self.graph,
+            own,
+            request.priority,
+            &mut self.machine,
+        )?;
+        push_outcome(text, number, block.name.as_ref(), self.machine.outputs())
     }
 
     fn push_ending(_text: &mut Vec<u8>, _found: &[()]) -> Result<(), NoMemory> {
