@@ -90,11 +90,17 @@ POLYNOMIALS = (
     by_form("multiplied_out", (("mult", X, ("add", X, X)), lambda a, b, c: ("add", ("mult", a, b), ("mult", a, c)))),
     by_form("factored", (("add", ("mult", X, X), ("mult", X, X)),
                              lambda a, b, c, d: a == c and ("mult", a, ("add", b, d)))))
+# Amounts with the same five lowest bits.
+AMOUNTS = (("amount_and_32", lambda n: ("addI", n, 32)),
+           ("amount_shifted_twice", lambda n: ("rshiftI", ("lshiftI", n, 27), 27)),
+           ("amount_less_its_higher_bits", lambda n: ("sub", n, ("lshiftI", ("rshiftI", n, 5), 5))))
 SHIFTS = (
     by_form("right_shifts_composed", (("rshiftI", ("rshiftI", X, X), X),
                                           lambda a, j, k: ("rshiftI", a, min(31, j + k)))),
     by_form("right_shift_split", (("rshiftI", X, X), lambda a, k: k > 1 and ("rshiftI", ("rshiftI", a, 1), k - 1))),
     by_form("zeros_folded", *(((by, K, X), lambda k, _: k == 0 and ZERO) for by in ("mult", "lshift", "rshift"))),
+    *(by_form(name, *(((by, X, X), lambda a, n, by=by, how=how: (by, a, how(n))) for by in ("lshift", "rshift")))
+      for name, how in AMOUNTS),
     by_form("left_shift_as_product", (("lshift", X, X), lambda a, n: ("mult", a, ("lshift", ONE, n)))))
 
 

@@ -31,5 +31,5 @@ pub use Rattle.iloc_timed.specs.Steps.Wheel.{AreUnderWay, due_at}
 pub use Rattle.iloc_timed.specs.Timed.{Issued, executed_in, issue_all, issued_before, register_in, timed_outcome_of, word_in}
 pub use Rattle.iloc_timed.specs.declared.latencies.Latencies.{Latencies}
 pub use Rattle.iloc_timed.specs.declared.row.Row.{Row}
-pub use Rattle.iloc_terms.specs.Steps.Terms.{Adds, ArePartsOf, HasNoOther, IsLocationOf, IsMeaning, IsMultiple, IsNode, IsSumOfBases, Meaning, Means, base_word, computed, key_of, node_at, word_or_zero}
+pub use Rattle.iloc_terms.specs.Steps.Terms.{Adds, ArePartsOf, HasNoOther, IsLocationOf, IsMeaning, IsMultiple, IsNode, IsSumOfBases, Meaning, Means, base_word, computed, high_bits, key_of, node_at, word_or_zero}
 pub use Rattle.iloc_terms.specs.declared.table.node.Node.{Node}

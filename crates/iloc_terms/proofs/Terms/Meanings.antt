@@ -1,5 +1,5 @@
 -- Terms that name earlier ones alone have a meaning on every memory.
-use Rattle.iloc_terms.proofs.Common.{◌≡◌, ℕ, zero, suc, ◌+◌, ◌*◌, ◌/◌, ◌%◌, ◌^◌, ◌<◌, ◌≤◌, true, false, ◌&&◌, List, length, ℤ, pos, negsuc, ◌+ℤ◌, ◌*ℤ◌, IfSome, if◌then◌else◌, nat_lt, ◌==◌, FitsSigned, Some, None, All, Option, unwrap_or, refl, ◌∙◌, inl, inr, arith, w32, rules, eq-eqb, ne_eqb, and_parts, cases_eq, cases_lt, lt-ltb, nat_tests, SFits-int_wrap, get_or_past, cast_unsigned, int_shl, int_shr, by_bool, shift_of, wrapped, word_at, IsMeaning, Meaning, Means, base_word, computed, key_of, node_at, word_or_zero, Node}
+use Rattle.iloc_terms.proofs.Common.{◌≡◌, ℕ, zero, suc, ◌+◌, ◌*◌, ◌/◌, ◌%◌, ◌^◌, ◌<◌, ◌≤◌, true, false, ◌&&◌, List, length, ℤ, pos, negsuc, ◌+ℤ◌, ◌*ℤ◌, IfSome, if◌then◌else◌, nat_lt, ◌==◌, FitsSigned, Some, None, All, Option, unwrap_or, refl, ◌∙◌, inl, inr, arith, w32, rules, eq-eqb, ne_eqb, and_parts, cases_eq, cases_lt, lt-ltb, nat_tests, SFits-int_wrap, get_or_past, cast_unsigned, int_shl, int_shr, by_bool, high_bits, wrapped, word_at, IsMeaning, Meaning, Means, base_word, computed, key_of, node_at, word_or_zero, Node}
 use Rattle.std.proofs.Math.Facts.{sfits_to_z}
 use Rattle.std.specs.Int.Signed.{mag_shr}
 use Rattle.iloc_terms.specs.declared.table.node.Binary.{Binary}
@@ -129,8 +129,8 @@ shl_fits z k = sfits_to_z {w = w32} {n = (cast_unsigned w32 z * 2 ^ k) % 2 ^ 32}
 
 computed_fits : (by : Binary) (x y : ℤ) → FitsSigned w32 x → FitsSigned w32 (computed by x y)
 computed_fits Product x y fits = SFits-int_wrap w32 (x *ℤ y)
-computed_fits ShiftLeft x y fits = shl_fits x (shift_of y)
-computed_fits ShiftRight x y fits = shr_fits x (shift_of y) fits
+computed_fits ShiftLeft x y fits = shl_fits x (high_bits y)
+computed_fits ShiftRight x y fits = shr_fits x (high_bits y) fits
 
 word_of_fits : (d : Meaning) (node : Node) → AllFit d → FitsSigned w32 (word_of d node)
 word_of_fits d (Known word) fit = SFits-int_wrap w32 word

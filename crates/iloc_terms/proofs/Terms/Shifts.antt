@@ -1,5 +1,5 @@
 -- Shifts.
-use Rattle.iloc_terms.proofs.Common.{◌≡◌, ℕ, ◌+◌, ◌-◌, ◌*◌, ◌/◌, ◌%◌, ◌^◌, ◌≤◌, min, ℤ, pos, negsuc, ◌*ℤ◌, FitsSigned, sym, refl, ap, ◌∙◌, inl, inr, arith, w32, rules, cases_lt, int_wrap-add_left, int_wrap-add_right, int_wrap-mul_left, int_wrap-mul_right, ints, ◌+ℤ◌, of_z-to_z, to_z-of_z, cast_signed, cast_unsigned, int_shl, int_shr, shift_of, shifted_left, wrapped, Some, None, Option, ArePartsOf, Meaning, base_word}
+use Rattle.iloc_terms.proofs.Common.{◌≡◌, ℕ, ◌+◌, ◌-◌, ◌*◌, ◌/◌, ◌%◌, ◌^◌, ◌≤◌, min, ℤ, pos, negsuc, ◌*ℤ◌, FitsSigned, sym, refl, ap, ◌∙◌, inl, inr, arith, w32, rules, cases_lt, int_wrap-mul_left, int_wrap-mul_right, int_wrap_fits, ints, of_z-to_z, to_z-of_z, cast_signed, cast_unsigned, int_shl, int_shr, shift_of, wrapped, high_bits}
 use Rattle.std.specs.Int.{int_wrap}
 use Rattle.std.proofs.Math.IntN.{*ℤ_comm}
 use Rattle.std.proofs.Math.Nat.{div-div-eq-div-mul, div-eq_of_lt, zero-div, div-one, mod-eq_of_lt}
@@ -55,46 +55,6 @@ unsigned_wraps z fits = sym (kept (cast_unsigned w32 z))
     ∙ ap (λ x. cast_signed w32 x) (mod-eq_of_lt {n = cast_unsigned w32 z} {m = 2 ^ 32} (omega (arith, ints)))
     ∙ to_z-of_z w32 z fits
 
--- two numbers together shift by what they have in five bits
-sum_shifts : (m n : ℕ) → shift_of (wrapped (wrapped (pos m) +ℤ wrapped (pos n))) ≡ (m + n) % 32
-sum_shifts m n = ap (λ x. shift_of x) (int_wrap-add_left w32 (pos m) (wrapped (pos n))
-    ∙ int_wrap-add_right w32 (pos m) (pos n) ∙ sym (kept (m + n)))
-    ∙ ap (λ x. x % 32) (of_z-to_z w32 ((m + n) % 2 ^ 32) (omega arith)) ∙ omega arith
-
--- of a constant that is added to an amount five bits count
-amount_kept : (b c : ℤ) → FitsSigned w32 b → FitsSigned w32 c
-    → shift_of (wrapped (b +ℤ cast_signed w32 (cast_unsigned w32 c % 32))) ≡ shift_of (wrapped (b +ℤ c))
-amount_kept b c b_fits c_fits =
-    let m : ℕ = cast_unsigned w32 b in
-    let n : ℕ = cast_unsigned w32 c in
-    let low : wrapped (pos (n % 32)) ≡ cast_signed w32 (n % 32) =
-    sym (kept (n % 32)) ∙ ap (λ x. cast_signed w32 x) (omega arith) in
-    let one : b ≡ wrapped (pos m) = sym (unsigned_wraps b b_fits) in
-    let other : c ≡ wrapped (pos n) = sym (unsigned_wraps c c_fits) in
-    ap (λ x. shift_of (wrapped (b +ℤ x))) (sym low) ∙ ap (λ x. shift_of (wrapped (x +ℤ wrapped (pos (n % 32))))) one
-    ∙ sum_shifts m (n % 32) ∙ omega arith ∙ sym (sum_shifts m n)
-    ∙ ap (λ x. shift_of (wrapped (x +ℤ wrapped (pos n)))) (sym one) ∙ ap (λ x. shift_of (wrapped (b +ℤ x))) (sym other)
-
-zero_fits : FitsSigned w32 (pos 0)
-zero_fits = search rules
-
-base_fits : (d : Meaning) (base : Option ℕ) → ((k : ℕ) → FitsSigned w32 (d.word k)) → FitsSigned w32 (base_word d base)
-base_fits d None fits = zero_fits
-base_fits d (Some base) fits = fits base
-
--- words with one base shift as far as one another where their constants are alike in five bits
-pub same_amount :
-    (d : Meaning) (base : Option ℕ) (c : ℤ) (n amount : ℕ) → ((k : ℕ) → FitsSigned w32 (d.word k)) → FitsSigned w32 c
-    → ArePartsOf d amount base c → ArePartsOf d n base (cast_signed w32 (cast_unsigned w32 c % 32))
-    → shift_of (d.word n) ≡ shift_of (d.word amount)
-same_amount d base c n amount fits c_fits old new = ap (λ x. shift_of x) new
-    ∙ amount_kept (base_word d base) c (base_fits d base fits) c_fits ∙ ap (λ x. shift_of x) (sym old)
-
--- what a known word below 32 shifts by
-pub bits_of : (word : ℤ) (bits : ℕ) → bits ≤ 31 → word ≡ cast_signed w32 bits → shift_of word ≡ bits
-bits_of word bits few is = ap (λ x. cast_unsigned w32 x % 32) is
-    ∙ ap (λ x. x % 32) (of_z-to_z w32 bits (omega arith)) ∙ mod-eq_of_lt {n = bits} {m = 32} (omega arith)
-
 times_pos : (a b : ℕ) → pos (a * b) ≡ pos a *ℤ pos b
 times_pos a b = grind arith
 
@@ -111,7 +71,34 @@ one_by_power k = by_power (pos 1) k one_fits
     ∙ ap (λ x. wrapped x) (*ℤ_comm (pos 1) (pos (2 ^ k)) ∙ times_one (pos (2 ^ k)))
 
 -- a shift to the left is a product with 1 shifted so
-pub shifted_product : (z n power : ℤ) → FitsSigned w32 z → power ≡ shifted_left (pos 1) n
-    → wrapped (z *ℤ power) ≡ shifted_left z n
-shifted_product z n power fits is = ap (λ x. wrapped (z *ℤ x)) (is ∙ one_by_power (shift_of n))
-    ∙ int_wrap-mul_right w32 z (pos (2 ^ shift_of n)) ∙ sym (by_power z (shift_of n) fits)
+pub shifted_product : (z : ℤ) (k : ℕ) (power : ℤ) → FitsSigned w32 z → power ≡ int_shl w32 (pos 1) k
+    → wrapped (z *ℤ power) ≡ int_shl w32 z k
+shifted_product z k power fits is = ap (λ x. wrapped (z *ℤ x)) (is ∙ one_by_power k)
+    ∙ int_wrap-mul_right w32 z (pos (2 ^ k)) ∙ sym (by_power z k fits)
+
+-- times 2^27 the five lowest bits are the highest
+pub highest : (z : ℤ) → FitsSigned w32 z → high_bits (wrapped (z *ℤ pos 134217728)) ≡ shift_of z
+highest z fits = ap (λ x. high_bits x) (sym (by_power z 27 fits))
+    ∙ ap (λ x. x / 134217728) (of_z-to_z w32 ((cast_unsigned w32 z * 134217728) % 2 ^ 32) (omega arith)) ∙ omega arith
+
+-- what a known word has highest
+pub bits_highest : (bits : ℕ) → bits ≤ 31 → high_bits (cast_signed w32 (bits * 134217728)) ≡ bits
+bits_highest bits few =
+    ap (λ x. x / 134217728) (of_z-to_z w32 (bits * 134217728) (omega arith)) ∙ omega arith
+
+-- what a word below 32 shifts by
+pub bits_of : (bits : ℕ) → bits ≤ 31 → shift_of (cast_signed w32 bits) ≡ bits
+bits_of bits few = ap (λ x. x % 32) (of_z-to_z w32 bits (omega arith)) ∙ mod-eq_of_lt {n = bits} {m = 32} (omega arith)
+
+-- a word that has none but its five highest bits is as often 2^27 as they say
+pub back : (z : ℤ) → FitsSigned w32 z → wrapped (z *ℤ pos 32) ≡ pos 0 → z ≡ wrapped (int_shr z 27 *ℤ pos 134217728)
+back z fits none = sym (int_wrap_fits w32 z fits) ∙ ap (λ x. wrapped x) (sym (whole z fits lowest))
+  where
+    lowest : (cast_unsigned w32 z * 32) % 2 ^ 32 ≡ 0
+    lowest = sym (of_z-to_z w32 ((cast_unsigned w32 z * 32) % 2 ^ 32) (omega arith))
+        ∙ ap (λ x. cast_unsigned w32 x) (by_power z 5 fits ∙ none)
+
+    whole : (z : ℤ) → FitsSigned w32 z → (cast_unsigned w32 z * 32) % 2 ^ 32 ≡ 0
+        → int_shr z 27 *ℤ pos 134217728 ≡ z
+    whole (pos a) fits low = omega (arith, ints)
+    whole (negsuc a) fits low = omega (arith, ints)

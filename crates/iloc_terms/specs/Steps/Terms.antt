@@ -1,9 +1,9 @@
 -- What terms mean on a memory.
 use Rattle.std.specs.Prelude.{ℕ, ◌≡◌, ◌<◌, ◌==◌, ◌%◌, ◌/◌, if◌then◌else◌, true, false, List, length, slice_index_or, Option, Some, None, IfSome, unwrap_or, option_map, ℤ, pos, ◌+ℤ◌, ◌-ℤ◌, ◌*ℤ◌, FitsSigned}
-use Rattle.std.specs.Int.{w32, cast_unsigned}
+use Rattle.std.specs.Int.{w32, cast_unsigned, int_shl, int_shr}
 use Rattle.std.specs.Ordering.{int_eq}
 use Rattle.iloc_meaning.specs.Address.{good_address}
-use Rattle.iloc_meaning.specs.Arithmetic.{wrapped, shifted_left, shifted_right}
+use Rattle.iloc_meaning.specs.Arithmetic.{wrapped}
 use Rattle.iloc_meaning.specs.Memory.{word_at}
 use Rattle.iloc_terms.specs.declared.table.node.Binary.{Binary}
 use Rattle.iloc_terms.specs.declared.table.node.Binary.TheVariants.{Product, ShiftLeft, ShiftRight}
@@ -29,10 +29,14 @@ base_word d (Some base) = d.word base
 abbrev pub key_of : ℤ → ℤ → ℕ
 key_of base z = cast_unsigned w32 (wrapped (z -ℤ base))
 
+-- what the five highest bits of a word say: by how many bits a shift goes, of whose amount this is 2^27 times
+abbrev pub high_bits : ℤ → ℕ
+high_bits z = cast_unsigned w32 z / 134217728
+
 abbrev pub computed : Binary → ℤ → ℤ → ℤ
 computed Product x y = wrapped (x *ℤ y)
-computed ShiftLeft x y = shifted_left x y
-computed ShiftRight x y = shifted_right x y
+computed ShiftLeft x y = int_shl w32 x (high_bits y)
+computed ShiftRight x y = int_shr x (high_bits y)
 
 -- the word at a good address, 0 at every other
 abbrev pub word_or_zero : List ℤ → ℤ → ℤ

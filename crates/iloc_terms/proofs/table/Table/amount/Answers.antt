@@ -1,21 +1,34 @@
-use Rattle.iloc_terms.proofs.Common.{◌≡◌, ◌%◌, ◌+ℤ◌, FitsSigned, ap, ◌∙◌, w32, rules, to_z-of_z, cast_signed, cast_unsigned, wrapped, base_word, if_ok}
-use Rattle.iloc_terms.proofs.Terms.Shifts.{same_amount}
+use Rattle.iloc_terms.proofs.Common.{◌≡◌, pos, ◌+ℤ◌, ◌*ℤ◌, IfSome, FitsSigned, subst, ap, ◌∙◌, w32, rules, wrapped, high_bits, IsMeaning, if_ok, base_word}
+use Rattle.iloc_terms.proofs.Terms.Arithmetic.{stored}
+use Rattle.iloc_terms.proofs.Terms.Products.{times_parts}
+use Rattle.iloc_terms.proofs.Terms.Shifts.{highest}
 use Rattle.iloc_terms.proofs.table.Table.amount.Goals as goal
 
-pub returns : goal.returns
-returns c =
-    let fits : FitsSigned w32 c.parts-parts.result.constant = search rules in
-    let signed_fits : FitsSigned w32 c.cast_signed.result = search rules in
-    let low : c.cast_signed.result ≡ cast_signed w32 (cast_unsigned w32 c.parts-parts.result.constant % 32) =
-    c.cast_signed.ensures
-    ∙ ap (λ x. cast_signed w32 (x % 32))
-    (c.cast_unsigned-constant.ensures ∙ ap (cast_unsigned w32) (to_z-of_z w32 c.parts-parts.result.constant fits)) in
-    if_ok _ _ c.of_parts.result (λ n says memory d meaning.
-    let whole = says memory d meaning in (
-      whole.0,
-      same_amount d c.parts-parts.result.base c.parts-parts.result.constant n c.args.amount meaning.fits fits
-          (c.parts-parts.ensures memory d whole.0)
-          (whole.1
-          ∙ ap (λ x. wrapped (base_word d c.parts-parts.result.base +ℤ x))
-          (to_z-of_z w32 c.cast_signed.result signed_fits ∙ low)),
-    )) c.of_parts.ensures
+pub returns-in-Some : goal.returns-in-Some
+returns-in-Some c =
+    let kept : FitsSigned w32 c.parts-parts.result.constant = search rules in
+    let by_fits : FitsSigned w32 (pos 134217728) = search rules in
+    let fits : FitsSigned w32 c.product.result = search rules in
+    if_ok _ _ c.raised.result (λ n says memory d meaning.
+    let whole = says memory d meaning in
+    let back =
+    subst (λ word. IsMeaning memory c.args.self.now d
+    × IfSome word (λ k. d.word k ≡ wrapped (base_word d c.parts-parts.result.base *ℤ pos 134217728)))
+    c.in-Some.is (c.in_ok-word.ensures memory d whole.0) in (
+      back.0,
+      ap (λ z. high_bits z) (whole.1
+          ∙ ap (λ x. wrapped (d.word c.in-Some.word +ℤ x)) (stored (λ x y. wrapped (x *ℤ y))
+          c.parts-parts.result.constant (pos 134217728) c.product.result kept by_fits fits c.product.ensures)
+          ∙ ap (λ x. wrapped (x +ℤ wrapped (c.parts-parts.result.constant *ℤ pos 134217728))) back.1
+          ∙ times_parts (d.word c.args.amount) (base_word d c.parts-parts.result.base) c.parts-parts.result.constant
+          (pos 134217728) (c.parts-parts.ensures memory d back.0))
+          ∙ highest (d.word c.args.amount) (meaning.fits c.args.amount),
+    )) c.raised.ensures
+
+pub returns-in-None : goal.returns-in-None
+returns-in-None c = if_ok _ _ c.scaled.result (λ n says memory d meaning.
+    let whole = says memory d meaning in
+    let back = c.in_ok-word.ensures memory d whole.0 in (
+      back.0,
+      ap (λ z. high_bits z) whole.1 ∙ highest (d.word c.args.amount) (meaning.fits c.args.amount),
+    )) c.scaled.ensures

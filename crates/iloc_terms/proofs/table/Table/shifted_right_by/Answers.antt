@@ -1,5 +1,5 @@
-use Rattle.iloc_terms.proofs.Common.{◌≡◌, ◌+◌, ◌%◌, min, FitsSigned, sym, ap, ◌∙◌, arith, w32, rules, to_z-of_z, cast_unsigned, int_shr, shift_of, if_ok}
-use Rattle.iloc_terms.proofs.Terms.Shifts.{bits_of, shr_both}
+use Rattle.iloc_terms.proofs.Common.{◌≡◌, ◌+◌, ◌%◌, min, FitsSigned, sym, ap, ◌∙◌, arith, w32, rules, to_z-of_z, cast_unsigned, int_shr, shift_of, high_bits, if_ok}
+use Rattle.iloc_terms.proofs.Terms.Shifts.{bits_highest, shr_both}
 use Rattle.iloc_terms.proofs.table.Table.shifted_right_by.Goals as goal
 
 pub returns : goal.returns
@@ -16,8 +16,8 @@ returns c =
       amount.0,
       whole.1
           ∙ ap (λ k. int_shr (d.word c.as_shifted-shifted.result.value) k)
-          (bits_of (d.word c.in_ok-amount.amount) c.min-bits.result (omega (arith, least))
-          (amount.1 ∙ to_z-of_z w32 c.cast_signed.result signed_fits ∙ c.cast_signed.ensures) ∙ least)
+          (ap (λ z. high_bits z) (amount.1 ∙ to_z-of_z w32 c.cast_signed.result signed_fits ∙ c.cast_signed.ensures)
+          ∙ bits_highest c.min-bits.result (omega (arith, least)) ∙ least)
           ∙ shr_both (d.word c.as_shifted-shifted.result.value) c.as_shifted-shifted.result.bits
           (c.cast_unsigned-bits.result % 32) (meaning.fits c.as_shifted-shifted.result.value)
           ∙ ap (λ x. int_shr x (c.cast_unsigned-bits.result % 32))
