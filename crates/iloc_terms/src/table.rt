@@ -7,14 +7,15 @@ mod memories;
 pub(crate) mod node;
 mod products;
 mod shifts;
+mod slots;
 mod sums;
 mod tries;
 pub(crate) mod words;
 
 use iloc_ops::NoMemory;
-use node::{Node, fork_key};
+use node::Node;
+use slots::Slots;
 use std::alloc::Global;
-use std::collections::BTreeMap;
 use std::marker::Model;
 
 /// How many epochs of a memory are looked at, at most.
@@ -24,10 +25,8 @@ const REACH: usize = 64;
 #[derive(Drop)]
 pub(crate) struct Table {
     nodes: Vec<Node>,
-    // Where each fork stands, by its halves, and each other term, by its key. They are hints: whoever asks
-    // looks whether it does.
-    forks: BTreeMap<u64, u32>,
-    numbers: BTreeMap<u128, u32>,
+    // Where each term is. They are hints: a caller tests whether the term is there.
+    slots: Slots,
     // How many terms it may still make or find before products, long sums and memories are no longer put in order.
     steps: usize,
 }
@@ -52,8 +51,7 @@ impl Table {
     {
         Table {
             nodes: Vec::new(alloc),
-            forks: BTreeMap::new(alloc),
-            numbers: BTreeMap::new(alloc),
+            slots: Slots::new(alloc),
             steps,
         }
     }
@@ -100,18 +98,6 @@ impl Table {
         self.nodes.get(number as usize).copied()
     }
 
-    /// Where a term is said to stand; where nothing is said, it is noted to stand here.
-    fn noted(&mut self, node: Node, here: u32) -> Result<u32, NoMemory>
-        ensures { self.new ≡ self.old }
-    {
-        match node {
-            Node::Fork { even, odd } => {
-                Ok(*self.forks.entry(fork_key(even, odd))?.or_insert(here))
-            }
-            _ => Ok(*self.numbers.entry(node.key())?.or_insert(here)),
-        }
-    }
-
     /// The number of a term, which is added where it isn't there.
     pub(crate) fn intern(&mut self, node: Node) -> Result<u32, NoMemory>
         ensures { IfOk result (λ number. Adds self.old self.new (λ memory d. Means memory d number node)) }
@@ -120,7 +106,7 @@ impl Table {
             return Err(NoMemory);
         };
         self.steps = self.steps.saturating_sub(1);
-        let number = self.noted(node, next)?;
+        let number = self.slots.noted(&self.nodes, node, next)?;
         if self.node(number) == Some(node) {
             return Ok(number);
         }

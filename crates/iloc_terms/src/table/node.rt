@@ -63,14 +63,6 @@ pub(crate) enum Node {
     },
 }
 
-/// The key by which forks are sorted, another one for each pair of halves below 2^31. The newer half counts first, so a
-/// new fork mostly comes last, beside the ones that were looked up just before.
-pub(crate) fn fork_key(even: u32, odd: u32) -> u64 {
-    let newer = u64::from(even.max(odd));
-    let older = u64::from(even.min(odd));
-    newer << 32 | older << 1 | u64::from(even < odd)
-}
-
 /// Two numbers in one, the first of them above the other.
 fn joined(first: u32, second: u32) -> u64 {
     u64::from(first) << 32 | u64::from(second)
