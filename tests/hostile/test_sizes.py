@@ -2,6 +2,7 @@
 one part, time after time: their listing has the part's as often, and the part's is right by the oracle or, of the
 longest blocks, by `check`. The first is an even input, 16 MiB of mixed blocks of about 100 operations."""
 import itertools
+import random
 import re
 import resource
 
@@ -167,6 +168,9 @@ def size_checks():
         yield Check(f"sizes/check/{case[0]}", begins_so, *case)
     for case in traced_inputs():
         yield Check(f"sizes/trace/{case[0]}", traced_in_time, *case)
+    if not TESTED.is_short:
+        for case in stored_apart():
+            yield Check(f"sizes/check --task/{case[0]}", judged_apart_in_time, *case)
     for name, (op, unit) in ALIKE.items():
         yield Check(f"sizes/alike/{name}", judged_in_time, op, *alike(op, unit))
     yield Check("sizes/alike/loads of one address", judged_in_time, "loads of one address", *loads_of_one_address())
@@ -254,6 +258,38 @@ def traced_in_time(name, task, rows, events):
         lines = sum(1 for _ in file)
     if got.status != 0 or lines != (task or rows).count(b":") + events:
         yield f"{name}: status {got.status}, {lines} lines"
+    yield from wrong
+
+
+def shuffled_stores(chance, base, values):
+    """As many stores as a block can have, above a base and in any order, of these words in turn."""
+    places = [*range(MOST_OPERATIONS - 10)]
+    chance.shuffle(places)
+    return [b"storeAI r%d=>%s,%d" % (values[k % 2], base, 4 * k) for k in places]
+
+
+def stored_apart():
+    """Blocks of stores, each with rows that store in another order, the same words or others, and the verdict."""
+    chance = random.Random(7)
+    head = [b"loadI 8=>r2", b"loadI 4=>r3"]
+    for name, base, verdict, values in (
+            ("shuffled stores", b"r3", "same", (2, 3)), ("other stores", b"r3", "differs", (3, 2)),
+            ("stores above a loaded word", b"r1", "same", (2, 3))):
+        block = [*head, b"load r9=>r1", *shuffled_stores(chance, base, (2, 3))]
+        rows = [*head, b"load r9=>r1", b"nop", b"nop", b"nop", b"nop", *shuffled_stores(chance, base, values)]
+        yield name, b"".join(b"%s\n" % op for op in block), b"".join(b"[%s;]\n" % op for op in rows), verdict
+
+
+def judged_apart_in_time(name, block, rows, verdict):
+    """As many such blocks as a file can have, and as many such rows, are judged in time."""
+    blocks = MOST_BYTES // (max(len(block), len(rows)) + len(b"block 999 A\n"))
+    task = stored("task", (b"A:\n" + block) * blocks)
+    given = stored("given", b"".join(b"block %d A\n%s" % (k, rows) for k in range(1, blocks + 1)))
+    got, wrong = measured(name, ["check", "--task", task], given)
+    with open(got.output, "rb") as file:
+        found = sum(line.startswith(b"block ") and b" %s cycles " % verdict.encode() in line for line in file)
+    if got.status != (0 if verdict == "same" else NOT_SAME) or found != blocks:
+        yield f"{name}: status {got.status}, {found} of {blocks} are {verdict}"
     yield from wrong
 
 

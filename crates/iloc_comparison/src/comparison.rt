@@ -1,6 +1,7 @@
 //! How what rows do compares with what their block does.
-ghost use Rattle.std.specs.Prelude.{IfOk};
+ghost use Rattle.std.specs.Prelude.{IfOk, IfSome};
 ghost use Rattle.iloc_comparison.specs.Comparison.{IsComparison};
+ghost use Rattle.iloc_comparison.specs.Steps.Refuting.{DiffersAt};
 
 use crate::difference::Difference;
 use crate::refutation::clues::Clues;
@@ -9,6 +10,7 @@ use crate::refutation::probe::Probe;
 use crate::refutation::{Refutation, Trial, difference_on, refute};
 use crate::task::{JudgedBlock, Judging};
 use crate::void::{Void, why_void};
+use iloc_meaning::Memory;
 use iloc_ops::NoMemory;
 use iloc_terms::{Agreement, compare};
 use iloc_timed::Schedule;
@@ -32,7 +34,31 @@ pub enum Comparison {
     DiffersOn(Probe, Difference),
 }
 
-/// Compares what a schedule does with what its block does. Ours, which has the block's outcome on every memory, is what it is
+/// How many operations block and rows have at least together that are run before terms are made: to make these takes
+/// longer then.
+const MANY_OPERATIONS: usize = 512;
+
+/// Where a schedule's outcome on a memory differs from its block's, if both together have many operations.
+fn difference_at_once(
+    alloc: Global,
+    trial: &Trial<'_>,
+    memory: &Memory,
+) -> Result<Option<Difference>, NoMemory>
+    ensures { IfOk result (λ found. IfSome found (DiffersAt trial.now memory.now)) }
+{
+    let operations = trial
+        .block
+        .ops
+        .len()
+        .saturating_add(trial.schedule.ops().len());
+    if operations < MANY_OPERATIONS {
+        return Ok(None);
+    }
+    difference_on(alloc, trial, memory.copy()?)
+}
+
+/// Compares what a schedule does with what its block does. If both have many operations, they are first run on the memory
+/// handed in: a difference there spares the terms. Ours, which has the block's outcome on every memory, is what it is
 /// compared with. Where that doesn't show them the same, they are run on the memory handed in, and then on a few that are
 /// made up, fewer where this is one of many blocks. That no difference was found doesn't mean that there is none: only
 /// `Comparison::Same` and `Comparison::Prints` do.
@@ -51,16 +77,19 @@ pub fn compared(
     if let Some(why) = why_void(alloc, outputs_alone, block, memory)? {
         return Ok(Comparison::Void(why));
     }
-    let mentions = match compare(alloc, outputs_alone, ours, theirs, latencies)? {
-        Agreement::Same => return Ok(Comparison::Same),
-        Agreement::Prints => return Ok(Comparison::Prints),
-        Agreement::Unseen(mentions) => mentions,
-    };
     let trial = Trial {
         outputs_alone,
         block,
         schedule: theirs,
         latencies,
+    };
+    if let Some(difference) = difference_at_once(alloc, &trial, memory)? {
+        return Ok(Comparison::Differs(difference));
+    }
+    let mentions = match compare(alloc, outputs_alone, ours, theirs, latencies)? {
+        Agreement::Same => return Ok(Comparison::Same),
+        Agreement::Prints => return Ok(Comparison::Prints),
+        Agreement::Unseen(mentions) => mentions,
     };
     if let Some(difference) = difference_on(alloc, &trial, memory.copy()?)? {
         return Ok(Comparison::Differs(difference));
