@@ -154,6 +154,17 @@ def outputs_alone():
         yield from unlike(repr(given), ending([*WORDS, "--outputs", "--lawful"], given), due)
 
 
+def dot_product(count, parts):
+    """Operations that store a sum of so many products of loaded words, which they add to partial sums, so many."""
+    sums = [f"r{10 + part}" for part in range(parts)]
+    yield from ["loadI 1024 => r0", *(f"loadI 0 => {part}" for part in sums)]
+    for k in range(count):
+        yield from [f"loadAI r0, {4 * k} => r2", f"loadAI r0, {2048 + 4 * k} => r3", "mult r2, r3 => r4",
+                    f"add {sums[k % parts]}, r4 => {sums[k % parts]}"]
+    yield from (f"add r10, {part} => r10" for part in sums[1:])
+    yield from ["storeAI r10 => r0, 8000", "output 9024"]
+
+
 def refused(name, text, fault):
     return Run(f"judged/{name}", WORDS, text.encode("latin-1"), b"", f"ilocfarm: {fault}\n".encode(), 1)
 
@@ -174,6 +185,9 @@ def judged_cases():
     yield judged("product_on_unit_0", SQUARE + spread(SQUARE, product_unit=0), "units",
                  "row 12: [ mult r2, r2 => r3 ; nop ]: a product on unit 0")
     yield from (listed.case(f"listed_{name}") for name, listed in LISTED.items())
+    for count in 36, 128:
+        block, theirs = ("".join(f"{op}\n" for op in dot_product(count, parts)) for parts in (1, 4))
+        yield judged(f"partial_sums_of_{count}", block + spread(theirs), "same")
     yield Run("judged/our_rows_for_two_outputs", ["schedule"], b"output 0\noutput 4\n",
                b"block 1 -\n[ output 0 ; nop ]\n[ output 4 ; nop ]\ncycles 2\ntotal 2\n", b"", 0)
     yield from refusals()

@@ -86,7 +86,7 @@ pub fn compared(
     if let Some(difference) = difference_at_once(alloc, &trial, memory)? {
         return Ok(Comparison::Differs(difference));
     }
-    let mentions = match compare(alloc, outputs_alone, ours, theirs, latencies)? {
+    let mentions = match compare(alloc, blocks, outputs_alone, ours, theirs, latencies)? {
         Agreement::Same => return Ok(Comparison::Same),
         Agreement::Prints => return Ok(Comparison::Prints),
         Agreement::Unseen(mentions) => mentions,

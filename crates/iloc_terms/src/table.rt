@@ -21,13 +21,17 @@ use std::marker::Model;
 /// How many epochs of a memory are looked at, at most.
 const REACH: usize = 64;
 
+/// How many steps it costs to make or find a term.
+pub(crate) const STEPS_OF_A_TERM: usize = 8;
+
 /// Terms by their numbers. Equal terms share a number.
 #[derive(Drop)]
 pub(crate) struct Table {
     nodes: Vec<Node>,
     // Where each term is. They are hints: a caller tests whether the term is there.
     slots: Slots,
-    // How many terms it may still make or find before products, long sums and memories are no longer put in order.
+    // How many steps it may still take before products, long sums and memories are no longer put in order: each epoch and
+    // each fork that is looked at takes one, and each term that is made or found as many as that costs.
     steps: usize,
 }
 
@@ -44,8 +48,7 @@ impl Table {
     ghost use Rattle.iloc_terms.specs.Steps.Terms.{IsNode, Means, Adds};
     ghost use Rattle.iloc_terms.specs.Steps.Order.{IsOrdered};
 
-    /// The table without terms. It takes at most `steps` steps, terms made or found, to normalise products, long sums
-    /// and memories.
+    /// The table without terms. It takes at most `steps` steps to normalise products, long sums and memories.
     pub(crate) fn new(alloc: Global, steps: usize) -> Table
         ensures { result ≡ [] }
     {
@@ -105,7 +108,7 @@ impl Table {
         let Ok(next) = u32::try_from(self.nodes.len()) else {
             return Err(NoMemory);
         };
-        self.steps = self.steps.saturating_sub(1);
+        self.steps = self.steps.saturating_sub(STEPS_OF_A_TERM);
         let number = self.slots.noted(&self.nodes, node, next)?;
         if self.node(number) == Some(node) {
             return Ok(number);

@@ -9,16 +9,20 @@ ghost use Rattle.iloc_terms.specs.Steps.Tracking.{Ends};
 use crate::agreement::agree;
 use crate::mentions::Mentions;
 use crate::symbols::Symbols;
-use crate::table::Table;
+use crate::table::{STEPS_OF_A_TERM, Table};
 use iloc_ops::NoMemory;
 use iloc_timed::{Latencies, Schedule};
 use std::alloc::Global;
 
-/// How many steps terms may take to be put in order, for each term of the plain runs.
-const STEPS_PER_TERM: usize = 4;
+/// How many steps terms may take to be put in order, for each term of the plain runs: four such terms cost as much.
+const STEPS_PER_TERM: usize = 4 * STEPS_OF_A_TERM;
 
-/// How many more they may take in each block.
-const FIRST_STEPS: usize = 4096;
+/// How many more they may take for each pair of schedules.
+const FIRST_STEPS: usize = 4096 * STEPS_OF_A_TERM;
+
+/// How many more they may take for all pairs of a request together, each as many as the others: some 0.2 s, and 40 MB if
+/// there is one pair.
+const SHARED_STEPS: usize = 1_048_576 * STEPS_OF_A_TERM;
 
 /// What is seen of two schedules by their runs in terms.
 #[derive(Debug, Drop)]
@@ -103,12 +107,14 @@ fn seen(
     Ok((Agreement::Unseen(runs.mentions(alloc)?), terms))
 }
 
-/// Compares the schedules `one` and `other` by their runs in terms: by outcomes, or with `outputs_alone` by outputs.
-/// The first terms stay as they are made; second ones are normalised, which costs more, and may run out of steps.
+/// Compares the schedules `one` and `other`, one of `pairs` pairs, by their runs in terms: by outcomes, or with
+/// `outputs_alone` by outputs. The first terms stay as they are made; second ones are normalised, which costs more, and may
+/// run out of steps, the sooner the more pairs there are.
 ///
 /// Promise: Schedules that are found to agree do so on every memory.
 pub fn compare(
     alloc: Global,
+    pairs: usize,
     outputs_alone: bool,
     one: &Schedule,
     other: &Schedule,
@@ -122,7 +128,8 @@ pub fn compare(
     }
     let steps = terms
         .saturating_mul(STEPS_PER_TERM)
-        .saturating_add(FIRST_STEPS);
+        .saturating_add(FIRST_STEPS)
+        .saturating_add(SHARED_STEPS / pairs.max(1));
     let (ordered, _) = seen(alloc, steps, outputs_alone, one, other, latencies)?;
     match ordered {
         Agreement::Same => Ok(Agreement::Same),

@@ -16,16 +16,20 @@ fn goes_before(base: Option<u32>, other: Option<u32>) -> bool {
 }
 
 impl Table {
-    /// Whether `trie` has no other word than `value`, at keys that differ in the lowest `bits` bits alone.
-    fn has_only(&self, trie: u32, value: u32, bits: u32) -> bool
-        ensures { result ≡ true → (memory : List ℤ) (d : Meaning) → IsMeaning memory self.now d
+    /// Whether `trie` has no other word than `value`, at keys that differ in the lowest `bits` bits alone, as far as steps
+    /// suffice to see it.
+    fn has_only(&mut self, trie: u32, value: u32, bits: u32) -> bool
+        ensures only { result ≡ true → (memory : List ℤ) (d : Meaning) → IsMeaning memory self.old d
             → HasOnly d trie value }
+        ensures kept { self.new ≡ self.old }
     {
         match self.node(trie) {
             Some(Node::Empty) => true,
             Some(Node::Leaf { value: word, .. }) => word == value,
             Some(Node::Fork { even, odd }) if bits > 0 => {
-                self.has_only(even, value, bits - 1) && self.has_only(odd, value, bits - 1)
+                self.spends()
+                    && self.has_only(even, value, bits - 1)
+                    && self.has_only(odd, value, bits - 1)
             }
             _ => false,
         }
@@ -112,10 +116,11 @@ impl Table {
     }
 
     /// The word at `address` of `memory`, if it is written there, and the epochs since then, at most `epochs`, have it
-    /// alone.
-    pub(super) fn stored(&self, memory: u32, address: u32, epochs: usize) -> Option<u32>
-        ensures { IfSome result (λ word. (words : List ℤ) (d : Meaning) → IsMeaning words self.now d
+    /// alone, as far as steps suffice to see it.
+    pub(super) fn stored(&mut self, memory: u32, address: u32, epochs: usize) -> Option<u32>
+        ensures is { IfSome result (λ word. (words : List ℤ) (d : Meaning) → IsMeaning words self.old d
             → d.words memory (d.word address) ≡ d.word word) }
+        ensures kept { self.new ≡ self.old }
     {
         if let LoadSource::Written(word) = self.seen(memory, address) {
             return Some(word);
@@ -130,7 +135,7 @@ impl Table {
         else {
             return None;
         };
-        if epochs == 0 {
+        if epochs == 0 || !self.spends() {
             return None;
         }
         let Some(word) = self.stored(before, address, epochs - 1) else {

@@ -139,7 +139,7 @@ impl Table {
         else {
             return Ok(memory);
         };
-        if epochs == 0 {
+        if epochs == 0 || !self.spends() {
             return Ok(memory);
         }
         if base == at.base && self.has(trie, at.key) {
@@ -188,7 +188,7 @@ impl Table {
         else {
             return Ok(memory);
         };
-        if epochs == 0 {
+        if epochs == 0 || !self.spends() {
             return Ok(memory);
         }
         if base == at.base {

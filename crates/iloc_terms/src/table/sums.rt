@@ -10,7 +10,7 @@ use iloc_ops::NoMemory;
 use std::cmp::Ordering;
 
 /// How many terms a sum or a multiple copies at most. Where more would be copied, a base is an atom itself.
-const MOST_COPIED: u32 = 32;
+const MOST_COPIED: u32 = 128;
 
 /// How many it copies at most without steps.
 const FEW_COPIED: u32 = 1;
