@@ -15,7 +15,7 @@ ROWS = 60           # more blocks have no row each
 OURS, LEAST = "ours", "least"
 COUNTED = re.compile(r"block \d+ (\S+) cycles (\d+)")
 COMPARED = re.compile(r"block \d+ (\S+) least (\d+)((?: [a-z]+ \d+)+)")
-TABLE = re.compile(r"block,name,least((?:,[a-z]+)+)")
+TABLE = re.compile(r"block,name,least((?:,\w+)+)")
 TABLE_ROW = re.compile(r"\d+,([^,]+),(\d+)((?:,\d+)+)")
 LISTED = re.compile(rb"block(?:,| \d+ \S+ )")     # how a listing begins
 NOTHING = re.compile(r"  .*|(?:total|fewest|optimal) .*")
@@ -83,6 +83,25 @@ def read_listings(name, path, data):
     return [Listing(f"{name} {priority}".strip() if priority else name or os.path.basename(path),
                     [block[priority] for block in blocks])
             for priority in blocks[0]]
+
+
+def rows_of(name, table):
+    """The lines of a table of `compare` by column, of which the last gets this name, if it is one."""
+    heads, *rows = [line.split(",") for line in table.decode().splitlines()]
+    heads[-1] = name or heads[-1]
+    return [dict(zip(heads, row)) for row in [heads, *rows]]
+
+
+def joined(tables):
+    """One table of several, in which only the last columns differ: it has each of these, by its table's name."""
+    (_, whole), *others = [(name, rows_of(name, table)) for name, table in tables]
+    for name, rows in others:
+        pairs = [*zip(whole, rows)]
+        if len(rows) != len(whole) or any(len(more.items() - row.items()) != 1 for row, more in pairs):
+            raise Unread(f"with the priorities {name} the other columns aren't the same")
+        for row, more in pairs:
+            row.update(more)
+    return "".join(",".join(row.values()) + "\n" for row in whole).encode()
 
 
 @dataclass

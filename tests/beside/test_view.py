@@ -17,6 +17,7 @@ from oracle.drawn import lab_block
 from oracle.judge import why_void
 from oracle.machine import words_from
 from oracle.operations import text_of
+from oracle.scheduler import ORDERS
 from svg import TEXT, dark, element
 
 LAB = ("--load", "3", "--store", "3", "--mult", "2")
@@ -26,6 +27,9 @@ BEN, FAY = (f"examples/class/submissions/{name}/both.rows" for name in ("ben", "
 WORDS = ("--at", "1024", "3", "4")      # as the task says
 NO_TOOL = b"ilocview: this needs %s, which is not on the PATH (Debian: %s)\n"
 NOT_TAKEN = "{} isn't an option of ilocfarm {}, whose listing is drawn"
+ONE_FILE = "--priorities with a name, or more than once, needs one file of BLOCKS and no --task"
+TWICE = "two files of priorities are called {}: write NAME=FILE, with another name for each"
+NO_TABLE = "a table is made of one file of BLOCKS, without --task"
 COMMA = f"""{EVE}: line 6: expected ",", found "r2"
         add r1 r2 => r3
                ^"""
@@ -47,10 +51,30 @@ REFUSED = (
     (["graph", BOOK, "--disambiguate", "-o", "nosuch/book.svg"], 4, "nosuch/book.svg: No such file or directory"),
     (["timeline", TASK, BEN, "--priorities", "own"], 2, NOT_TAKEN.format("--priorities", "check")),
     (["compare", "--task", TASK, BEN, "--priorities", "own"], 2, NOT_TAKEN.format("--priorities", "check")),
+    (["compare", BOOK, "--priorities", "a=nosuch"], 4, "nosuch: no such file"),
+    (["compare", BOOK, "--priorities", "own", "--priorities", "./a=own"], 2, TWICE.format("own")),
+    (["compare", BOOK, "--priorities", "a=own", "--priorities", "b=own", "--priorities", "a=b"], 2, TWICE.format("a")),
+    (["compare", BOOK, DAN, "--priorities", "a=own"], 2, ONE_FILE),
+    (["compare", BOOK, DAN, "--priorities", "a", "--priorities", "b"], 2, ONE_FILE),
+    (["compare", "--task", TASK, BEN, "--priorities", "a=own"], 2, ONE_FILE),
+    (["compare", BOOK, DAN, "-o", "made.csv"], 2, NO_TABLE),
+    (["compare", "--task", TASK, BEN, "-o", "made.csv"], 2, NO_TABLE),
     (["timeline", BOOK, "--either-slot"], 2, NOT_TAKEN.format("--either-slot", "explain")),
     (["timeline", BOOK, "-i", "1024", "3"], 2, NOT_TAKEN.format("--memory", "explain")),
     (["timeline", BOOK, "-o", "nosuch/book.svg"], 4, "nosuch/book.svg: No such file or directory"),
 )
+# Words after `compare --priorities`, and what is said of each.
+UNNAMED = ("expected FILE or NAME=FILE, where NAME is a letter, then letters, digits and _, found {0}: "
+           "for a file of that name write ./{0}")
+MISNAMED = (*((f"{name}=own", f"{name} is another column: write NAME=FILE with another name")
+              for name in (*ORDERS, "own", "block", "name", "least", "bound", "best")),
+            *((word, UNNAMED.format(word))
+              for word in ("=own", "a=", "a-b=own", "1=own", "_a=own", "a b=own", "\u00e4=own")))
+# In place of ilocfarm: what it prints is its file of priorities, and it keeps its words.
+ECHO = """#!/bin/sh
+echo "$@" >> asked
+for word; do case $word in --priorities=*) cat -- "${word#*=}" ;; esac; done
+"""
 # Texts that aren't blocks, and what is said of each.
 UNREAD = (
     (b"loadI 1 -> r1\n", 'expected "=>", found "-"', 8),
@@ -171,6 +195,62 @@ class View(Place):
         self.draws(["compare", "--task", TASK, BEN], compared(self.checked(BEN)).encode())
         self.expect("an option", self.call("ilocview", "compare", "--nodes", "5", "listed"),
                     (2, b"", b"ilocview: --nodes isn't an option of what draws a listing\n"))
+
+    def test_compare_numbers(self):
+        """Each file of priorities has a column, by its name, with the cycles that `counts` has by it."""
+        chance = random.Random(101)
+        blocks = [lab_block(chance) for _ in range(20)]
+        self.write("drawn.iloc", text_of(blocks))
+        table = self.table("compare", "--nodes", "5")
+        words = ["--nodes", "5"]
+        for name, file, word in (("own", "a=b", "./a=b"), ("A_1", "c=d", "A_1=c=d"), ("z", "my own", "z=my own")):
+            numbers = ([f"{chance.randrange(9)}" for op in ops if op.opcode != "nop"] for ops in blocks)
+            self.write(file, "".join(f"{' '.join(line)}\n" for line in numbers))
+            column = [name, *(row[2] for row in self.table("counts", "--priorities", file)[1:])]
+            table = [[*row, cycles] for row, cycles in zip(table, column)]
+            words += ["--priorities", word]
+        wanted = "".join(f"{','.join(row)}\n" for row in table)
+        self.printed("ilocview", "compare", "drawn.iloc", *words, "-o", "made.csv")
+        self.expect("table", self.text("made.csv"), wanted)
+        for given in (["drawn.iloc", *words], ["made.csv"]):
+            self.draws(["compare", *given], compared([("", "made.csv", wanted.encode())]).encode())
+
+    def table(self, command, *words):
+        """The table that is listed of drawn.iloc, by its rows."""
+        listing = self.listings([command, "--csv", *words], given=self.read("drawn.iloc"))
+        return [line.split(",") for line in listing.decode().splitlines()]
+
+    def test_compare_table(self):
+        """Without files of priorities, or with one that has no name, it is the program's."""
+        self.write("own", b"1 2 3 4 5 6 7 8 9\n")
+        for words in ([], ["--priorities", "own"], ["--disambiguate", "--nodes", "9", "--load", "2"]):
+            self.printed("ilocview", "compare", BOOK, *words, "-o", "made.csv")
+            listing = self.listings(["compare", "--csv", *words], given=self.read(BOOK))
+            self.expect(f"{words}", self.read("made.csv"), listing)
+
+    def test_compare_misnamed(self):
+        for word, said in MISNAMED:
+            status, out, err = self.call("ilocview", "compare", BOOK, "--priorities", word)
+            self.expect(word, (status, out, err.decode().splitlines()[-1]),
+                        (2, b"", f"ilocview compare: error: argument --priorities: {said}"))
+
+    def test_compare_numbers_alone_differ(self):
+        """Tables that differ in other columns, or in their rows, aren't joined. The first alone has a search's."""
+        os.remove(self.path("bin/ilocfarm"))
+        self.script("bin/ilocfarm", ECHO)
+        other = "block,name,least,chain,own\n1,a,3,4,6\n"
+        self.write("first", "block,name,least,bound,best,chain,own\n1,a,3,3,3,4,5\n")
+        words = ["compare", BOOK, "--nodes", "7", "--priorities", "x=first", "--priorities", "y=other"]
+        for table in (other.replace("4,6", "5,6"), other.replace("a,", "b,"), other + "2,b,3,4,6\n", other[:28]):
+            self.write("other", table)
+            self.expect(table, self.call("ilocview", *words, "-o", "made.csv"),
+                        (1, b"", b"ilocview: with the priorities y the other columns aren't the same\n"))
+        self.expect("nothing is made", os.path.exists(self.path("made.csv")), False)
+        self.write("other", other)
+        self.write("asked", "")
+        self.printed("ilocview", *words, "-o", "made.csv")
+        self.expect("table", self.text("made.csv"), "block,name,least,bound,best,chain,x,y\n1,a,3,3,3,4,5,6\n")
+        self.expect("searches", ["--nodes=7" in line for line in self.text("asked").splitlines()], [True, False])
 
     def test_compare_names(self):
         """Files are called by what tells them apart: their names, else their folders."""
