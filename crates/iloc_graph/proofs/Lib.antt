@@ -1,4 +1,5 @@
 pub mod Common
+pub mod KeptEdges
 pub mod Lists
 pub mod Passed
 pub mod Pairs

@@ -1,3 +1,2 @@
 pub mod Common
 pub mod Listers
-pub mod KeptEdges

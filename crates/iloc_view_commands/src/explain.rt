@@ -2,10 +2,8 @@
 ghost use Rattle.std.specs.Prelude.{ℕ, ◌≡◌, ◌≤◌, ◌<◌, ◌^◌, ◌++◌, List, [], ◌∷◌, true, false, length, option_copied, IfOk, OnOk};
 ghost use Rattle.iloc_ops.specs.Limits.{MAX_BLOCKS};
 ghost use Rattle.iloc_rules.specs.Renaming.{renamed};
-ghost use Rattle.iloc_rules.specs.Heuristics.{priorities_under};
-ghost use Rattle.iloc_bound.specs.Bound.{least_of_under, least_under};
-ghost use Rattle.iloc_explain.specs.Listing.{AreTableRows, IsExplanation};
-ghost use Rattle.iloc_explain.specs.Measures.{AreMeasures, ImplyAll};
+ghost use Rattle.iloc_explain.specs.Listing.{AreTableRows};
+ghost use Rattle.iloc_explain.specs.Measures.{AreMeasures};
 ghost use Rattle.iloc_explain.specs.Waiting.{WaitsForAll};
 ghost use Rattle.iloc_listing.specs.Schedules.{ranks_under};
 ghost use Rattle.iloc_args.specs.Flags.{has};
@@ -13,14 +11,14 @@ ghost use Rattle.iloc_args.specs.declared.flag.Flag.TheVariants.{Csv, Cycles};
 ghost use Rattle.iloc_view_commands.specs.Explain.{AreSaid, IsSaid, listing_of_explained, with_block};
 
 use iloc_args::{Flag, Request};
-use iloc_bound::least_of;
 use iloc_driver::FarmedLister;
-use iloc_explain::{Counted, Measures, push_explanation, push_ready_list, push_table};
+use iloc_explain::{Measures, push_explanation, push_ready_list, push_table};
+use iloc_graph::measure;
 use iloc_listing::{
     EntryMaker, Listing, ScheduleEntry, count_of, push_block_head, push_head, with_total,
 };
-use iloc_ops::{Block, Blocks, NoMemory, Op};
-use iloc_rules::{Heuristic, Pair};
+use iloc_ops::{Block, Blocks, NoMemory};
+use iloc_rules::Heuristic;
 use iloc_sched::{Graph, Scheduler};
 use iloc_timed::{Latencies, Schedule};
 use std::alloc::Global;
@@ -46,75 +44,6 @@ pub(crate) fn ranks_of(
         None => graph.rank(heuristic, &mut ranks)?,
     }
     Ok(ranks)
-}
-
-/// The delay pairs that a graph keeps, from which all follow.
-fn kept_pairs(alloc: Global, graph: &Graph) -> Result<Vec<Pair>, NoMemory>
-    ensures { IfOk result (λ pairs. ImplyAll graph.now.rule graph.now.latencies graph.now.ops pairs.items) }
-{
-    let mut pairs = Vec::new(alloc);
-    for edge in graph.edges() {
-        pairs.push(Pair {
-            first: edge.from as usize,
-            second: edge.to as usize,
-            delay: u64::from(edge.delay),
-        })?;
-    }
-    Ok(pairs)
-}
-
-/// What an explanation needs to know of the operations of `graph`, which are ranked by `ranks`.
-fn measure(alloc: Global, graph: &Graph, ranks: Vec<u32>) -> Result<Measures, NoMemory>
-    requires { length ranks.items ≡ length graph.now.ops }
-    ensures ranks { IfOk result (λ measures. measures.ranks.items ≡ ranks.items) }
-    ensures rule { IfOk result (λ measures. measures.counted.rule ≡ graph.now.rule) }
-    ensures least { IfOk result (λ measures. measures.least ≡ least_of_under graph.now.rule graph.now.latencies graph.now.ops) }
-    ensures measures { IfOk result (AreMeasures graph.now.latencies graph.now.ops) }
-{
-    let counted = Counted::of(alloc, graph.ops(), graph.rule())?;
-    let pairs = kept_pairs(alloc, graph)?;
-    let mut chains = Vec::new(alloc);
-    graph.chains(&mut chains)?;
-    let mut starts = Vec::new(alloc);
-    graph.starts(&mut starts)?;
-    let least = least_of(alloc, graph)?;
-    Ok(Measures {
-        counted,
-        pairs,
-        ranks,
-        chains,
-        starts,
-        least,
-    })
-}
-
-/// Appends what explains a schedule of the block of this graph, whose operations are the block's renamed ones, ranked by a
-/// heuristic, and which waits for all delays by the graph's rule. The lines show each operation as it is `issued`.
-///
-/// Promise: What is appended is a text that explains the schedule.
-pub fn explain_by_graph(
-    alloc: Global,
-    text: &mut Vec<u8>,
-    block: &Block,
-    graph: &Graph,
-    schedule: &Schedule,
-    issued: &[Op],
-    heuristic: Heuristic,
-) -> Result<(), NoMemory>
-    requires graph { graph.now.ops ≡ renamed block.now.ops }
-    requires names { schedule.now.ops ≡ renamed block.now.ops }
-    requires waits { WaitsForAll graph.now.rule graph.now.latencies schedule.now.ops schedule.now.rows }
-    requires issued { length issued.now ≡ length schedule.now.ops }
-    ensures { OnOk result ((entry : List ℕ)
-        × IsExplanation (priorities_under graph.now.rule heuristic graph.now.latencies graph.now.ops) graph.now.rule
-        graph.now.latencies (least_under graph.now.rule graph.now.latencies block.now.ops) block.now.ops schedule.now.ops
-        schedule.now.rows issued.now entry
-        × (text.new.items ≡ text.old.items ++ entry)) }
-{
-    let ranks = ranks_of(alloc, graph, None, heuristic)?;
-    let measures = measure(alloc, graph, ranks)?;
-    let latencies = graph.latencies();
-    push_explanation(alloc, text, block, latencies, &measures, schedule, issued)
 }
 
 /// Appends what is said of a schedule of the block: cycle by cycle or operation by operation.

@@ -5,6 +5,6 @@ mod explain;
 mod graph;
 mod trace;
 
-pub use explain::{ExplainLister, explain_by_graph};
+pub use explain::ExplainLister;
 pub use graph::GraphLister;
 pub use trace::TraceLister;

@@ -17,7 +17,9 @@ ghost use Rattle.iloc_row_commands.specs.Explain.Departure.{departure, departure
 ghost use Rattle.iloc_row_commands.specs.Explain.Explained.{not_lawful, IsRowsExplanation, IsSaidOf, HaveUnread};
 
 use crate::explain::departure::{departure_of, push_departure};
+use iloc_explain::push_explanation;
 use iloc_facts::Reasons;
+use iloc_graph::measure;
 use iloc_ops::{Block, NoMemory, Op};
 use iloc_reasons::reasons_of;
 use iloc_rows::{Proposal, Unread};
@@ -26,7 +28,6 @@ use iloc_sched::Graph;
 use iloc_timed::{Latencies, MAX_ROWS, Row, Schedule, cycles_of};
 use iloc_validation::{Decision, OwnRows, decide, own_rows};
 use iloc_verdict::{push_bad_row, push_reasons, push_unread_line};
-use iloc_view_commands::explain_by_graph;
 use std::alloc::Global;
 
 /// A block that somebody proposes rows for, and what we know of it.
@@ -102,8 +103,11 @@ fn push_own(
         own.now.schedule.ops own.now.schedule.rows))) }
 {
     let (schedule, issued) = (&own.schedule, &own.issued);
-    let (block, graph) = (known.block, known.graph);
-    explain_by_graph(alloc, text, block, graph, schedule, issued, known.heuristic)?;
+    let (block, latencies) = (known.block, known.latencies);
+    let mut ranks = Vec::new(alloc);
+    known.graph.rank(known.heuristic, &mut ranks)?;
+    let measures = measure(alloc, known.graph, ranks)?;
+    push_explanation(alloc, text, block, latencies, &measures, schedule, issued)?;
     push_departure(text, departure_of(schedule, known.ours), issued)
 }
 

@@ -1,6 +1,7 @@
-use Rattle.iloc_view_commands.proofs.Common.{◌∙◌, ruled_priorities}
+use Rattle.iloc_graph.proofs.Common.{◌∙◌}
+use Rattle.iloc_rules.proofs.PriorityValues.Named.{ruled_priorities}
 use Rattle.iloc_rules.specs.declared.heuristic.Heuristic.TheVariants.{Chain}
-use Rattle.iloc_view_commands.proofs.explain.measure.Goals as goal
+use Rattle.iloc_graph.proofs.measured.measure.Goals as goal
 
 pub returns-clause-rule : goal.returns-clause-rule
 returns-clause-rule c = c.in_ok-counted.ensures.rule ∙ c.rule.ensures
