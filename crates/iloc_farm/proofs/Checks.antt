@@ -1,14 +1,11 @@
 -- What holds of rows that pass.
-use Rattle.iloc_farm.proofs.Common.{◌≡◌, ℕ, ◌+◌, Bool, true, false, List, [], ◌∷◌, length, ℤ, Option, refl, ap, arith, AllZip, list_all, zip, Block, Op, Table, Latencies, Proposed, MemoryRule, DoTheSame, MayPass, AreEntries, finding_of, Passed, IsCheckEntry, ListsChecked, PassedChecksKeepOutcomes, PassedChecksMayPass}
+use Rattle.iloc_farm.proofs.Common.{◌≡◌, ℕ, ◌+◌, Bool, true, false, List, [], ◌∷◌, length, ℤ, Option, refl, arith, AllZip, list_all, zip, Block, Table, Latencies, Proposed, MemoryRule, DoTheSame, MayPass, AreEntries, finding_of, Passed, IsCheckEntry, ListsChecked, PassedChecksKeepOutcomes, PassedChecksMayPass}
 use Rattle.std.proofs.lemmas.Bool.{and_parts}
-use Rattle.iloc_rows.specs.declared.proposal.unread.Unread.{Unread}
 use Rattle.iloc_verdict.specs.Checked.{passes}
-use Rattle.iloc_verdict.specs.Unread.{IsUnread}
 use Rattle.iloc_verdict.specs.declared.checked.Checked.{Checked}
 use Rattle.iloc_comparison.specs.declared.task.CheckOptions.{CheckOptions}
-use Rattle.iloc_comparison.specs.declared.task.Form.{Form}
+use Rattle.iloc_judge.specs.Checked.{IsCheck}
 use Rattle.iloc_judge.proofs.Sameness.{passed_is_same, passed_rows_may_pass, same_rows_do_the_same}
-use Rattle.iloc_row_commands.specs.Check.{IsSaid}
 
 all_pass : (b : Bool) → Passed ≡ finding_of b → b ≡ true
 all_pass true is = refl
@@ -18,7 +15,7 @@ all_pass false is = absurd (cc)
 module _ (options : CheckOptions) (nodes : Option ℕ) (rule : MemoryRule) (lat : Latencies) (memory : List ℤ)
     (P : Block → Proposed → Type 0)
     (holds : (b : Block) (s : Table) (p : Proposed) (c : Checked) (text : List ℕ)
-    → IsSaid p.unread options lat memory b.ops s p c text → passes options.lawful c ≡ true → P b p) where
+    → IsCheck options lat memory b.ops s p c text → passes options.lawful c ≡ true → P b p) where
   of_each : (k : ℕ) (blocks : List Block) (proposals : List Proposed) (found : List Checked) (text : List ℕ)
       → length proposals ≡ length blocks
       → AreEntries (IsCheckEntry options nodes rule lat memory) k (zip blocks proposals) found text
@@ -37,28 +34,12 @@ module _ (options : CheckOptions) (nodes : Option ℕ) (rule : MemoryRule) (lat 
       → ListsChecked options nodes rule lat memory blocks proposals Passed text → AllZip P blocks proposals
   of_passed blocks proposals text lists = grind (arith, all_pass, of_each)
 
--- rows of which one can't be read never pass
-unread_fails : (lawful : Bool) (form : Form) (lat : Latencies) (block : List Op) (p : Proposed) (c : Checked)
-    (entry : List ℕ) → IsUnread form lat block p c entry → passes lawful c ≡ true → ⊥
-unread_fails lawful form lat block p c entry said pass =
-    let fails : passes lawful c ≡ false = ap (passes lawful) said.is_found in cc
-
-said_keeps : (u : Option Unread) (options : CheckOptions) (lat : Latencies) (memory : List ℤ) (block : List Op) (s : Table)
-    (p : Proposed) (c : Checked) (entry : List ℕ) → IsSaid u options lat memory block s p c entry → passes options.lawful c ≡ true
-    → DoTheSame options.outputs_alone lat block p.ops p.rows
-said_keeps u options lat memory block s p c entry said pass = grind (arith, passed_is_same, same_rows_do_the_same, unread_fails)
-
-said_may : (u : Option Unread) (options : CheckOptions) (lat : Latencies) (memory : List ℤ) (block : List Op) (s : Table)
-    (p : Proposed) (c : Checked) (entry : List ℕ) → IsSaid u options lat memory block s p c entry → passes options.lawful c ≡ true
-    → MayPass options lat memory block p.ops p.rows
-said_may u options lat memory block s p c entry said pass = grind (arith, passed_rows_may_pass, unread_fails)
-
 pub passed_keep_outcomes : PassedChecksKeepOutcomes
 passed_keep_outcomes options nodes rule lat memory = of_passed options nodes rule lat memory
     (λ b p. DoTheSame options.outputs_alone lat b.ops p.ops p.rows)
-    (λ b s p c text right pass. said_keeps p.unread options lat memory b.ops s p c text right pass)
+    (λ b s p c text right pass. same_rows_do_the_same options lat memory b.ops s p c text right (passed_is_same options.lawful c pass))
 
 pub passed_may_pass : PassedChecksMayPass
 passed_may_pass options nodes rule lat memory = of_passed options nodes rule lat memory
     (λ b p. MayPass options lat memory b.ops p.ops p.rows)
-    (λ b s p c text right pass. said_may p.unread options lat memory b.ops s p c text right pass)
+    (λ b s p c text right pass. passed_rows_may_pass options lat memory b.ops s p c text right pass)

@@ -11,6 +11,10 @@ use Rattle.iloc_timed.specs.Timed.{issued_before, timed_outcome}
 use Rattle.iloc_comparison.specs.declared.difference.Difference.{Difference}
 use Rattle.iloc_comparison.specs.Difference.{IsDifference}
 use Rattle.iloc_verdict.specs.Counted.{CanBeNumbered, CanBeCompared, CanBeListed}
+use Rattle.iloc_verdict.specs.Obstacle.{IsAmong}
+use Rattle.iloc_verdict.specs.declared.obstacle.Obstacle.{Obstacle}
+use Rattle.iloc_verdict.specs.declared.obstacle.Obstacle.TheVariants.{Unread, Units}
+use Rattle.iloc_judge.specs.Obstacle.{Hinders}
 
 -- at most n words are emitted
 abbrev EmitsAtMost : ℕ → Outcome → Type 0
@@ -71,7 +75,12 @@ compared_listed : (outputs : Bool) (lat : Latencies) (memory : List ℤ) (block 
     → CanBeCompared found
 compared_listed outputs lat memory block ops rows found short few is = grind (arith, difference_counted)
 
+-- a row that breaks the rules of the units is one of them
+pub among : (ops : List Op) (rows : List Row) (obstacle : Obstacle) → Hinders ops rows obstacle → IsAmong rows obstacle
+among ops rows (Unread unread words) hinders = tt
+among ops rows (Units c) hinders = hinders.within
+
 pub verdict_listed : (outputs : Bool) (lat : Latencies) (memory : List ℤ) (block ops : List Op) (rows : List Row) (verdict : Verdict)
     → length block ≤ MAX_OPS → length rows ≤ MAX_ROWS → IsVerdict outputs lat block ops rows memory verdict
     → CanBeListed rows verdict
-verdict_listed outputs lat memory block ops rows verdict short few is = grind (arith, compared_listed)
+verdict_listed outputs lat memory block ops rows verdict short few is = grind (arith, among, compared_listed)

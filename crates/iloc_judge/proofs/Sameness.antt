@@ -1,16 +1,23 @@
 -- Rows that are found to be the same do what the block does, and rows pass only if they may.
 use Rattle.iloc_judge.proofs.Common.{◌≡◌, ℕ, ◌+◌, ◌<◌, ◌≤◌, Bool, true, false, ◌&&◌, ◌⊎◌, List, ℤ, ◌==◌, sym, ap, ◌∙◌, inl, inr, true≢false, arith, and_from, and_parts, Op, shown, Outcome, IsTable, Table, Latencies, Row, without_nops, IsByTheBook, AgreesOnAll, IsComparison, Comparison, compared_kind, is_passing, kind_of, passes, AreItsOperations, keeps_operations, Checked, Verdict, IsVerdict}
+use Rattle.std.specs.Prelude.{not}
+use Rattle.std.specs.Option.{is_some}
 use Rattle.iloc_rows.specs.declared.proposal.Proposed.{Proposed}
 use Rattle.iloc_facts.proofs.SameCounts.{as_many}
 use Rattle.iloc_validation.proofs.Outcomes.{keeps_the_outcome}
 use Rattle.iloc_terms.specs.Agreement.{AreAlike}
+use Rattle.iloc_verdict.specs.Kept.{has_asked}
+use Rattle.iloc_verdict.specs.declared.checked.changes.Changes.{Changes}
+use Rattle.iloc_verdict.specs.declared.obstacle.Obstacle.{Obstacle}
+use Rattle.iloc_verdict.specs.declared.obstacle.Obstacle.TheVariants.{Unread, Units}
+use Rattle.iloc_verdict.specs.declared.verdict.Verdict.TheVariants.{Refused}
 use Rattle.iloc_verdict.specs.declared.verdict.kind.VerdictKind.{VerdictKind}
 use Rattle.iloc_comparison.specs.Void.{CanBeJudged}
 use Rattle.iloc_judge.specs.Checked.{DoEnough, DoTheSame, IsCheck}
 use Rattle.iloc_comparison.specs.declared.task.CheckOptions.{CheckOptions}
 use Rattle.iloc_judge.specs.Laws.{PassedRowsMayPass, SameRowsDoTheSame}
 
-kept : (asked : Bool) (block ops : List Op) → keeps_operations asked block ops ≡ true → asked ≡ true
+kept : (asked : Bool) (block ops : List Op) → has_asked asked block ops ≡ true → asked ≡ true
     → AreItsOperations (without_nops block) ops
 kept true block ops keeps is = as_many (without_nops block) ops keeps
 kept false block ops keeps is = absurd (true≢false (sym is))
@@ -41,10 +48,16 @@ abbrev PassesAs : (lawful outputs : Bool) → Latencies → List ℤ → List Op
 PassesAs lawful outputs lat memory block ops rows = IsByTheBook lat block ops rows
     ⊎ (DoTheSame outputs lat block ops rows × CanBeJudged outputs block memory × (lawful ≡ false))
 
+-- nothing that is kept from being a schedule does
+refused_fails : (lawful asked : Bool) (obstacle : Obstacle) (changes : Changes)
+    → is_passing lawful (kind_of asked (Refused obstacle changes)) ≡ true → ⊥
+refused_fails lawful asked (Unread unread words) changes pass = absurd cc
+refused_fails lawful asked (Units c) changes pass = absurd cc
+
 passes_as : (lawful asked outputs : Bool) (lat : Latencies) (memory : List ℤ) (block ops : List Op) (rows : List Row) (verdict : Verdict)
     → IsVerdict outputs lat block ops rows memory verdict → is_passing lawful (kind_of asked verdict) ≡ true
     → PassesAs lawful outputs lat memory block ops rows
-passes_as lawful asked outputs lat memory block ops rows verdict right pass = grind (arith, compared_same)
+passes_as lawful asked outputs lat memory block ops rows verdict right pass = grind (arith, compared_same, refused_fails)
 
 does_the_same : (outputs : Bool) (lat : Latencies) (memory : List ℤ) (block ops : List Op) (rows : List Row) (lawful : Bool)
     → PassesAs lawful outputs lat memory block ops rows → DoTheSame outputs lat block ops rows
@@ -65,7 +78,7 @@ passed_is_same lawful checked pass = grind (arith, and_from, and_parts, passing_
 module _ (options : CheckOptions) (lat : Latencies) (memory : List ℤ) (block : List Op) (ours : Table) (proposal : Proposed)
     (checked : Checked) (entry : List ℕ) (check : IsCheck options lat memory block ours proposal checked entry) where
   abbrev keeps : Bool
-  keeps = keeps_operations options.operations block proposal.ops
+  keeps = keeps_operations options.operations block proposal
 
   abbrev word : VerdictKind
   word = kind_of options.lawful check.verdict
@@ -80,7 +93,9 @@ module _ (options : CheckOptions) (lat : Latencies) (memory : List ℤ) (block :
   passed_kept : (asked : Bool) → passes asked checked ≡ true → options.operations ≡ true
       → AreItsOperations (without_nops block) proposal.ops
   passed_kept asked pass is =
-      kept options.operations block proposal.ops (and_parts keeps (is_passing asked word) (passing asked pass)).0 is
+      let keeps_all : keeps ≡ true = (and_parts keeps (is_passing asked word) (passing asked pass)).0 in
+      kept options.operations block proposal.ops
+      (and_parts (not (is_some proposal.unread)) (has_asked options.operations block proposal.ops) keeps_all).1 is
 
 pub same_rows_do_the_same : SameRowsDoTheSame
 same_rows_do_the_same options lat memory block ours proposal checked entry check pass =

@@ -1,5 +1,5 @@
 -- What is found of the rows that are proposed for a block.
-use Rattle.std.specs.Prelude.{ℕ, ℤ, ◌≡◌, ◌⊎◌, Bool, true, false, List, Option}
+use Rattle.std.specs.Prelude.{ℕ, ℤ, ◌≡◌, ◌⊎◌, Bool, true, false, List, Option, None}
 use Rattle.iloc_ops.specs.declared.op.Op.{Op}
 use Rattle.iloc_timed.specs.declared.latencies.Latencies.{Latencies}
 use Rattle.iloc_timed.specs.declared.row.Row.{Row}
@@ -16,27 +16,27 @@ use Rattle.iloc_verdict.specs.Kept.{keeps_operations}
 use Rattle.iloc_comparison.specs.declared.task.CheckOptions.{CheckOptions}
 use Rattle.iloc_comparison.specs.declared.task.Form.TheVariants.{Json}
 use Rattle.iloc_judge.specs.Origins.{AreOriginsFor}
-use Rattle.iloc_judge.specs.Verdict.{IsVerdict}
+use Rattle.iloc_judge.specs.Verdict.{IsVerdict, unread_in}
 use Rattle.iloc_comparison.specs.Void.{CanBeJudged}
 use Rattle.iloc_verdict.specs.declared.checked.Checked.{Checked}
 use Rattle.iloc_verdict.specs.Entry.{entry_as}
-use Rattle.iloc_verdict.specs.Checked.{found, kind_of, passes}
+use Rattle.iloc_verdict.specs.Checked.{found, kind_of}
 
 -- Of what is proposed for a block this is found, whatever is known of the block's cycles, and this entry listed, as is asked for,
--- by a verdict that is right. What our schedule by the book issues is lawful. JSON has which operation of the block each is.
+-- by a verdict that is right: where a line can't be read, that the first such can't be. What our schedule by the book issues is
+-- lawful, if all of it can be read. JSON has which operation of the block each is.
 pub record IsCheck (options : CheckOptions) (lat : Latencies) (memory : List ℤ) (block : List Op) (ours : Table)
     (proposal : Proposed) (checked : Checked) (entry : List ℕ) : Type 0 where
   pub verdict : Verdict
+  pub first : proposal.unread ≡ unread_in verdict
   pub right : IsVerdict options.outputs_alone lat block proposal.ops proposal.rows memory verdict
-  pub own : IssueTheSame ours.ops ours.rows proposal.ops proposal.rows → verdict ≡ Lawful
+  pub own : proposal.unread ≡ None → IssueTheSame ours.ops ours.rows proposal.ops proposal.rows → verdict ≡ Lawful
   pub origins : List (Option ℕ)
   pub are_origins : options.form ≡ Json → AreOriginsFor lat block proposal.ops proposal.rows verdict origins
   pub is_found : checked
-      ≡ found (kind_of options.lawful verdict) (keeps_operations options.operations block proposal.ops) checked.ours
-      checked.sought checked.least lat proposal
-  pub listed : entry
-      ≡ entry_as (passes options.lawful checked) options.form proposal.claimed proposal.ops proposal.rows verdict origins
-      checked
+      ≡ found (kind_of options.lawful verdict) (keeps_operations options.operations block proposal) checked.ours checked.sought
+      checked.least lat proposal
+  pub listed : entry ≡ entry_as options proposal.ops proposal.rows verdict origins checked
 
 -- The operations `ops` in `rows` keep the rules of the units, and on every memory of 16,384 words of 32 bits they have
 -- the outcome of `block` or, with `outputs`, show what it shows.

@@ -1,3 +1,4 @@
+pub mod Obstacle
 pub mod Verdict
 pub mod Origins
 pub mod Checked

@@ -1,54 +1,56 @@
 //! What is found of the rows that are proposed for a block.
 ghost use Rattle.std.specs.Prelude.{ℕ, ◌≡◌, ◌++◌, List, IfOk};
-ghost use Rattle.iloc_timed.specs.Schedule.{IsFirstBadRow};
 ghost use Rattle.iloc_verdict.specs.Checked.{IsBeside};
-ghost use Rattle.iloc_verdict.specs.Kept.{keeps_operations as kept};
 ghost use Rattle.iloc_judge.specs.Checked.{IsCheck};
+ghost use Rattle.iloc_judge.specs.Obstacle.{IsObstacle};
 
+use crate::obstacle::obstacle_of;
 use crate::verdict::judge;
 use iloc_comparison::{JudgedBlock, Judging};
 use iloc_ops::NoMemory;
 use iloc_rows::Proposal;
 use iloc_verdict::{
-    Checked, Judgement, Verdict, VerdictKind, changes_of, found, keeps_operations, kind_of,
-    push_entry,
+    Checked, Judged, Judgement, Obstacle, Verdict, VerdictKind, changes_of, found,
+    keeps_operations, kind_of, push_entry,
 };
 use std::alloc::Global;
 
-/// Appends what is listed of a proposal of which this row is the first that breaks the rules of the units.
-fn push_units(
+/// Appends what is listed of a proposal that `obstacle` keeps from being a schedule.
+fn push_refused(
     alloc: Global,
     text: &mut Vec<u8>,
     judging: &Judging<'_>,
     task: &JudgedBlock<'_>,
     proposal: &Proposal,
-    keeps_operations: bool,
-    row: usize,
+    obstacle: Obstacle<'_>,
 ) -> Result<Checked, NoMemory>
-    requires bad { IsFirstBadRow proposal.now.ops proposal.now.rows row }
-    requires keeps { keeps_operations ≡ kept judging.now.options.operations task.now.block.now.ops proposal.now.ops }
+    requires hinders { IsObstacle proposal.now obstacle }
     ensures beside { IfOk result (IsBeside task.now) }
     ensures entry { IfOk result (λ checked. (entry : List ℕ)
         × IsCheck judging.now.options task.now.latencies.now judging.now.memory.now
         task.now.block.now.ops task.now.ours.now proposal.now checked entry
         × (text.new.items ≡ text.old.items ++ entry)) }
 {
+    let options = judging.options;
     let (ops, rows) = (proposal.ops(), proposal.rows());
-    let checked = found(task, proposal, VerdictKind::Units, keeps_operations);
     let changes = changes_of(alloc, task.block, ops, rows)?;
-    let judgement = Judgement {
-        verdict: Verdict::Units(row, changes),
-        origins: Vec::new(alloc),
-    };
-    push_entry(
-        text,
-        judging,
-        proposal.claimed(),
+    let verdict = Verdict::Refused(obstacle, changes);
+    let keeps_operations = keeps_operations(alloc, options.operations, task.block, proposal)?;
+    let checked = found(
+        task,
+        proposal,
+        kind_of(options.lawful, &verdict),
+        keeps_operations,
+    );
+    let origins = Vec::new(alloc);
+    let judgement = Judgement { verdict, origins };
+    let judged = Judged {
         ops,
         rows,
-        &judgement,
+        judgement,
         checked,
-    )?;
+    };
+    push_entry(text, options, &judged)?;
     Ok(checked)
 }
 
@@ -74,20 +76,24 @@ pub fn push_check(
         task.now.block.now.ops task.now.ours.now proposal checked entry
         × (text.new.items ≡ text.old.items ++ entry)) }
 {
-    let options = judging.options;
-    let keeps_operations = keeps_operations(alloc, options.operations, task.block, proposal.ops())?;
-    if let Some(row) = proposal.bad_row() {
-        return push_units(alloc, text, judging, task, &proposal, keeps_operations, row);
+    if let Some(obstacle) = obstacle_of(alloc, &proposal)? {
+        return push_refused(alloc, text, judging, task, &proposal, obstacle);
     }
-    let claimed = proposal.claimed();
+    let options = judging.options;
+    let keeps_operations = keeps_operations(alloc, options.operations, task.block, &proposal)?;
     let found = found(task, &proposal, VerdictKind::Lawful, keeps_operations);
     let theirs = proposal.into_schedule();
-    let (ops, rows) = (theirs.ops(), theirs.rows());
     let judgement = judge(alloc, judging, task, &theirs)?;
     let checked = Checked {
         kind: kind_of(options.lawful, &judgement.verdict),
         ..found
     };
-    push_entry(text, judging, claimed, ops, rows, &judgement, checked)?;
+    let judged = Judged {
+        ops: theirs.ops(),
+        rows: theirs.rows(),
+        judgement,
+        checked,
+    };
+    push_entry(text, options, &judged)?;
     Ok(checked)
 }

@@ -3,7 +3,9 @@
 
 mod checked;
 pub mod laws;
+mod obstacle;
 mod verdict;
 
 pub use checked::push_check;
+pub use obstacle::obstacle_of;
 pub use verdict::judge;

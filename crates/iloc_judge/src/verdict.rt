@@ -1,12 +1,12 @@
 //! The verdict on somebody's rows for a block.
-ghost use Rattle.std.specs.Prelude.{◌≡◌, ◌≤◌, ◌<◌, ℕ, Some, length, slice_index, IfOk};
+ghost use Rattle.std.specs.Prelude.{◌≡◌, ◌≤◌, ◌<◌, ℕ, Some, None, length, slice_index, IfOk};
 ghost use Rattle.iloc_comparison.specs.declared.task.Form.TheVariants.{Json};
 ghost use Rattle.iloc_reasons.specs.Origins.{origin_at, AreOrigins};
 ghost use Rattle.iloc_rules.specs.Renaming.{without_nops};
 ghost use Rattle.iloc_timed.specs.Rows.{IsTable};
 ghost use Rattle.iloc_validation.specs.ByTheBook.{IssueTheSame};
 ghost use Rattle.iloc_judge.specs.Origins.{AreOriginsFor};
-ghost use Rattle.iloc_judge.specs.Verdict.{IsVerdict};
+ghost use Rattle.iloc_judge.specs.Verdict.{IsVerdict, unread_in};
 
 use iloc_comparison::{Form, JudgedBlock, Judging, compared};
 use iloc_ops::NoMemory;
@@ -72,7 +72,7 @@ pub fn judge(
     judging: &Judging<'_>,
     task: &JudgedBlock<'_>,
     theirs: &Schedule,
-) -> Result<Judgement, NoMemory>
+) -> Result<Judgement<'static>, NoMemory>
     requires few { length theirs.now.rows ≤ MAX_ROWS }
     requires table { IsTable theirs.now.ops theirs.now.rows }
     ensures right { IfOk result (λ judgement. IsVerdict judging.now.options.outputs_alone task.now.latencies.now
@@ -80,6 +80,7 @@ pub fn judge(
     ensures own { IfOk result (λ judgement.
         IssueTheSame task.now.ours.now.ops task.now.ours.now.rows theirs.now.ops theirs.now.rows
         → judgement.verdict ≡ Verdict.Lawful) }
+    ensures read { IfOk result (λ judgement. unread_in judgement.verdict ≡ None) }
     ensures origins { IfOk result (λ judgement. judging.now.options.form ≡ Json
         → AreOriginsFor task.now.latencies.now task.now.block.now.ops theirs.now.ops theirs.now.rows judgement.verdict
         judgement.origins.items) }

@@ -23,7 +23,7 @@ pub use Rattle.iloc_listing.specs.Listing.{block_head, cycles_of}
 pub use Rattle.iloc_driver.proofs.Entries.{parts_joined}
 pub use Rattle.iloc_driver.specs.Entries.{AppendsEntry}
 pub use Rattle.iloc_driver.specs.Fault.{finding_of}
-pub use Rattle.iloc_row_commands.specs.Check.{IsCheckEntry, IsSaid, IsSmall, check_head, options_of}
+pub use Rattle.iloc_row_commands.specs.Check.{IsCheckEntry, IsSmall, check_head, options_of}
 pub use Rattle.iloc_row_commands.specs.Explain.Departure.{choice_at, departure, leaves_choice, take_the_same}
 pub use Rattle.iloc_row_commands.specs.Explain.Explained.{IsRowsExplanation, not_lawful}
 pub use Rattle.iloc_row_commands.specs.declared.explain.explained.ExplainedRows.{ExplainedRows}

@@ -4,11 +4,9 @@ use Rattle.std.specs.Option.{option_map_or}
 use Rattle.std.specs.List.{flat_map}
 use Rattle.std.specs.Fmt.{decimal}
 use Rattle.iloc_ops.specs.declared.file.Block.{Block}
-use Rattle.iloc_ops.specs.declared.op.Op.{Op}
 use Rattle.iloc_timed.specs.declared.latencies.Latencies.{Latencies}
 use Rattle.iloc_timed.specs.Schedule.{Table}
 use Rattle.iloc_rows.specs.declared.proposal.Proposed.{Proposed}
-use Rattle.iloc_rows.specs.declared.proposal.unread.Unread.{Unread}
 use Rattle.iloc_rules.specs.declared.heuristic.Heuristic.TheVariants.{Chain}
 use Rattle.iloc_rules.specs.declared.memory_rule.MemoryRule.{MemoryRule}
 use Rattle.iloc_rules.specs.Heuristics.{priorities_under}
@@ -20,7 +18,6 @@ use Rattle.iloc_comparison.specs.declared.task.Form.TheVariants as forms
 use Rattle.iloc_judge.specs.Checked.{IsCheck}
 use Rattle.iloc_verdict.specs.Checked.{passes}
 use Rattle.iloc_pieces.specs.Escaped.{escaped}
-use Rattle.iloc_verdict.specs.Unread.{IsUnread}
 use Rattle.iloc_listing.specs.Limits.{most_cycles, most_proposed_cycles}
 use Rattle.iloc_listing.specs.Listing.{head_as}
 use Rattle.iloc_driver.specs.Rows.{ListsRows}
@@ -57,12 +54,6 @@ options_by is_given = record {
 abbrev pub options_of : Request → CheckOptions
 options_of request = options_by (has request.flags)
 
--- What is found of a proposal, and said of it, is right: where this row can't be read, that; else what is said of its rows.
-abbrev pub IsSaid : Option Unread → CheckOptions → Latencies → List ℤ → List Op → Table → Proposed → Checked → List ℕ → Type 0
-IsSaid None options lat memory block ours proposal checked text = IsCheck options lat memory block ours proposal checked text
-IsSaid (Some unread) options lat memory block ours proposal checked text =
-    IsUnread options.form lat block proposal checked text
-
 -- the name of a block as a member of JSON, null for a block without a name
 abbrev pub name_member : Option (List ℕ) → List ℕ
 name_member None = codes "\"name\":null"
@@ -89,7 +80,7 @@ pub record IsCheckEntry (options : CheckOptions) (nodes : Option ℕ) (rule : Me
   pub sought : IsSoughtIf nodes rule lat of.0.ops checked.sought
   pub least : checked.least ≡ least_under rule lat of.0.ops
   pub text : List ℕ
-  pub right : IsSaid of.1.unread options lat memory of.0.ops ours of.1 checked text
+  pub right : IsCheck options lat memory of.0.ops ours of.1 checked text
   pub listed : entry ≡ check_head options.form k of.0.name ++ text
 
 -- the numbers of one proposal are small

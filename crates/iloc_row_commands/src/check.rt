@@ -1,15 +1,14 @@
 //! `check`: what is said of the schedules that others proposed for blocks.
-ghost use Rattle.std.specs.Prelude.{ℕ, ◌≡◌, ◌<◌, ◌≤◌, ◌^◌, ◌++◌, List, length, IfOk, OnOk};
+ghost use Rattle.std.specs.Prelude.{◌≡◌, ◌<◌, ◌≤◌, ◌^◌, ◌++◌, length, IfOk, OnOk};
 ghost use Rattle.std.specs.List.{All};
 ghost use Rattle.std.specs.Option.{option_copied};
 ghost use Rattle.iloc_row_commands.specs.Check as listed;
-ghost use Rattle.iloc_row_commands.specs.Check.{IsSaid, form_of, options_of, IsSmall as IsSmallCheck};
+ghost use Rattle.iloc_row_commands.specs.Check.{form_of, options_of, IsSmall as IsSmallCheck};
 ghost use Rattle.iloc_ops.specs.Limits.{MAX_BLOCKS, MAX_OPS};
 ghost use Rattle.iloc_rules.specs.declared.heuristic.Heuristic.TheVariants.{Chain};
 ghost use Rattle.iloc_rules.specs.Greedy.{IsGreedy, IsGreedyWhere};
 ghost use Rattle.iloc_rules.specs.Rule.{counts_by};
 ghost use Rattle.iloc_rules.specs.Heuristics.{priorities_under};
-ghost use Rattle.iloc_verdict.specs.Checked.{IsBeside};
 
 use crate::json::push_json_head;
 use crate::totals::Totals;
@@ -26,7 +25,7 @@ use iloc_rows::Proposal;
 use iloc_rules::{Heuristic, MemoryRule};
 use iloc_sched::{Graph, Scheduler};
 use iloc_timed::{Latencies, MAX_ROWS, Schedule, cycles};
-use iloc_verdict::{Checked, push_unread};
+use iloc_verdict::Checked;
 use std::alloc::Global;
 
 /// What a table begins with.
@@ -122,27 +121,6 @@ fn push_check_ending(
         Form::Lines => Totals::of(found).push_line(text, nodes),
         Form::Table | Form::Json => Ok(()),
     }
-}
-
-/// Appends what is said of a proposal beside our schedule of the block: of its first row that can't be read, if there is one,
-/// and else of its rows.
-fn push_judged(
-    alloc: Global,
-    text: &mut Vec<u8>,
-    judging: &Judging<'_>,
-    task: &JudgedBlock<'_>,
-    proposal: Proposal,
-) -> Result<Checked, NoMemory>
-    ensures beside { IfOk result (IsBeside task.now) }
-    ensures entry { IfOk result (λ checked. (entry : List ℕ)
-        × IsSaid proposal.unread judging.now.options task.now.latencies.now
-        judging.now.memory.now task.now.block.now.ops task.now.ours.now proposal checked entry
-        × (text.new.items ≡ text.old.items ++ entry)) }
-{
-    if let Some(unread) = proposal.unread() {
-        return push_unread(alloc, text, judging.options.form, task, &proposal, unread);
-    }
-    push_check(alloc, text, judging, task, proposal)
 }
 
 /// The greedy schedule of a block by the book, of which this one is by a rule of memory.
@@ -247,7 +225,7 @@ impl RowLister for CheckLister {
             least,
             latencies,
         };
-        let checked = push_judged(alloc, text, &judging, &task, proposal)?;
+        let checked = push_check(alloc, text, &judging, &task, proposal)?;
         self.scheduler.take_back(ours);
         Ok(checked)
     }

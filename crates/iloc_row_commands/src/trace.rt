@@ -4,20 +4,21 @@ ghost use Rattle.iloc_row_commands.specs.Trace.{IsTraceOf};
 
 use iloc_args::Request;
 use iloc_driver::{Finding, RowLister, initial_memory};
+use iloc_judge::obstacle_of;
 use iloc_listing::push_block_head;
 use iloc_ops::{Block, NoMemory};
 use iloc_rows::Proposal;
 use iloc_timed::Latencies;
 use iloc_trace::Tracer;
-use iloc_verdict::{push_bad_row, push_unread_line};
+use iloc_verdict::push_obstacle;
 use std::alloc::Global;
 
 /// Runs what is proposed for each block, and lists what happens.
 #[derive(Drop)]
 pub struct RowsTracer(Tracer);
 
-/// Appends what a proposal does, and answers `true`; of one with a line that can't be read, or a row that breaks the rules of
-/// the units, it appends the line that `check` has for the first.
+/// Appends what a proposal does, and answers `true`; of one that is no schedule, it appends the line that `check` has for what keeps
+/// it from being one.
 fn push_traced(
     alloc: Global,
     text: &mut Vec<u8>,
@@ -27,15 +28,11 @@ fn push_traced(
 ) -> Result<bool, NoMemory>
     ensures memory { tracer.new ≡ tracer.old }
     ensures listed { IfOk result (λ traced. (entry : List ℕ)
-        × IsTraceOf proposal.unread traced latencies.now tracer.old proposal.ops proposal.rows entry
+        × IsTraceOf traced latencies.now tracer.old proposal entry
         × (text.new.items ≡ text.old.items ++ entry)) }
 {
-    if let Some(unread) = proposal.unread() {
-        push_unread_line(alloc, text, unread)?;
-        return Ok(false);
-    }
-    if let Some(row) = proposal.bad_row() {
-        push_bad_row(text, proposal.ops(), proposal.rows(), row)?;
+    if let Some(obstacle) = obstacle_of(alloc, &proposal)? {
+        push_obstacle(text, proposal.ops(), proposal.rows(), &obstacle)?;
         return Ok(false);
     }
     tracer.push_trace(text, &proposal.into_schedule(), latencies)?;

@@ -46,6 +46,7 @@ fn print_verdicts(rt: &HostRuntime) -> io::Result<()> {
             ours: 0,
             sought: None,
             least: 0,
+            claimed: None,
         };
         let passes = checked.passes(false);
         print!(rt; "{before}\n  \"{}\": {passes}", kind.word())?;

@@ -8,7 +8,8 @@ use Rattle.iloc_comparison.specs.declared.comparison.Comparison.{Comparison}
 use Rattle.iloc_comparison.specs.declared.comparison.Comparison.TheVariants as of
 use Rattle.iloc_comparison.specs.declared.task.JudgedBlock.{JudgedBlock}
 use Rattle.iloc_verdict.specs.declared.verdict.Verdict.{Verdict}
-use Rattle.iloc_verdict.specs.declared.verdict.Verdict.TheVariants.{Units, Lawful, Unlawful, Undecided}
+use Rattle.iloc_verdict.specs.declared.verdict.Verdict.TheVariants.{Refused, Lawful, Unlawful, Undecided}
+use Rattle.iloc_verdict.specs.declared.obstacle.Obstacle.TheVariants.{Unread, Units}
 use Rattle.iloc_verdict.specs.declared.verdict.kind.VerdictKind.{VerdictKind}
 use Rattle.iloc_verdict.specs.declared.verdict.kind.VerdictKind.TheVariants as kind
 use Rattle.iloc_verdict.specs.declared.checked.Checked.{Checked}
@@ -23,14 +24,15 @@ compared_kind (of.DiffersOn probe difference) = kind.Differs
 
 -- A verdict in a word. Where nothing but rows by the book passes, that this isn't decided comes before how they compare.
 abbrev pub kind_of : Bool → Verdict → VerdictKind
-kind_of lawful (Units c changes) = kind.Units
+kind_of lawful (Refused (Unread unread words) changes) = kind.Unread
+kind_of lawful (Refused (Units c) changes) = kind.Units
 kind_of lawful Lawful = kind.Lawful
 kind_of lawful (Unlawful reasons found) = compared_kind found
 kind_of true (Undecided found) = kind.Undecided
 kind_of false (Undecided found) = compared_kind found
 
 -- what goes with a word: whether the block's operations are kept, the cycles of our schedule, what was sought, the least, and
--- the cycles of what is proposed
+-- the cycles of `proposal`, found and claimed
 abbrev pub found : VerdictKind → Bool → ℕ → Option Sought → ℕ → Latencies → Proposed → Checked
 found word keeps ours sought least lat proposal = record {
   kind = word;
@@ -39,6 +41,7 @@ found word keeps ours sought least lat proposal = record {
   ours = ours;
   sought = sought;
   least = least;
+  claimed = proposal.claimed;
 }
 
 -- what is known of the block beside the proposal is as the task has it

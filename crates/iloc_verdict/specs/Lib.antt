@@ -1,6 +1,6 @@
 pub mod Changes
 pub mod Checked
-pub mod Unread
+pub mod Obstacle
 pub mod Entry
 pub mod Kept
 pub mod Remarks

@@ -12,10 +12,11 @@ pub(crate) mod unit_rule;
 pub(crate) mod verdict_line;
 
 use crate::json::push_json;
+use crate::obstacle::Obstacle;
 use crate::verdict::kind::VerdictKind;
 use crate::verdict::{Judgement, Verdict};
 use detail::push_detail;
-use iloc_comparison::{Comparison, Form, JudgedBlock, Judging};
+use iloc_comparison::{CheckOptions, Comparison, Form, JudgedBlock};
 use iloc_ops::{NoMemory, Op};
 use iloc_rows::Proposal;
 use iloc_rules::Sought;
@@ -37,6 +38,8 @@ pub struct Checked {
     pub sought: Option<Sought>,
     /// How many cycles each schedule takes at least that is lawful by that rule.
     pub least: u64,
+    /// How many cycles are claimed, if a number is.
+    pub claimed: Option<u32>,
 }
 
 impl Checked {
@@ -67,11 +70,12 @@ fn compared_kind(comparison: &Comparison) -> VerdictKind
 }
 
 /// The verdict in a word, where nothing but rows by the book passes or where others may.
-pub fn kind_of(lawful: bool, verdict: &Verdict) -> VerdictKind
+pub fn kind_of(lawful: bool, verdict: &Verdict<'_>) -> VerdictKind
     ensures { result ≡ kind_of lawful verdict.now }
 {
     match verdict {
-        Verdict::Units(..) => VerdictKind::Units,
+        Verdict::Refused(Obstacle::Unread(..), _) => VerdictKind::Unread,
+        Verdict::Refused(Obstacle::Units(_), _) => VerdictKind::Units,
         Verdict::Lawful => VerdictKind::Lawful,
         Verdict::Undecided(_) if lawful => VerdictKind::Undecided,
         Verdict::Unlawful(_, comparison) | Verdict::Undecided(comparison) => {
@@ -97,31 +101,40 @@ pub fn found(
         ours: task.cycles,
         sought: task.sought,
         least: task.least,
+        claimed: proposal.claimed(),
     }
 }
 
-/// Appends what is listed of operations and rows that are judged so, in the form that is asked for.
+/// Rows that are judged, and what is found of them.
+#[derive(Drop)]
+pub struct Judged<'a> {
+    /// The operations of the rows.
+    pub ops: &'a [Op],
+    /// The rows.
+    pub rows: &'a [Row],
+    /// How they are judged.
+    pub judgement: Judgement<'a>,
+    /// What is found of them.
+    pub checked: Checked,
+}
+
+/// Appends what is listed of rows that are judged, as `options` asks for it.
 pub fn push_entry(
     text: &mut Vec<u8>,
-    judging: &Judging<'_>,
-    claimed: Option<u32>,
-    ops: &[Op],
-    rows: &[Row],
-    judgement: &Judgement,
-    checked: Checked,
+    options: CheckOptions,
+    judged: &Judged<'_>,
 ) -> Result<(), NoMemory>
-    requires { CanBeListed rows.now judgement.now.verdict }
-    ensures { OnOk result (text.new.items ≡ text.old.items
-        ++ entry_as (passes judging.now.options.lawful checked) judging.now.options.form claimed ops.now rows.now
-        judgement.now.verdict judgement.now.origins.items checked) }
+    requires { CanBeListed judged.now.rows.now judged.now.judgement.verdict }
+    ensures { OnOk result (text.new.items ≡ text.old.items ++ entry_as options judged.now.ops.now judged.now.rows.now
+        judged.now.judgement.verdict judged.now.judgement.origins.items judged.now.checked) }
 {
-    let passing = checked.passes(judging.options.lawful);
-    match judging.options.form {
+    let checked = judged.checked;
+    match options.form {
         Form::Lines => {
-            push_line(text, checked, claimed)?;
-            push_detail(text, ops, rows, &judgement.verdict)
+            push_line(text, checked)?;
+            push_detail(text, judged.ops, judged.rows, &judged.judgement.verdict)
         }
-        Form::Table => push_table_row(text, checked, claimed),
-        Form::Json => push_json(text, passing, claimed, ops, rows, judgement, checked),
+        Form::Table => push_table_row(text, checked),
+        Form::Json => push_json(text, checked.passes(options.lawful), judged),
     }
 }

@@ -2,16 +2,18 @@
 ghost use Rattle.std.specs.Prelude.{◌≡◌, ◌++◌, ◌<◌, length, OnOk};
 ghost use Rattle.iloc_verdict.specs.Entry.Json as json;
 ghost use Rattle.iloc_verdict.specs.Counted.{CanBeListed};
+ghost use Rattle.iloc_verdict.specs.Obstacle.{IsAmong};
 
 mod comparison;
 mod operations;
 mod reason;
 
-use crate::checked::Checked;
 use crate::checked::changes::Changes;
 use crate::checked::verdict_line::{claim, push_counts};
+use crate::checked::{Checked, Judged};
+use crate::obstacle::Obstacle;
 use crate::remark::reason::push_units;
-use crate::verdict::{Judgement, Verdict};
+use crate::verdict::Verdict;
 use Piece::{Escaped, Number, Text};
 use comparison::{push_comparison, push_no_difference};
 use iloc_comparison::Form;
@@ -19,7 +21,7 @@ use iloc_ops::{NoMemory, Op};
 use iloc_pieces::{Piece, push_all};
 use iloc_rows::Unread;
 use iloc_timed::Row;
-use operations::push_operations;
+use operations::push_origins;
 use reason::{push_changes, push_reasons};
 
 /// The longest part of a line's text that is listed.
@@ -43,98 +45,16 @@ fn push_verdict(
     passing: bool,
     rows: usize,
     checked: Checked,
-    claimed: Option<u32>,
 ) -> Result<(), NoMemory>
-    ensures { OnOk result (text.new.items ≡ text.old.items ++ json.verdict_members passing rows checked claimed) }
+    ensures { OnOk result (text.new.items ≡ text.old.items ++ json.verdict_members passing rows checked) }
 {
     push_all(text, &[Text(",\"verdict\":\""), Text(checked.kind.word())])?;
     push_passing(text, passing, rows)?;
     push_counts(text, Form::Json, checked)?;
-    push_all(text, &[Text(",\"claimed\":"), claim(claimed, "null")])
-}
-
-/// Appends what comes before a reason that is alone: that nothing is compared, and what is left out and added.
-fn push_before(text: &mut Vec<u8>, changes: Changes) -> Result<(), NoMemory>
-    ensures { OnOk result (text.new.items ≡ text.old.items ++ json.before changes) }
-{
-    push_no_difference(text)?;
-    push_changes(text, changes)?;
-    Ok(text.extend_from_slice(b",\"reasons\":[")?)
-}
-
-/// Appends that this row breaks the rules of the units, and what is left out and added.
-fn push_units_members(
-    text: &mut Vec<u8>,
-    ops: &[Op],
-    rows: &[Row],
-    row: usize,
-    changes: Changes,
-) -> Result<(), NoMemory>
-    requires { row < length rows.now }
-    ensures { OnOk result (text.new.items ≡ text.old.items ++ json.units_members ops.now rows.now row changes) }
-{
-    push_before(text, changes)?;
-    push_units(text, Form::Json, ops, rows, row)?;
-    push_all(text, &[Text("],\"more\":0")])
-}
-
-/// Appends that it isn't decided whether rows are by the book.
-fn push_undecided(text: &mut Vec<u8>) -> Result<(), NoMemory>
-    ensures { OnOk result (text.new.items ≡ text.old.items ++ json.undecided_members) }
-{
-    let none = Text(",\"left_out\":null,\"added\":null");
-    let undecided = Text(",\"reasons\":[{\"kind\":\"undecided\"}],\"more\":0");
-    push_all(text, &[none, undecided])
-}
-
-/// Appends what is said of the operations `ops` in `rows` after their verdict.
-fn push_detail(
-    text: &mut Vec<u8>,
-    ops: &[Op],
-    rows: &[Row],
-    verdict: &Verdict,
-) -> Result<(), NoMemory>
-    requires { CanBeListed rows.now verdict.now }
-    ensures { OnOk result
-        (text.new.items ≡ text.old.items ++ json.detail_members ops.now rows.now verdict.now) }
-{
-    match verdict {
-        Verdict::Units(row, changes) => push_units_members(text, ops, rows, *row, *changes),
-        Verdict::Lawful => {
-            push_no_difference(text)?;
-            Ok(text.extend_from_slice(
-                b",\"left_out\":null,\"added\":null,\"reasons\":[],\"more\":0",
-            )?)
-        }
-        Verdict::Unlawful(reasons, comparison) => {
-            push_comparison(text, comparison)?;
-            push_reasons(text, reasons)
-        }
-        Verdict::Undecided(comparison) => {
-            push_comparison(text, comparison)?;
-            push_undecided(text)
-        }
-    }
-}
-
-/// Appends what is listed of operations and rows that are judged so, and pass or don't.
-pub(crate) fn push_json(
-    text: &mut Vec<u8>,
-    passing: bool,
-    claimed: Option<u32>,
-    ops: &[Op],
-    rows: &[Row],
-    judgement: &Judgement,
-    checked: Checked,
-) -> Result<(), NoMemory>
-    requires { CanBeListed rows.now judgement.now.verdict }
-    ensures { OnOk result (text.new.items ≡ text.old.items ++ json.json_of passing claimed ops.now rows.now
-        judgement.now.verdict judgement.now.origins.items checked) }
-{
-    push_verdict(text, passing, rows.len(), checked, claimed)?;
-    push_detail(text, ops, rows, &judgement.verdict)?;
-    push_operations(text, &judgement.origins, rows)?;
-    Ok(text.extend_from_slice(b"}\n")?)
+    push_all(
+        text,
+        &[Text(",\"claimed\":"), claim(checked.claimed, "null")],
+    )
 }
 
 /// Appends the first bytes of a `line`, and `..` where there are more.
@@ -168,22 +88,99 @@ fn push_unread_value(text: &mut Vec<u8>, unread: &Unread, words: &[u8]) -> Resul
     push_all(text, &[Text("\",\"problem\":\""), words, Text("\"}")])
 }
 
-/// Appends what is listed of `rows` rows of which `unread` is the first line that can't be read, with words for what is
-/// wrong with it.
-pub(crate) fn push_unread_json(
+/// Appends what keeps rows from being a schedule.
+fn push_obstacle(
     text: &mut Vec<u8>,
-    rows: usize,
-    changes: Changes,
-    claimed: Option<u32>,
-    unread: &Unread,
-    words: &[u8],
-    checked: Checked,
+    ops: &[Op],
+    rows: &[Row],
+    obstacle: &Obstacle<'_>,
 ) -> Result<(), NoMemory>
-    ensures { OnOk result (text.new.items
-        ≡ text.old.items ++ json.unread_json_of rows changes claimed unread.now words.now checked) }
+    requires { IsAmong rows.now obstacle.now }
+    ensures { OnOk result (text.new.items ≡ text.old.items ++ json.obstacle_value ops.now rows.now obstacle.now) }
 {
-    push_verdict(text, false, rows, checked, claimed)?;
+    match obstacle {
+        Obstacle::Unread(unread, words) => push_unread_value(text, unread, words),
+        Obstacle::Units(row) => push_units(text, Form::Json, ops, rows, *row),
+    }
+}
+
+/// Appends what comes before a reason that is alone: that nothing is compared, and what is left out and added.
+fn push_before(text: &mut Vec<u8>, changes: Changes) -> Result<(), NoMemory>
+    ensures { OnOk result (text.new.items ≡ text.old.items ++ json.before changes) }
+{
+    push_no_difference(text)?;
+    push_changes(text, changes)?;
+    Ok(text.extend_from_slice(b",\"reasons\":[")?)
+}
+
+/// Appends what keeps rows from being a schedule as the reason that is alone.
+fn push_refused(
+    text: &mut Vec<u8>,
+    ops: &[Op],
+    rows: &[Row],
+    obstacle: &Obstacle<'_>,
+    changes: Changes,
+) -> Result<(), NoMemory>
+    requires { IsAmong rows.now obstacle.now }
+    ensures { OnOk result (text.new.items ≡ text.old.items ++ json.refused_members ops.now rows.now obstacle.now changes) }
+{
     push_before(text, changes)?;
-    push_unread_value(text, unread, words)?;
-    Ok(text.extend_from_slice(b"],\"more\":0,\"operations\":null}\n")?)
+    push_obstacle(text, ops, rows, obstacle)?;
+    push_all(text, &[Text("],\"more\":0")])
+}
+
+/// Appends that it isn't decided whether rows are by the book.
+fn push_undecided(text: &mut Vec<u8>) -> Result<(), NoMemory>
+    ensures { OnOk result (text.new.items ≡ text.old.items ++ json.undecided_members) }
+{
+    let none = Text(",\"left_out\":null,\"added\":null");
+    let undecided = Text(",\"reasons\":[{\"kind\":\"undecided\"}],\"more\":0");
+    push_all(text, &[none, undecided])
+}
+
+/// Appends what is said of the operations `ops` in `rows` after their verdict.
+fn push_detail(
+    text: &mut Vec<u8>,
+    ops: &[Op],
+    rows: &[Row],
+    verdict: &Verdict<'_>,
+) -> Result<(), NoMemory>
+    requires { CanBeListed rows.now verdict.now }
+    ensures { OnOk result
+        (text.new.items ≡ text.old.items ++ json.detail_members ops.now rows.now verdict.now) }
+{
+    match verdict {
+        Verdict::Refused(obstacle, changes) => push_refused(text, ops, rows, obstacle, *changes),
+        Verdict::Lawful => {
+            push_no_difference(text)?;
+            Ok(text.extend_from_slice(
+                b",\"left_out\":null,\"added\":null,\"reasons\":[],\"more\":0",
+            )?)
+        }
+        Verdict::Unlawful(reasons, comparison) => {
+            push_comparison(text, comparison)?;
+            push_reasons(text, reasons)
+        }
+        Verdict::Undecided(comparison) => {
+            push_comparison(text, comparison)?;
+            push_undecided(text)
+        }
+    }
+}
+
+/// Appends what is listed of rows that are judged, and pass or don't.
+pub(crate) fn push_json(
+    text: &mut Vec<u8>,
+    passing: bool,
+    judged: &Judged<'_>,
+) -> Result<(), NoMemory>
+    requires { CanBeListed judged.now.rows.now judged.now.judgement.verdict }
+    ensures { OnOk result (text.new.items ≡ text.old.items ++ json.json_of passing judged.now.ops.now judged.now.rows.now
+        judged.now.judgement.verdict judged.now.judgement.origins.items judged.now.checked) }
+{
+    let (ops, rows) = (judged.ops, judged.rows);
+    push_verdict(text, passing, rows.len(), judged.checked)?;
+    push_detail(text, ops, rows, &judged.judgement.verdict)?;
+    push_origins(text, &judged.judgement, rows)?;
+    Ok(text.extend_from_slice(b"}\n")?)
 }

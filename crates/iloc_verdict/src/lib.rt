@@ -4,15 +4,14 @@
 mod checked;
 mod json;
 pub mod laws;
+mod obstacle;
 mod remark;
-mod unread;
 mod verdict;
 
 pub use checked::changes::{Changes, changes_of};
-pub use checked::detail::push_bad_row;
 pub use checked::kept::keeps_operations;
 pub use checked::reason::push_reasons;
-pub use checked::{Checked, found, kind_of, push_entry};
-pub use unread::{push_unread, push_unread_line};
+pub use checked::{Checked, Judged, found, kind_of, push_entry};
+pub use obstacle::{Obstacle, push_obstacle};
 pub use verdict::kind::VerdictKind;
 pub use verdict::{Judgement, Verdict};

@@ -1,5 +1,5 @@
 //! Why the rows that are proposed for a block take their cycles.
-ghost use Rattle.std.specs.Prelude.{ℕ, ◌≡◌, ◌≤◌, ◌<◌, ◌++◌, true, List, length, IfOk, OnOk};
+ghost use Rattle.std.specs.Prelude.{ℕ, ◌≡◌, ◌≤◌, ◌++◌, true, List, length, IfOk, OnOk};
 ghost use Rattle.iloc_timed.specs.Rows.{IsTable};
 ghost use Rattle.iloc_rules.specs.Greedy.{IsGreedyBy};
 ghost use Rattle.iloc_rules.specs.declared.memory_rule.MemoryRule.TheVariants.{Book};
@@ -11,23 +11,25 @@ ghost use Rattle.iloc_explain.specs.Listing.{IsExplanation};
 ghost use Rattle.iloc_explain.specs.Waiting.{WaitsForAll};
 ghost use Rattle.iloc_sched.specs.Graph.GraphOf.{of_block};
 ghost use Rattle.iloc_validation.specs.ByTheBook.{IssueTheSame};
-ghost use Rattle.iloc_verdict.specs.Entry.Listing.{bad_row};
 ghost use Rattle.iloc_verdict.specs.Entry.Reasons.{reasons_told};
+ghost use Rattle.iloc_verdict.specs.Obstacle.{obstacle_told};
+ghost use Rattle.iloc_judge.specs.Obstacle.{IsObstacle};
 ghost use Rattle.iloc_row_commands.specs.Explain.Departure.{departure, departure_line};
-ghost use Rattle.iloc_row_commands.specs.Explain.Explained.{not_lawful, IsRowsExplanation, IsSaidOf, HaveUnread};
+ghost use Rattle.iloc_row_commands.specs.Explain.Explained.{not_lawful, IsRowsExplanation, IsSaidOf};
 
 use crate::explain::departure::{departure_of, push_departure};
 use iloc_explain::push_explanation;
 use iloc_facts::Reasons;
 use iloc_graph::measure;
-use iloc_ops::{Block, NoMemory, Op};
+use iloc_judge::obstacle_of;
+use iloc_ops::{Block, NoMemory};
 use iloc_reasons::reasons_of;
-use iloc_rows::{Proposal, Unread};
+use iloc_rows::Proposal;
 use iloc_rules::Heuristic;
 use iloc_sched::Graph;
-use iloc_timed::{Latencies, MAX_ROWS, Row, Schedule, cycles_of};
+use iloc_timed::{Latencies, MAX_ROWS, Schedule, cycles_of};
 use iloc_validation::{Decision, OwnRows, decide, own_rows};
-use iloc_verdict::{push_bad_row, push_reasons, push_unread_line};
+use iloc_verdict::{Obstacle, push_obstacle, push_reasons};
 use std::alloc::Global;
 
 /// A block that somebody proposes rows for, and what we know of it.
@@ -58,15 +60,6 @@ pub struct ExplainedRows {
     pub cycles: u64,
 }
 
-/// Appends that rows aren't lawful, and the first of them that breaks the rules of the units.
-fn push_units(text: &mut Vec<u8>, ops: &[Op], rows: &[Row], row: usize) -> Result<(), NoMemory>
-    requires { row < length rows.now }
-    ensures { OnOk result (text.new.items ≡ text.old.items ++ not_lawful (bad_row ops.now rows.now row)) }
-{
-    text.extend_from_slice(b"  not lawful\n")?;
-    push_bad_row(text, ops, rows, row)
-}
-
 /// Appends that rows aren't lawful, and why.
 fn push_why(text: &mut Vec<u8>, reasons: &Reasons) -> Result<(), NoMemory>
     ensures { OnOk result (text.new.items ≡ text.old.items ++ not_lawful (reasons_told reasons.now)) }
@@ -75,13 +68,18 @@ fn push_why(text: &mut Vec<u8>, reasons: &Reasons) -> Result<(), NoMemory>
     push_reasons(text, reasons)
 }
 
-/// Appends that rows aren't lawful, and the first line among them that can't be read.
-fn push_unread_rows(alloc: Global, text: &mut Vec<u8>, unread: &Unread) -> Result<(), NoMemory>
-    ensures { OnOk result ((entry : List ℕ) × HaveUnread unread.now entry
-        × (text.new.items ≡ text.old.items ++ entry)) }
+/// Appends that a proposal isn't lawful, and what keeps it from being a schedule.
+fn push_refused(
+    text: &mut Vec<u8>,
+    proposal: &Proposal,
+    obstacle: &Obstacle<'_>,
+) -> Result<(), NoMemory>
+    requires { IsObstacle proposal.now obstacle.now }
+    ensures { OnOk result (text.new.items
+        ≡ text.old.items ++ not_lawful (obstacle_told proposal.now.ops proposal.now.rows obstacle.now)) }
 {
     text.extend_from_slice(b"  not lawful\n")?;
-    push_unread_line(alloc, text, unread)
+    push_obstacle(text, proposal.ops(), proposal.rows(), obstacle)
 }
 
 /// Appends what explains rows by the book, in the block's own numbers, and where they leave the greedy choice.
@@ -146,29 +144,6 @@ fn push_said(
     }
 }
 
-/// Appends what is said of a proposal whose rows can all be read, beside our schedule of the block, and answers whether it is by
-/// the book.
-fn push_read_rows(
-    alloc: Global,
-    text: &mut Vec<u8>,
-    known: &KnownBlock<'_>,
-    proposal: Proposal,
-) -> Result<bool, NoMemory>
-    ensures said { IfOk result (λ is_lawful. (entry : List ℕ)
-        × IsSaidOf is_lawful known.now.heuristic known.now.latencies.now known.now.block.now.ops proposal.ops proposal.rows
-        entry × (text.new.items ≡ text.old.items ++ entry)) }
-    ensures own { IfOk result (λ is_lawful.
-        IssueTheSame known.now.ours.now.ops known.now.ours.now.rows proposal.ops proposal.rows → is_lawful ≡ true) }
-{
-    if let Some(row) = proposal.bad_row() {
-        push_units(text, proposal.ops(), proposal.rows(), row)?;
-        return Ok(false);
-    }
-    let theirs = proposal.into_schedule();
-    prove!(theirs.rows().len() <= MAX_ROWS);
-    push_said(alloc, text, known, &theirs)
-}
-
 /// Appends what explains the rows that are proposed for a block, beside our schedule of it, after the block's head. Rows by the
 /// book are explained as the schedule of the block that they are, with each operation as the block has it and as it is issued,
 /// and the first row that leaves the greedy choice is named; of others it is said that they aren't lawful, and why, or that this
@@ -186,15 +161,16 @@ pub(crate) fn push_rows_explanation(
         × IsRowsExplanation known.now.heuristic known.now.latencies.now known.now.block.now.ops known.now.ours.now proposal
         found entry × (text.new.items ≡ text.old.items ++ entry)) }
 {
-    let (ops, rows) = (proposal.ops(), proposal.rows());
-    let cycles = cycles_of(ops, rows, known.latencies);
-    if let Some(unread) = proposal.unread() {
-        push_unread_rows(alloc, text, unread)?;
+    let cycles = cycles_of(proposal.ops(), proposal.rows(), known.latencies);
+    if let Some(obstacle) = obstacle_of(alloc, &proposal)? {
+        push_refused(text, &proposal, &obstacle)?;
         return Ok(ExplainedRows {
             is_lawful: false,
             cycles,
         });
     }
-    let is_lawful = push_read_rows(alloc, text, known, proposal)?;
+    let theirs = proposal.into_schedule();
+    prove!(theirs.rows().len() <= MAX_ROWS);
+    let is_lawful = push_said(alloc, text, known, &theirs)?;
     Ok(ExplainedRows { is_lawful, cycles })
 }

@@ -6,7 +6,7 @@ use Rattle.iloc_ops.specs.Spelling.{spelling}
 use Rattle.iloc_ops.specs.declared.op.Op.{Op}
 use Rattle.iloc_pieces.specs.Escaped.{escaped}
 use Rattle.iloc_timed.specs.declared.row.Row.{Row}
-use Rattle.iloc_rows.specs.declared.proposal.unread.Unread.{Unread}
+use Rattle.iloc_rows.specs.declared.proposal.unread.Unread as line
 use Rattle.iloc_facts.specs.declared.lawfulness.Added.{Added}
 use Rattle.iloc_facts.specs.declared.lawfulness.LeftOut.{LeftOut}
 use Rattle.iloc_facts.specs.declared.fact.Fact.{Fact}
@@ -19,7 +19,9 @@ use Rattle.iloc_comparison.specs.declared.difference.Difference.{Difference}
 use Rattle.iloc_comparison.specs.declared.refutation.probe.Probe.{Probe}
 use Rattle.iloc_verdict.specs.declared.verdict.Verdict.{Verdict}
 use Rattle.iloc_verdict.specs.declared.verdict.kind.VerdictKind.{VerdictKind}
-use Rattle.iloc_verdict.specs.declared.verdict.Verdict.TheVariants.{Units, Lawful, Unlawful, Undecided}
+use Rattle.iloc_verdict.specs.declared.verdict.Verdict.TheVariants.{Refused, Lawful, Unlawful, Undecided}
+use Rattle.iloc_verdict.specs.declared.obstacle.Obstacle.{Obstacle}
+use Rattle.iloc_verdict.specs.declared.obstacle.Obstacle.TheVariants.{Unread, Units}
 use Rattle.iloc_comparison.specs.declared.task.Form.TheVariants.{Json}
 use Rattle.iloc_verdict.specs.Entry.Listing.{claim_or, counts_as, kind_word}
 use Rattle.iloc_verdict.specs.Remarks.{difference_remark, fact_remark, units_remark, void_remark}
@@ -39,9 +41,9 @@ abbrev pub claim_member : Option ℕ → List ℕ
 claim_member claimed = codes ",\"claimed\":" ++ claim_or (codes "null") claimed
 
 -- the word for the verdict, whether the `rows` rows pass, and the numbers that go with it
-abbrev pub verdict_members : Bool → ℕ → Checked → Option ℕ → List ℕ
-verdict_members passing rows checked claimed =
-    kind_member checked.kind ++ passing_members passing rows ++ counts_as Json checked ++ claim_member claimed
+abbrev pub verdict_members : Bool → ℕ → Checked → List ℕ
+verdict_members passing rows checked =
+    kind_member checked.kind ++ passing_members passing rows ++ counts_as Json checked ++ claim_member checked.claimed
 
 -- How rows compare with their block
 
@@ -100,19 +102,35 @@ reasons_members it =
 
 -- All of a verdict
 
+-- the first 64 bytes of a line within a string, and `..` where more follow
+unfoldable pub start_of : List ℕ → List ℕ
+start_of text =
+    if nat_lt 64 (length text) then flat_map escaped (take 64 text) ++ codes ".." else flat_map escaped text
+
+-- where the line is, from 1, and which row it would be, from 0, with the start of its text and some words
+abbrev pub unread_value : line.Unread → List ℕ → List ℕ
+unread_value unread words =
+    codes "{\"kind\":\"unread\",\"line\":" ++ decimal unread.line ++ codes ",\"row\":" ++ decimal unread.row
+    ++ codes ",\"text\":\"" ++ start_of unread.text ++ (codes "\",\"problem\":\"" ++ flat_map escaped words ++ codes "\"}")
+
+-- what keeps rows from being a schedule
+abbrev pub obstacle_value : List Op → List Row → Obstacle → List ℕ
+obstacle_value ops rows (Unread unread words) = unread_value unread.now words.items
+obstacle_value ops rows (Units c) = units_remark Json ops rows c
+
 -- what comes before a reason that is alone: that nothing is compared, and what is left out and added
 abbrev pub before : Changes → List ℕ
 before changes = no_difference ++ changes_members changes ++ codes ",\"reasons\":["
 
-abbrev pub units_members : List Op → List Row → ℕ → Changes → List ℕ
-units_members ops rows c changes = before changes ++ units_remark Json ops rows c ++ codes "],\"more\":0"
+abbrev pub refused_members : List Op → List Row → Obstacle → Changes → List ℕ
+refused_members ops rows obstacle changes = before changes ++ obstacle_value ops rows obstacle ++ codes "],\"more\":0"
 
 abbrev pub undecided_members : List ℕ
 undecided_members = codes ",\"left_out\":null,\"added\":null" ++ codes ",\"reasons\":[{\"kind\":\"undecided\"}],\"more\":0"
 
 -- what is said of operations and rows after the verdict
 abbrev pub detail_members : List Op → List Row → Verdict → List ℕ
-detail_members ops rows (Units c changes) = units_members ops rows c changes
+detail_members ops rows (Refused obstacle changes) = refused_members ops rows obstacle changes
 detail_members ops rows Lawful = no_difference ++ codes ",\"left_out\":null,\"added\":null,\"reasons\":[],\"more\":0"
 detail_members ops rows (Unlawful reasons found) = comparison_members found ++ reasons_members reasons
 detail_members ops rows (Undecided found) = comparison_members found ++ undecided_members
@@ -140,28 +158,14 @@ rows_values origins (row ∷ rest) = row_value origins row ++ flat_map (λ r. co
 abbrev pub operations_member : List (Option ℕ) → List Row → List ℕ
 operations_member origins rows = codes ",\"operations\":[" ++ rows_values origins rows ++ codes "]"
 
+-- null where a line can't be read
+abbrev pub origins_member : Verdict → List (Option ℕ) → List Row → List ℕ
+origins_member (Refused (Unread unread words) changes) origins rows = codes ",\"operations\":null"
+origins_member verdict origins rows = operations_member origins rows
+
 -- All of it
 
-abbrev pub json_of : (passing : Bool) → Option ℕ → List Op → List Row → Verdict → List (Option ℕ) → Checked → List ℕ
-json_of passing claimed ops rows verdict origins checked =
-    verdict_members passing (length rows) checked claimed ++ detail_members ops rows verdict
-    ++ operations_member origins rows ++ codes "}\n"
-
--- Rows among which a line can't be read
-
--- the first 64 bytes of a line within a string, and `..` where more follow
-unfoldable pub start_of : List ℕ → List ℕ
-start_of text =
-    if nat_lt 64 (length text) then flat_map escaped (take 64 text) ++ codes ".." else flat_map escaped text
-
--- where the line is, from 1, and which row it would be, from 0, with the start of its text and some words
-abbrev pub unread_value : Unread → List ℕ → List ℕ
-unread_value unread words =
-    codes "{\"kind\":\"unread\",\"line\":" ++ decimal unread.line ++ codes ",\"row\":" ++ decimal unread.row
-    ++ codes ",\"text\":\"" ++ start_of unread.text ++ (codes "\",\"problem\":\"" ++ flat_map escaped words ++ codes "\"}")
-
--- the line of `rows` rows, which don't pass
-abbrev pub unread_json_of : ℕ → Changes → Option ℕ → Unread → List ℕ → Checked → List ℕ
-unread_json_of rows changes claimed unread words checked =
-    verdict_members false rows checked claimed ++ before changes ++ unread_value unread words
-    ++ codes "],\"more\":0,\"operations\":null}\n"
+abbrev pub json_of : (passing : Bool) → List Op → List Row → Verdict → List (Option ℕ) → Checked → List ℕ
+json_of passing ops rows verdict origins checked =
+    verdict_members passing (length rows) checked ++ detail_members ops rows verdict ++ origins_member verdict origins rows
+    ++ codes "}\n"

@@ -11,12 +11,13 @@ use Rattle.iloc_comparison.specs.declared.task.Form.{Form}
 use Rattle.iloc_comparison.specs.declared.task.Form.TheVariants.{Lines, Table, Json}
 use Rattle.iloc_comparison.specs.declared.refutation.probe.Probe.{Probe}
 use Rattle.iloc_verdict.specs.declared.verdict.Verdict.{Verdict}
-use Rattle.iloc_verdict.specs.declared.verdict.Verdict.TheVariants.{Units, Lawful, Unlawful, Undecided}
+use Rattle.iloc_verdict.specs.declared.verdict.Verdict.TheVariants.{Refused, Lawful, Unlawful, Undecided}
 use Rattle.iloc_verdict.specs.declared.verdict.kind.VerdictKind.{VerdictKind}
 use Rattle.iloc_verdict.specs.declared.verdict.kind.VerdictKind.TheVariants as kind
 use Rattle.iloc_verdict.specs.declared.checked.Checked.{Checked}
 use Rattle.iloc_verdict.specs.Entry.Reasons.{reasons_told}
-use Rattle.iloc_verdict.specs.Remarks.{difference_remark, units_remark, void_remark}
+use Rattle.iloc_verdict.specs.Obstacle.{obstacle_told}
+use Rattle.iloc_verdict.specs.Remarks.{difference_remark, void_remark}
 
 -- The line of the verdict
 
@@ -54,9 +55,9 @@ wrong_claim cycles None = []
 wrong_claim cycles (Some claim) = if claim == cycles then [] else codes " claimed " ++ decimal claim
 
 -- ` WORD cycles C ours O least L`, with what was sought before the least, and where a claim is wrong ` claimed X`
-abbrev pub line_of : Checked → Option ℕ → List ℕ
-line_of checked claimed =
-    codes " " ++ kind_word checked.kind ++ counts_as Lines checked ++ wrong_claim checked.cycles claimed ++ codes "\n"
+abbrev pub line_of : Checked → List ℕ
+line_of checked =
+    codes " " ++ kind_word checked.kind ++ counts_as Lines checked ++ wrong_claim checked.cycles checked.claimed ++ codes "\n"
 
 -- the number of cycles that is claimed, right or wrong; `none` where none is
 abbrev pub claim_or : List ℕ → Option ℕ → List ℕ
@@ -64,9 +65,10 @@ claim_or none None = none
 claim_or none (Some claim) = decimal claim
 
 -- the row of a table: `,WORD,C,O,L,X`, with what was sought before the least, where X is the claim
-abbrev pub row_of : Checked → Option ℕ → List ℕ
-row_of checked claimed =
-    codes "," ++ kind_word checked.kind ++ counts_as Table checked ++ codes "," ++ claim_or (codes "") claimed ++ codes "\n"
+abbrev pub row_of : Checked → List ℕ
+row_of checked =
+    codes "," ++ kind_word checked.kind ++ counts_as Table checked ++ codes "," ++ claim_or (codes "") checked.claimed
+    ++ codes "\n"
 
 -- The line of how rows compare with their block
 
@@ -83,10 +85,6 @@ comparison_told _ = []
 
 -- All of a verdict
 
--- `row N: [ X ; Y ]`, counted from 0 as cycles are, and the first rule that it breaks
-abbrev pub bad_row : List Op → List Row → ℕ → List ℕ
-bad_row ops rows c = units_remark Lines ops rows c ++ codes "\n"
-
 -- that there are no rows, where there are none
 abbrev pub no_rows_told : List Row → List ℕ
 no_rows_told [] = codes "  no rows\n"
@@ -95,11 +93,11 @@ no_rows_told (row ∷ rows) = []
 -- What is said of the operations `ops` in `rows` below the line of the verdict: where it comes from, and why they
 -- aren't lawful.
 abbrev pub detail : List Op → List Row → Verdict → List ℕ
-detail ops rows (Units c changes) = bad_row ops rows c
+detail ops rows (Refused obstacle changes) = obstacle_told ops rows obstacle
 detail ops rows Lawful = []
 detail ops rows (Unlawful reasons found) = no_rows_told rows ++ comparison_told found ++ reasons_told reasons
 detail ops rows (Undecided found) = no_rows_told rows ++ comparison_told found ++ codes "  undecided\n"
 
--- the line of the verdict, for which cycles are `claimed`, with what is said below it
-abbrev pub lines_of : Option ℕ → List Op → List Row → Verdict → Checked → List ℕ
-lines_of claimed ops rows verdict checked = line_of checked claimed ++ detail ops rows verdict
+-- the line of the verdict, with what is said below it
+abbrev pub lines_of : List Op → List Row → Verdict → Checked → List ℕ
+lines_of ops rows verdict checked = line_of checked ++ detail ops rows verdict

@@ -1,11 +1,11 @@
 //! The lines that tell where rows go wrong.
-ghost use Rattle.std.specs.Prelude.{◌≡◌, ◌++◌, ◌<◌, length, OnOk};
+ghost use Rattle.std.specs.Prelude.{◌≡◌, ◌++◌, OnOk};
 ghost use Rattle.iloc_verdict.specs.Entry.Listing as listed;
 ghost use Rattle.iloc_verdict.specs.Counted.{CanBeCompared, CanBeListed};
 
 use super::reason::push_reasons;
+use crate::obstacle::push_obstacle;
 use crate::remark::comparison::{push_difference, push_void};
-use crate::remark::reason::push_units;
 use crate::verdict::Verdict;
 use Piece::{Number, Text};
 use iloc_comparison::{Comparison, Form, Probe};
@@ -41,20 +41,6 @@ fn push_comparison(text: &mut Vec<u8>, comparison: &Comparison) -> Result<(), No
     Ok(text.push(b'\n')?)
 }
 
-/// Promise: appends the line of this row, as one that breaks the rules of the units, with the rule.
-pub fn push_bad_row(
-    text: &mut Vec<u8>,
-    ops: &[Op],
-    rows: &[Row],
-    row: usize,
-) -> Result<(), NoMemory>
-    requires { row < length rows.now }
-    ensures { OnOk result (text.new.items ≡ text.old.items ++ listed.bad_row ops.now rows.now row) }
-{
-    push_units(text, Form::Lines, ops, rows, row)?;
-    Ok(text.push(b'\n')?)
-}
-
 /// Appends that a proposal has no rows, if it has none.
 fn push_no_rows(text: &mut Vec<u8>, rows: &[Row]) -> Result<(), NoMemory>
     ensures { OnOk result (text.new.items ≡ text.old.items ++ listed.no_rows_told rows.now) }
@@ -70,13 +56,13 @@ pub(crate) fn push_detail(
     text: &mut Vec<u8>,
     ops: &[Op],
     rows: &[Row],
-    verdict: &Verdict,
+    verdict: &Verdict<'_>,
 ) -> Result<(), NoMemory>
     requires { CanBeListed rows.now verdict.now }
     ensures { OnOk result (text.new.items ≡ text.old.items ++ listed.detail ops.now rows.now verdict.now) }
 {
     match verdict {
-        Verdict::Units(row, _) => push_bad_row(text, ops, rows, *row),
+        Verdict::Refused(obstacle, _) => push_obstacle(text, ops, rows, obstacle),
         Verdict::Lawful => Ok(()),
         Verdict::Unlawful(reasons, comparison) => {
             push_no_rows(text, rows)?;

@@ -45,12 +45,12 @@ pub(crate) fn push_counts(text: &mut Vec<u8>, form: Form, checked: Checked) -> R
     push_count(text, form, "least", checked.least)
 }
 
-/// Appends ` claimed X` where a number of cycles is claimed and isn't this one.
-fn push_wrong_claim(text: &mut Vec<u8>, cycles: u64, claimed: Option<u32>) -> Result<(), NoMemory>
-    ensures { OnOk result (text.new.items ≡ text.old.items ++ listed.wrong_claim cycles claimed) }
+/// Appends ` claimed X` where a number of cycles is claimed and isn't that of the rows.
+fn push_wrong_claim(text: &mut Vec<u8>, checked: Checked) -> Result<(), NoMemory>
+    ensures { OnOk result (text.new.items ≡ text.old.items ++ listed.wrong_claim checked.cycles checked.claimed) }
 {
-    match claimed {
-        Some(claim) if u64::from(claim) != cycles => {
+    match checked.claimed {
+        Some(claim) if u64::from(claim) != checked.cycles => {
             push_all(text, &[Text(" claimed "), Number(u64::from(claim))])
         }
         _ => Ok(()),
@@ -58,16 +58,12 @@ fn push_wrong_claim(text: &mut Vec<u8>, cycles: u64, claimed: Option<u32>) -> Re
 }
 
 /// Appends the line with the word for the verdict, the numbers that go with it and the number of cycles that is claimed.
-pub(crate) fn push_line(
-    text: &mut Vec<u8>,
-    checked: Checked,
-    claimed: Option<u32>,
-) -> Result<(), NoMemory>
-    ensures { OnOk result (text.new.items ≡ text.old.items ++ listed.line_of checked claimed) }
+pub(crate) fn push_line(text: &mut Vec<u8>, checked: Checked) -> Result<(), NoMemory>
+    ensures { OnOk result (text.new.items ≡ text.old.items ++ listed.line_of checked) }
 {
     push_all(text, &[Text(" "), Text(checked.kind.word())])?;
     push_counts(text, Form::Lines, checked)?;
-    push_wrong_claim(text, checked.cycles, claimed)?;
+    push_wrong_claim(text, checked)?;
     Ok(text.push(b'\n')?)
 }
 
@@ -82,14 +78,10 @@ pub(crate) fn claim<'a>(claimed: Option<u32>, none: &'a str) -> Piece<'a>
 }
 
 /// Appends the row of a table with the word for the verdict, the numbers that go with it and the number of cycles that is claimed.
-pub(crate) fn push_table_row(
-    text: &mut Vec<u8>,
-    checked: Checked,
-    claimed: Option<u32>,
-) -> Result<(), NoMemory>
-    ensures { OnOk result (text.new.items ≡ text.old.items ++ listed.row_of checked claimed) }
+pub(crate) fn push_table_row(text: &mut Vec<u8>, checked: Checked) -> Result<(), NoMemory>
+    ensures { OnOk result (text.new.items ≡ text.old.items ++ listed.row_of checked) }
 {
     push_all(text, &[Text(","), Text(checked.kind.word())])?;
     push_counts(text, Form::Table, checked)?;
-    push_all(text, &[Text(","), claim(claimed, ""), Text("\n")])
+    push_all(text, &[Text(","), claim(checked.claimed, ""), Text("\n")])
 }

@@ -4,6 +4,8 @@ ghost use Rattle.std.specs.List.{flat_map};
 ghost use Rattle.iloc_pieces.specs.Pieces.{piece_text};
 ghost use Rattle.iloc_verdict.specs.Entry.Json as json;
 
+use crate::obstacle::Obstacle;
+use crate::verdict::{Judgement, Verdict};
 use Piece::{Number, Text};
 use iloc_ops::NoMemory;
 use iloc_pieces::{Piece, push_all};
@@ -56,7 +58,7 @@ fn push_rows(text: &mut Vec<u8>, origins: &[Option<usize>], rows: &[Row]) -> Res
 }
 
 /// Appends for each row the numbers that are noted for its two slots.
-pub(crate) fn push_operations(
+fn push_operations(
     text: &mut Vec<u8>,
     origins: &[Option<usize>],
     rows: &[Row],
@@ -66,4 +68,21 @@ pub(crate) fn push_operations(
     text.extend_from_slice(b",\"operations\":[")?;
     push_rows(text, origins, rows)?;
     Ok(text.extend_from_slice(b"]")?)
+}
+
+/// Appends which operation of the block each of `rows` is, null where a line can't be read.
+pub(crate) fn push_origins(
+    text: &mut Vec<u8>,
+    judgement: &Judgement<'_>,
+    rows: &[Row],
+) -> Result<(), NoMemory>
+    ensures { OnOk result (text.new.items ≡ text.old.items
+        ++ json.origins_member judgement.now.verdict judgement.now.origins.items rows.now) }
+{
+    match &judgement.verdict {
+        Verdict::Refused(Obstacle::Unread(..), _) => {
+            Ok(text.extend_from_slice(b",\"operations\":null")?)
+        }
+        _ => push_operations(text, &judgement.origins, rows),
+    }
 }

@@ -9,4 +9,4 @@ cycles_of-requires-clause-numbered c =
 
 pub returns : goal.returns
 returns c =
-    rw (c.cycles_of.ensures, c.ops.ensures, c.rows.ensures.rows) refl
+    rw (c.cycles_of.ensures, c.ops.ensures, c.rows.ensures.rows, c.claimed.ensures) refl

@@ -11,4 +11,4 @@ returns c =
     on_ok_weaker c.push_all-2.result
     (λ e. e ∙ rw (c.claim.ensures, c.in_ok-push_counts.ensures, c.in_ok-push_passing.ensures, c.in_ok-push_all.ensures, c.word.ensures)
     (four c.args.text.now.items (kind_member c.args.checked.kind) (passing_members c.args.passing c.args.rows)
-    (counts_as Json c.args.checked) (claim_member c.args.claimed))) c.push_all-2.ensures
+    (counts_as Json c.args.checked) (claim_member c.args.checked.claimed))) c.push_all-2.ensures

@@ -1,4 +1,4 @@
-use Rattle.iloc_row_commands.proofs.Common.{refl, ◌∙◌, inl, inr, append_assoc, reasons_told, not_lawful}
+use Rattle.iloc_row_commands.proofs.Common.{refl, ◌∙◌, inl, append_assoc, reasons_told, not_lawful}
 use Rattle.iloc_validation.proofs.Outcomes.{own_lawful}
 use Rattle.iloc_row_commands.proofs.explain.explained.push_said.Goals as goal
 
@@ -42,12 +42,12 @@ returns-in_ok-push_own-in-Lawful-clause-said c =
 pub returns-in_ok-push_why-in-Unlawful-clause-said : goal.returns-in_ok-push_why-in-Unlawful-clause-said
 returns-in_ok-push_why-in-Unlawful-clause-said c = (
   not_lawful (reasons_told c.in_ok-reasons-in-Unlawful.reasons),
-  inr (inl (record {
+  inl (record {
     reasons = c.in_ok-reasons-in-Unlawful.reasons;
     table = c.requires.table;
     refuted = rw c.in-Unlawful.is at c.in_ok-pairing.ensures.right;
     hold = c.in_ok-reasons-in-Unlawful.ensures;
     listed = refl;
-  })),
+  }),
   c.in_ok-push_why-in-Unlawful.ensures,
 )

@@ -9,7 +9,7 @@ use Rattle.iloc_row_commands.proofs.trace.RowsTracerRowLister.list.Goals as goal
 traced_listed : (lat : Latencies) (memory start : List ℤ) (k : ℕ) (b : Block) (p : Proposed) (traced : Bool)
     (text headed lined more said : List ℕ) (name : Option (List ℕ)) → memory ≡ start → name ≡ b.name
     → headed ≡ text ++ block_head k name → lined ≡ headed ++ codes "\n"
-    → IsTraceOf p.unread traced lat memory p.ops p.rows said → more ≡ lined ++ said
+    → IsTraceOf traced lat memory p said → more ≡ lined ++ said
     → AppendsEntry (IsRowsTraceEntry lat start k (b, p)) text more traced
 traced_listed lat memory start k b p traced text headed lined more said name starts named opened ended is added = grind (arith, parts_joined)
 

@@ -1,4 +1,4 @@
-use Rattle.iloc_verdict.proofs.checked.kept.keeps_operations.Goals as goal
+use Rattle.iloc_verdict.proofs.checked.kept.has_asked.Goals as goal
 
 pub returns-in_ok-wanted : goal.returns-in_ok-wanted
 returns-in_ok-wanted c =
