@@ -46,24 +46,32 @@ pub(crate) fn ranks_of(
     Ok(ranks)
 }
 
-/// Appends what is said of a schedule of the block: cycle by cycle or operation by operation.
+/// A schedule of a block that waits for all delays, and what is measured of the block.
+#[derive(Drop)]
+struct Explained<'a> {
+    block: &'a Block,
+    latencies: &'a Latencies,
+    measures: &'a Measures,
+    schedule: &'a Schedule,
+    ghost names: { schedule.now.ops ≡ renamed block.now.ops },
+    ghost waits: { WaitsForAll measures.now.counted.rule latencies.now schedule.now.ops schedule.now.rows },
+}
+
+/// Appends what is said of a schedule: cycle by cycle or operation by operation.
 fn push_said(
     alloc: Global,
     text: &mut Vec<u8>,
-    block: &Block,
-    latencies: &Latencies,
-    measures: &Measures,
-    schedule: &Schedule,
+    explained: &Explained<'_>,
     by_cycle: bool,
 ) -> Result<(), NoMemory>
-    requires names { schedule.now.ops ≡ renamed block.now.ops }
-    requires measured { AreMeasures latencies.now schedule.now.ops measures.now }
-    requires waits { WaitsForAll measures.now.counted.rule latencies.now schedule.now.ops schedule.now.rows }
+    requires { AreMeasures explained.now.latencies.now explained.now.schedule.now.ops explained.now.measures.now }
     ensures { OnOk result ((said : List ℕ)
-        × IsSaid by_cycle measures.now.ranks.items measures.now.counted.rule latencies.now measures.now.least block.now.ops
-        schedule.now said
+        × IsSaid by_cycle explained.now.measures.now.ranks.items explained.now.measures.now.counted.rule
+        explained.now.latencies.now explained.now.measures.now.least explained.now.block.now.ops explained.now.schedule.now said
         × (text.new.items ≡ text.old.items ++ said)) }
 {
+    let (block, latencies) = (explained.block, explained.latencies);
+    let (measures, schedule) = (explained.measures, explained.schedule);
     if by_cycle {
         return push_ready_list(alloc, text, latencies, measures, schedule);
     }
@@ -76,56 +84,41 @@ fn push_rows(
     alloc: Global,
     text: &mut Vec<u8>,
     number: usize,
-    block: &Block,
-    latencies: &Latencies,
-    measures: &Measures,
-    schedule: &Schedule,
+    explained: &Explained<'_>,
 ) -> Result<(), NoMemory>
     requires number { number < 2 ^ 63 }
-    requires names { schedule.now.ops ≡ renamed block.now.ops }
-    requires measured { AreMeasures latencies.now schedule.now.ops measures.now }
-    requires waits { WaitsForAll measures.now.counted.rule latencies.now schedule.now.ops schedule.now.rows }
+    requires measured { AreMeasures explained.now.latencies.now explained.now.schedule.now.ops explained.now.measures.now }
     ensures { OnOk result ((table : List (List ℕ))
-        × AreTableRows measures.now.ranks.items measures.now.counted.rule latencies.now block.now.ops schedule.now.ops
-        schedule.now.rows table
-        × (text.new.items ≡ text.old.items ++ with_block true number block.now.name table)) }
+        × AreTableRows explained.now.measures.now.ranks.items explained.now.measures.now.counted.rule
+        explained.now.latencies.now explained.now.block.now.ops explained.now.schedule.now.ops
+        explained.now.schedule.now.rows table
+        × (text.new.items ≡ text.old.items ++ with_block true number explained.now.block.now.name table)) }
 {
+    let (block, latencies) = (explained.block, explained.latencies);
+    let (measures, schedule) = (explained.measures, explained.schedule);
     let mut head = Vec::new(alloc);
     push_head(&mut head, true, number, block.name.as_ref())?;
     push_table(alloc, text, &head, block, latencies, measures, schedule)
 }
 
-/// Appends the head of block `number`, and what is said of `schedule`.
+/// Appends the head of block `number`, and what is said of its schedule.
 fn push_text(
     alloc: Global,
     text: &mut Vec<u8>,
-    request: &Request,
     number: usize,
-    block: &Block,
-    measures: &Measures,
-    schedule: &Schedule,
+    explained: &Explained<'_>,
+    by_cycle: bool,
 ) -> Result<(), NoMemory>
     requires number { number < 2 ^ 63 }
-    requires names { schedule.now.ops ≡ renamed block.now.ops }
-    requires measured { AreMeasures request.now.latencies schedule.now.ops measures.now }
-    requires waits { WaitsForAll measures.now.counted.rule request.now.latencies schedule.now.ops schedule.now.rows }
+    requires measured { AreMeasures explained.now.latencies.now explained.now.schedule.now.ops explained.now.measures.now }
     ensures { OnOk result ((said : List ℕ)
-        × IsSaid (has request.now.flags Cycles) measures.now.ranks.items measures.now.counted.rule request.now.latencies
-        measures.now.least block.now.ops schedule.now said
-        × (text.new.items ≡ text.old.items ++ with_block false number block.now.name (said ∷ []))) }
+        × IsSaid by_cycle explained.now.measures.now.ranks.items explained.now.measures.now.counted.rule
+        explained.now.latencies.now explained.now.measures.now.least explained.now.block.now.ops explained.now.schedule.now said
+        × (text.new.items ≡ text.old.items ++ with_block false number explained.now.block.now.name (said ∷ []))) }
 {
-    push_block_head(text, number, block.name.as_ref())?;
+    push_block_head(text, number, explained.block.name.as_ref())?;
     text.push(b'\n')?;
-    let by_cycle = request.flags.has(Flag::Cycles);
-    push_said(
-        alloc,
-        text,
-        block,
-        &request.latencies,
-        measures,
-        schedule,
-        by_cycle,
-    )
+    push_said(alloc, text, explained, by_cycle)
 }
 
 /// Appends the entry of block `number`, as `request` asks for it.
@@ -134,32 +127,23 @@ fn push_entry(
     text: &mut Vec<u8>,
     request: &Request,
     number: usize,
-    block: &Block,
-    measures: &Measures,
-    schedule: &Schedule,
+    explained: &Explained<'_>,
 ) -> Result<(), NoMemory>
     requires number { number < 2 ^ 63 }
-    requires names { schedule.now.ops ≡ renamed block.now.ops }
-    requires measured { AreMeasures request.now.latencies schedule.now.ops measures.now }
-    requires waits { WaitsForAll measures.now.counted.rule request.now.latencies schedule.now.ops schedule.now.rows }
+    requires measured { AreMeasures explained.now.latencies.now explained.now.schedule.now.ops explained.now.measures.now }
     ensures { OnOk result ((said : List (List ℕ))
-        × AreSaid (has request.now.flags Csv) (has request.now.flags Cycles) measures.now.ranks.items measures.now.counted.rule
-        request.now.latencies measures.now.least block.now.ops schedule.now said
-        × (text.new.items ≡ text.old.items ++ with_block (has request.now.flags Csv) number block.now.name said)) }
+        × AreSaid (has request.now.flags Csv) (has request.now.flags Cycles) explained.now.measures.now.ranks.items
+        explained.now.measures.now.counted.rule explained.now.latencies.now explained.now.measures.now.least
+        explained.now.block.now.ops explained.now.schedule.now said
+        × (text.new.items
+        ≡ text.old.items ++ with_block (has request.now.flags Csv) number explained.now.block.now.name said)) }
 {
     let csv = request.flags.has(Flag::Csv);
+    let by_cycle = request.flags.has(Flag::Cycles);
     if csv {
-        push_rows(
-            alloc,
-            text,
-            number,
-            block,
-            &request.latencies,
-            measures,
-            schedule,
-        )
+        push_rows(alloc, text, number, explained)
     } else {
-        push_text(alloc, text, request, number, block, measures, schedule)
+        push_text(alloc, text, number, explained, by_cycle)
     }
 }
 
@@ -232,16 +216,14 @@ impl FarmedLister for ExplainLister {
         let measures = measure(alloc, &self.graph, ranks)?;
         let schedule = self.scheduler.lend(&self.graph, &measures.ranks)?;
         let cycles = count_of(&schedule, latencies);
-        self.text.clear();
-        push_entry(
-            alloc,
-            &mut self.text,
-            request,
-            number,
+        let explained = Explained {
             block,
-            &measures,
-            &schedule,
-        )?;
+            latencies,
+            measures: &measures,
+            schedule: &schedule,
+        };
+        self.text.clear();
+        push_entry(alloc, &mut self.text, request, number, &explained)?;
         let entry = self.entries.entry_of(&self.text, cycles)?;
         self.scheduler.take_back(schedule);
         Ok(entry)

@@ -9,4 +9,5 @@ returns-then-csv c =
 pub returns-else-csv : goal.returns-else-csv
 returns-else-csv c =
     let asked = sym c.has-csv.ensures ∙ c.if-csv.false in
-    on_ok_weaker c.push_text.result (λ told. (told.0 ∷ [], rw asked (told.0, told.1, refl), rw asked told.2)) c.push_text.ensures
+    on_ok_weaker c.push_text.result
+    (λ told. (told.0 ∷ [], rw asked (told.0, rw c.has-by_cycle.ensures at told.1, refl), rw asked told.2)) c.push_text.ensures

@@ -6,7 +6,7 @@ pub returns : goal.returns
 returns c =
     on_ok_weaker c.push_said.result (λ told. (
       told.0,
-      rw c.has-by_cycle.ensures at told.1,
-      text_with_block c.args.text.now.items _ _ _ told.0 c.args.number c.args.block.now _ c.in_ok-push_block_head.ensures
+      told.1,
+      text_with_block c.args.text.now.items _ _ _ told.0 c.args.number c.args.explained.now.block.now _ c.in_ok-push_block_head.ensures
           c.as_ref.ensures.value c.in_ok-push.ensures.items told.2,
     )) c.push_said.ensures

@@ -13,10 +13,14 @@ measure-requires c =
 pub lend-requires : goal.lend-requires
 lend-requires c = ap length c.deref.ensures.value ∙ c.in_ok-measures.ensures.measures.ranked
 
-pub push_entry-requires-clause-names : goal.push_entry-requires-clause-names
-push_entry-requires-clause-names c =
-    (c.in_ok-schedule.ensures c.memory_rule.result c.args.request.now.latencies c.args.block.now.ops
-    c.in_ok-refill.ensures.graph).greedy.lawful.names
+pub invariant_of-explained : goal.invariant_of-explained
+invariant_of-explained c =
+    let lawful = (c.in_ok-schedule.ensures c.memory_rule.result c.args.request.now.latencies c.args.block.now.ops
+    c.in_ok-refill.ensures.graph).greedy.lawful in
+    record {
+      names = lawful.names;
+      waits = rw (c.in_ok-measures.ensures.rule ∙ ap (λ (g : GraphOf). g.rule) c.in_ok-refill.ensures.graph) lawful.waits;
+    }
 
 pub push_entry-requires-clause-measured : goal.push_entry-requires-clause-measured
 push_entry-requires-clause-measured c =
@@ -25,12 +29,6 @@ push_entry-requires-clause-measured c =
     measured_too rule lat c.args.block.now c.in_ok-schedule.schedule _ _ c.in_ok-refill.ensures.graph
     (c.in_ok-schedule.ensures rule lat c.args.block.now.ops c.in_ok-refill.ensures.graph).greedy.lawful.names
     c.in_ok-measures.ensures.measures
-
-pub push_entry-requires-clause-waits : goal.push_entry-requires-clause-waits
-push_entry-requires-clause-waits c =
-    rw (c.in_ok-measures.ensures.rule ∙ ap (λ (g : GraphOf). g.rule) c.in_ok-refill.ensures.graph)
-    (c.in_ok-schedule.ensures c.memory_rule.result c.args.request.now.latencies c.args.block.now.ops
-    c.in_ok-refill.ensures.graph).greedy.lawful.waits
 
 pub returns : goal.returns
 returns c =
