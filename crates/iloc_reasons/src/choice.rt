@@ -10,6 +10,7 @@ mod doubts;
 mod guesses;
 mod known;
 mod lines;
+mod misread;
 mod missing;
 mod orders;
 pub(crate) mod side;

@@ -95,6 +95,14 @@ impl Values {
         }
     }
 
+    /// Whether one value is read at both of two places.
+    pub(crate) fn is_one(self) -> bool {
+        match self {
+            Values::Two(left, right) => left == right,
+            _ => false,
+        }
+    }
+
     /// At how many places they differ from others.
     pub(crate) fn differing(self, others: Values) -> u32 {
         match (self, others) {

@@ -3,6 +3,7 @@
 
 use super::data_flow::put;
 use super::known::Known;
+use super::misread::Misread;
 use crate::claim::{Claim, What, source_at};
 use iloc_ops::{NoMemory, Reg, defines, uses};
 use std::alloc::Global;
@@ -28,23 +29,6 @@ pub(crate) struct Doubt {
     pub claim: Claim,
     pub place: usize,
     pub cause: Cause,
-}
-
-/// The operations whose results are claimed to be read in place of others.
-fn misread(
-    alloc: Global,
-    known: &Known,
-    claims: &[Claim],
-) -> Result<BTreeMap<usize, usize>, NoMemory> {
-    let mut found = BTreeMap::new(alloc);
-    for claim in claims {
-        if let What::ReadsOver { place, .. } = claim.what
-            && let Some(j) = source_at(known.rows.flow.sources(claim.k), place)
-        {
-            found.insert(j, claim.k)?;
-        }
-    }
-    Ok(found)
 }
 
 /// Until when what registers hold is read rightly, and stays.
@@ -174,13 +158,15 @@ pub(crate) struct Resolved {
     pub claims: Vec<Claim>,
     /// What is claimed of operations that are less likely to be at fault.
     pub unlikely: Vec<Claim>,
+    // The operations in a register of others that several were to read.
+    several: BTreeMap<usize, usize>,
 }
 
 impl Resolved {
     /// Notes which is at fault: an operation that reads something else at a place than operation u brings, or u, whose register
     /// is that of others, where nobody reads it. If where it is wanted its result would be in the way of others or be replaced,
-    /// the reader is, and rather the reader if u has the lower register; else u, and perhaps the reader, unless the result is
-    /// replaced where it is.
+    /// the reader is, and rather the reader if u has the lower register and no other operation was to read it; else u, and
+    /// perhaps the reader, unless the result is replaced where it is.
     fn astray(
         &mut self,
         known: &Known,
@@ -195,7 +181,7 @@ impl Resolved {
         if lives.is_read(known, reader.k, place, due) || is_later(known, reader.k, place, due) {
             return Ok(self.claims.push(reader)?);
         }
-        if is_lower(known, reader.k, place, u) {
+        if self.several.get(&u).is_none() && is_lower(known, reader.k, place, u) {
             self.claims.push(reader)?;
             return Ok(self.unlikely.push(unread)?);
         }
@@ -211,29 +197,50 @@ impl Resolved {
         &mut self,
         known: &Known,
         lives: &Lives,
-        misread: &BTreeMap<usize, usize>,
+        misread: &Misread,
         doubt: &Doubt,
     ) -> Result<(), NoMemory> {
         match doubt.cause {
-            Cause::Elsewhere(u) if misread.get(&u).is_none() => Ok(self.claims.push(doubt.claim)?),
-            Cause::Astray(u) => self.astray(known, lives, doubt, u),
+            Cause::Elsewhere(u) if !misread.brings(known, u) => Ok(self.claims.push(doubt.claim)?),
+            Cause::Astray(u) if !misread.brings(known, u) => self.astray(known, lives, doubt, u),
             _ => Ok(()),
         }
     }
 }
 
-/// What is claimed once it is known what all operations read.
+/// The operations in a register of others, where nobody reads them, that several operations were to read.
+fn wanted_by_several(alloc: Global, doubts: &[Doubt]) -> Result<BTreeMap<usize, usize>, NoMemory> {
+    let mut first: BTreeMap<usize, usize> = BTreeMap::new(alloc);
+    let mut several = BTreeMap::new(alloc);
+    for doubt in doubts {
+        if let Cause::Astray(u) = doubt.cause {
+            match first.get(&u).copied() {
+                None => {
+                    first.insert(u, doubt.claim.k)?;
+                }
+                Some(k) if k != doubt.claim.k => {
+                    several.insert(u, k)?;
+                }
+                _ => {}
+            }
+        }
+    }
+    Ok(several)
+}
+
+/// What is claimed once it is known what all operations read, beside `claims`, some of which follow from others.
 pub(crate) fn undoubted(
     alloc: Global,
     known: &Known,
     doubts: &[Doubt],
     claims: &[Claim],
 ) -> Result<Resolved, NoMemory> {
-    let misread = misread(alloc, known, claims)?;
+    let misread = Misread::of(alloc, known, claims)?;
     let lives = Lives::of(alloc, known)?;
     let mut found = Resolved {
-        claims: Vec::new(alloc),
+        claims: misread.unexplained(alloc, known, claims)?,
         unlikely: Vec::new(alloc),
+        several: wanted_by_several(alloc, doubts)?,
     };
     for doubt in doubts {
         found.resolve(known, &lives, &misread, doubt)?;

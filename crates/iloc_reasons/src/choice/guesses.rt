@@ -229,6 +229,7 @@ impl Looking<'_> {
                 let left = self.guesses(alloc, k, 0, left)?;
                 let right = self.guesses(alloc, k, 1, right)?;
                 push_pairs(&mut picks, &left, &right)?;
+                push_astray(&mut picks, &left, &right)?;
             }
         }
         Ok(picks)
@@ -243,6 +244,38 @@ fn push_pairs(picks: &mut Vec<Pick>, left: &[Guess], right: &[Guess]) -> Result<
                 values: Values::Two(one.value, other.value),
                 cost: one.cost.saturating_add(other.cost),
                 said: [one.what, other.what],
+            })?;
+        }
+    }
+    Ok(())
+}
+
+/// What is read where `guess`, one of `guesses`, was there before.
+fn read_over(guesses: &[Guess], guess: &Guess) -> Option<u64> {
+    match guess.what {
+        Some(What::ReadsOver { .. }) => Some(guesses.first()?.value),
+        _ => None,
+    }
+}
+
+/// Pushes that what is read at one place, where it came over another result, was meant at the other place: it was brought in
+/// the wrong register.
+fn push_astray(picks: &mut Vec<Pick>, left: &[Guess], right: &[Guess]) -> Result<(), NoMemory> {
+    for one in left {
+        if let Some(read) = read_over(left, one) {
+            picks.push(Pick {
+                values: Values::Two(one.value, read),
+                cost: one.cost,
+                said: [one.what, None],
+            })?;
+        }
+    }
+    for other in right {
+        if let Some(read) = read_over(right, other) {
+            picks.push(Pick {
+                values: Values::Two(read, other.value),
+                cost: other.cost,
+                said: [None, other.what],
             })?;
         }
     }

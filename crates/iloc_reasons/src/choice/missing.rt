@@ -16,6 +16,8 @@ const FAR: u32 = 12;
 pub(crate) struct Wanted {
     pub place: u64,
     pub values: Values,
+    /// Whether one register is read twice, which counts once.
+    pub is_twice: bool,
     pub readers: u64,
 }
 
@@ -139,11 +141,14 @@ impl Missing {
         }
     }
 
-    /// How far operation i of the block is from an operation of its label: by what it reads, by place, and by its readers.
+    /// How far operation i of the block is from an operation of its label: by what it reads, where a register that is read twice
+    /// counts once, by place, and by its readers.
     fn distance(&self, block: &Side, i: usize, wanted: &Wanted) -> u32 {
         let sources = block.flow.sources(i);
         let theirs = Values::of(&block.terms, sources);
-        let differing = theirs.differing(wanted.values).saturating_mul(2);
+        let places = theirs.differing(wanted.values);
+        let is_once = wanted.is_twice && theirs.is_one();
+        let differing = if is_once { places.min(1) } else { places }.saturating_mul(2);
         let gone = one_if(self.are_gone(sources, theirs, wanted.values));
         let place = one_if(at(&block.places, i) != wanted.place);
         let readers = one_if(at(&block.readers, i) != wanted.readers);

@@ -52,7 +52,7 @@ pub(crate) struct Walk<'a> {
     pub missing: Missing,
     pub strays: Strays<'a>,
     pub found: Found,
-    /// The store that was issued last.
+    /// The last store that is one of the block.
     pub store: Option<usize>,
     pub said: Said,
 }
@@ -193,7 +193,7 @@ impl Walk<'_> {
         if let Some(k) = slot {
             self.wait(k)?;
             self.step(k)?;
-            self.strays.note(k, at(&self.found.meant, k))?;
+            self.note(k)?;
         }
         Ok(())
     }
@@ -216,14 +216,21 @@ impl Walk<'_> {
 
     /// Says it if load or output k is issued while the last store is under way.
     fn wait(&mut self, k: usize) -> Result<(), NoMemory> {
-        match (self.rows.flow.kind(k), self.store) {
-            (Kind::Store, _) => self.store = Some(k),
-            (Kind::Load | Kind::Output, Some(store)) if self.is_under_way(store, k) => {
-                self.said.claim(k, What::While { store })?;
-            }
-            _ => {}
+        if let Some(store) = self.store
+            && matches!(self.rows.flow.kind(k), Kind::Load | Kind::Output)
+            && self.is_under_way(store, k)
+        {
+            self.said.claim(k, What::While { store })?;
         }
         Ok(())
+    }
+
+    /// Notes what is found of operation k. Nothing has to wait for a store that is like none of the block.
+    fn note(&mut self, k: usize) -> Result<(), NoMemory> {
+        if self.rows.flow.kind(k) == Kind::Store && self.known().partner(k).is_some() {
+            self.store = Some(k);
+        }
+        self.strays.note(k, at(&self.found.meant, k))
     }
 
     /// Finds what operation k is meant to be, and what is said of it.
@@ -270,17 +277,31 @@ impl Walk<'_> {
         }
     }
 
+    /// Whether operation k reads one register twice.
+    fn reads_twice(&self, k: usize) -> bool {
+        let Some(op) = self.sides.schedule.ops().get(k) else {
+            return false;
+        };
+        let registers = uses(op);
+        match (registers.get(0), registers.get(1)) {
+            (Some(left), Some(right)) => left == right,
+            _ => false,
+        }
+    }
+
     /// What operation k is meant to be, besides its label.
     fn wanted(&self, k: usize, values: Values) -> Wanted {
         Wanted {
             place: self.place(k),
             values,
+            is_twice: false,
             readers: at(&self.rows.readers, k),
         }
     }
 
     /// The missing operation that operation `k` is if its operands are exchanged; else the nearest one of its label;
-    /// else one for which the causes are known why `k` reads otherwise. With the causes.
+    /// else one for which the causes are known why `k` reads otherwise; else the nearest one if `k` reads one register
+    /// twice. With the causes.
     fn counterpart(
         &mut self,
         k: usize,
@@ -296,7 +317,17 @@ impl Walk<'_> {
         if let Some(i) = self.missing.nearest(self.block, &these, &wanted) {
             return Ok(Some((i, self.causes(k, values, i, &guesses, true))));
         }
-        Ok(self.by_causes(k, values, &these, &guesses))
+        if let Some(found) = self.by_causes(k, values, &these, &guesses) {
+            return Ok(Some(found));
+        }
+        let is_twice = self.reads_twice(k);
+        match self
+            .missing
+            .nearest(self.block, &these, &Wanted { is_twice, ..wanted })
+        {
+            Some(i) => Ok(Some((i, self.causes(k, values, i, &guesses, true)))),
+            None => Ok(None),
+        }
     }
 
     /// The first of the first `FEW` of `these` that has the place of operation `k` and known causes.
@@ -439,8 +470,7 @@ impl Walk<'_> {
     fn all_claims(&self) -> Result<Vec<Claim>, NoMemory> {
         let known = self.known();
         let undoubted = undoubted(self.alloc, &known, &self.said.doubts, &self.said.claims)?;
-        let mut claims = with_orders(self.alloc, &known, &self.said.moved, &self.said.claims)?;
-        claims.extend_from_slice(&undoubted.claims)?;
+        let claims = with_orders(self.alloc, &known, &self.said.moved, &undoubted.claims)?;
         let mut listed = self.telling(self.by_row(&claims)?)?;
         let unlikely = self.by_row(&undoubted.unlikely)?;
         listed.extend_from_slice(&unlikely)?;
