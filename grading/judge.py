@@ -136,9 +136,17 @@ def read_task(path, asked):
                 path.stem in asked.hidden)
 
 
+def need_folder(path, what):
+    """Refuses what is no folder, of tasks or of students' files."""
+    if not path.is_dir():
+        raise CannotGrade(f"{path}: expected a folder of {what}, found a file" if path.exists()
+                          else f"{path}: no such folder")
+
+
 def read_tasks(asked):
     folder = asked.tasks
-    paths = sorted(path for path in folder.iterdir() if path.suffix in ENDINGS) if folder.is_dir() else []
+    need_folder(folder, "tasks NAME.iloc")
+    paths = sorted(path for path in folder.iterdir() if path.suffix in ENDINGS)
     if not paths:
         raise CannotGrade(f"{folder}: no task NAME.iloc or NAME.i is there")
     twice = [path for path in paths if path.suffix == ENDINGS[0] and path.with_suffix(ENDINGS[1]) in paths]
