@@ -50,7 +50,7 @@ def as_folder(asked):
             try:
                 unpack(path, folder)
             except (zipfile.BadZipFile, zlib.error, EOFError, RuntimeError) as why:
-                raise CannotGrade(f"{path}: {why}") from why
+                raise CannotGrade(f"{path}: expected a folder of students' files, or its zip: {why}") from why
             names = listing(folder)
             is_one = len(names) == 1 and layout_of(folder, names) == "folders"
             if is_one and any(map(os.path.isdir, (folder / names[0]).glob("*"))):
@@ -172,5 +172,5 @@ def read_class(asked, tasks, known):
             ends = (student.name[at.end():] for at in re.finditer("-", student.name))
             student.name = next((end for end in ends if key_of(end) in known), student.name.removeprefix(prefix))
     if not students:
-        raise CannotGrade(f"{folder}: no student's folder is there")
+        raise CannotGrade(f"{folder}: no student's folder is there; each student needs one, a single student too")
     return students
