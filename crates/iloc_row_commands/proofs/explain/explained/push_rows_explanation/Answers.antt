@@ -19,11 +19,14 @@ returns-in-Some c =
     let line = obstacle_told p.ops p.rows obstacle in (
       not_lawful line,
       record {
-        said = inr (refl, record {
-          line = line;
-          is_told = record { obstacle = obstacle; hinders = hinders; listed = refl };
-          listed = refl;
-        });
+        said = inr (
+          refl,
+          record {
+            line = line;
+            is_told = record { obstacle = obstacle; hinders = hinders; listed = refl };
+            listed = refl;
+          },
+        );
         own = λ read same. absurd (own_rows_are_free known.latencies.now known.block.now.ops known.ours.now.ops
             known.ours.now.rows p obstacle known.greedy.lawful c.rows.ensures.in_range c.rows.ensures.once hinders read same);
         counted = rw (c.ops.ensures, c.rows.ensures.rows) at c.cycles_of-cycles.ensures;
