@@ -48,7 +48,6 @@ REFUSED = (
     (["timeline", BOOK, "--priority", "nosuch"], 2, None),
     (["compare", BOOK, "--priority", "order"], 2, NOT_TAKEN.format("--priority", "compare")),
     (["compare", BOOK, DAN, "--nodes", "0"], 2, NOT_TAKEN.format("--nodes", "counts")),
-    (["graph", BOOK, "--disambiguate", "-o", "nosuch/book.svg"], 4, "nosuch/book.svg: No such file or directory"),
     (["timeline", TASK, BEN, "--priorities", "own"], 2, NOT_TAKEN.format("--priorities", "check")),
     (["compare", "--task", TASK, BEN, "--priorities", "own"], 2, NOT_TAKEN.format("--priorities", "check")),
     (["compare", BOOK, "--priorities", "a=nosuch"], 4, "nosuch: no such file"),
@@ -150,6 +149,8 @@ class View(Place):
         head, title, rest = self.printed("dot", "-Tsvg", given=dot).partition(b"<title>blocks</title>\n")
         style = element("style", dark(f"text[fill='{TEXT['light']}']")).encode() + b"\n"
         self.draws(["graph", *LAB, BOOK], head + title + style + rest)
+        self.expect("no folder", self.call("ilocview", "graph", BOOK, "--disambiguate", "-o", "nosuch/book.svg"),
+                    (4, b"", b"ilocview: nosuch/book.svg: No such file or directory\n"))
 
     def test_ranks(self):
         """By numbers of somebody's own, and with addresses compared, as each command that is asked takes them."""
