@@ -85,6 +85,7 @@ UNREAD = (
     (b"\xef\xbb\xbfnop\n", "the text begins with a byte-order mark: save it without one", 0),
     (b"\xff\xfen\0o\0p\0", "the text is in UTF-16: save it as UTF-8", 0),
     (b"[ nop ; output 4 ]\n", 'expected an operation or "//", found "[": ROWS come after their BLOCKS', 0),
+    (b"block 1 -\n", 'no such opcode "block": ROWS come after their BLOCKS', 0),
 )
 MISTAKEN = ([], ["draw", BOOK], ["graph"], ["timeline", BOOK, "--load", "17"], ["graph", BOOK, "--block", "1"])
 
