@@ -15,9 +15,9 @@ HEADER = re.compile(r"block (\d+) (\S+)")
 COMMENT = re.compile(r"//.*")
 CYCLES = re.compile(r"cycles \d+(?: least (\d+).*)?")
 CHAINED = re.compile(r"chain (?:-|(\d+(?: \d+)*))")
-PATHED = re.compile(r"path (?:-|\d+(?: [+=]?\d+)*)")
+PATHED = re.compile(r"path (?:-|\d+(?: [+=~]?\d+)*)")
 EXPLAINED = re.compile(r"(\d+) cycle (\d+) unit ([01]) ready (\d+) after (-|\d+(?:,\d+)*) priority (\d+) "
-                       r"earliest \d+ slack \d+ held (?:-|\d+) (.+?) ; (.+)")
+                       r"earliest \d+ slack \d+ held (?:-|free|\d+) (.+?) ; (.+)")
 VERDICT = re.compile(r"block (\d+) (\S+) ([a-z]+) cycles (\d+) ours (\d+)(?: best \d+ bound \d+)? least (\d+)"
                      r"(?: claimed \d+)?")
 WRONG_ROW = re.compile(r"(?:added \d+: |see |line \d+, )?row (\d+): .+")

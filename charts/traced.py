@@ -15,7 +15,7 @@ NODE = re.compile(r'        b(\d+)_(\d+) \[label="\d+: (.+?)\\npriority \d+".*')
 EDGE = re.compile(r'        b(\d+)_(\d+) -> b\1_(\d+) \[label="(\d+)"\];')
 DRAWN = re.compile(r"strict digraph blocks \{|    .*|\}")
 RECORD = re.compile(r'\{"block":(\d+),.*\}')
-SAID = re.compile(r"  \S.*")
+SAID = re.compile(r"  \S.*|row \d+: the choice would take .*")     # the last by `explain` of rows
 TURN = re.compile(r"cycle (?P<first>\d+)(?:-(?P<last>\d+))? ready (?P<ready>\S+) takes (?:-|\d+) ; (?:-|\d+) "
                   r"next (?P<next>-|\d+ (?:held|at) \d+) active (?:-|\S+)")
 RECENT = 64         # operations: more than are issued while a result is under way
@@ -125,7 +125,7 @@ def read_traces(lines):
             block.turns.append(turn.groupdict())
         elif SAID.fullmatch(line) and block:
             block.said.append(line.strip())
-            rest[-1] = line if is_judged else ""
+            rest[-1] = line if is_judged and line[0] == " " else ""
         elif not (block and block.step(line)) and not DRAWN.fullmatch(line):
             rest[-1] = line
     for listed in listing.read_blocks(rest):

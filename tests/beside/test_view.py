@@ -106,10 +106,14 @@ class View(Place):
         self.draws(["page", *LAB, BOOK], page_of(listing).encode())
         listing = self.listings(*commands[:3], ("trace", "--at", "8", "3", "4294967292"), given=self.read(DAN))
         self.draws(["page", DAN, "-i", "8", "3", "-4"], page_of(listing).encode())
-        rows = ("--task", TASK, *WORDS)
-        listing = self.listings(("graph",), given=self.read(TASK))
-        listing += self.listings(("trace", *rows), ("check", *rows), ("check", "--json", *rows), given=self.read(BEN))
-        self.draws(["page", TASK, BEN], page_of(listing).encode())
+        self.write("swapped.rows", re.sub(rb"\[ (.*) ; nop ]", rb"[ nop ; \1 ]", self.read(FAY)))
+        for path, *option in ((FAY,), (BEN,), ("swapped.rows", "--either-slot")):
+            rows, graph = ("--task", TASK, *option), self.listings(("graph",), given=self.read(TASK))
+            commands = [("trace", *rows, *WORDS), ("explain", *rows), ("check", *rows, *WORDS),
+                        ("check", "--json", *rows, *WORDS)]
+            del commands[1:1 + (path == BEN)]       # whose rows aren't by the book
+            listing = graph + self.listings(*commands, given=self.read(path))
+            self.draws(["page", TASK, path, *option], page_of(listing).encode())
         out = re.findall(r'(?:src|href)="(?!#)[^"]*|url\(|@import', self.text("drawn.html"))
         self.expect("links out", out, [])
 
@@ -130,6 +134,14 @@ class View(Place):
         self.expect("what can be either", re.findall(r'<li value="(\d)" data-op="(.*?)">', made),
                     [("0", ""), ("1", ""), ("2", "1.0"), ("3", "1.1")])
         self.expect("what dim means", made.count('<p class="dim">Dim: no row is known to issue it.</p>'), 1)
+
+    def test_path(self):
+        """A page of rows by the book has their path, and where the scheduler would choose otherwise first."""
+        made = self.printed("ilocview", "page", TASK, FAY).decode()
+        self.expect("said", re.findall(r'<ul class="said ">(.*?)</ul>', made),
+                    ['<li><a href="#1.2">row 2</a>: the choice would take 2 loadAI r0, 4 =&gt; r2 ; nop</li>'])
+        boxes = re.findall(r'<rect[^>]* class="box"[^>]*/>(<circle[^>]*/>)?<text[^>]*>(\d)', made)
+        self.expect("path", [number for dot, number in boxes if dot], [*"0125678"])
 
     def test_timeline(self):
         """With the latencies of its listing, whatever they are; docs/ has two as they are drawn."""
