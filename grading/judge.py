@@ -10,6 +10,8 @@ import threading
 from dataclasses import dataclass
 from pathlib import Path
 
+from words import plain_error
+
 SECONDS = 600       # no answer takes as long
 ENDINGS = (".i", ".iloc")
 WORDS = r"(?:-i (\d{1,10})((?: -?\d{1,10})*))?"
@@ -58,7 +60,7 @@ def call(words, given):
     try:
         done = subprocess.run([program, *words], input=given, capture_output=True, timeout=SECONDS, check=False)
     except (subprocess.TimeoutExpired, OSError) as failed:
-        raise NoAnswer(str(failed)) from failed
+        raise NoAnswer(plain_error(failed)) from failed
     first, reason, *_ = [*done.stderr.decode("utf-8", "replace").splitlines(), "", ""]
     why = ": ".join([first.removeprefix("ilocfarm: "), *([reason.partition(": ")[2]] if reason else [])])
     return done.returncode, done.stdout, why or f"status {done.returncode}"

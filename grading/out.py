@@ -11,7 +11,7 @@ from pathlib import Path
 from handins.layouts import by_key, differing
 from judge import CannotGrade
 from marks import Mark, Student
-from words import key_of
+from words import key_of, plain_error
 
 MARKS = "marks.json"
 NAMES = "name", "plain", "listed", "id", "email"     # of a student
@@ -52,7 +52,7 @@ def kept(out, tasks):
     try:
         found = json.loads((out / MARKS).read_text(encoding="utf-8"))
     except (OSError, ValueError) as why:
-        raise CannotGrade(f"{out}: no earlier grades can be read: {why}") from why
+        raise CannotGrade(f"{out}: no earlier grades can be read: {plain_error(why)}") from why
     for about in found:
         if [mark["task"] for mark in about["row"]] != [task.name for task in tasks]:
             raise CannotGrade(f"{out}: earlier grades are of other tasks")

@@ -24,6 +24,13 @@ def say(text):
     print(f"ilocgrade: {text}", file=sys.stderr)
 
 
+def plain_error(why):
+    """What an error says; of one of the system's the file and the reason, without a number."""
+    if not isinstance(why, OSError) or not why.strerror:
+        return str(why)
+    return f"{why.filename}: {why.strerror}" if why.filename else why.strerror
+
+
 def number(value):
     return f"{value:.12g}" if isinstance(value, float) else f"{value}"
 

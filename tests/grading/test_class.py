@@ -129,7 +129,8 @@ class Class(Graded):
                 self.expect(f"{name}'s page", os.path.exists(self.path(f"grades/feedback/{name}/both.html")), False)
 
     def test_statuses(self):
-        """A student's fault is none of the command's; what isn't graded is said in a line."""
+        """A student's fault is none of the command's; what isn't graded is said in a line, which a table has whole from
+        `ilocgrade: ` on, or a part of it."""
         self.shell("mkdir empty open faults two unread shows input twice; chmod 777 open; ln -s two link;"
                    "echo output 1 > faults/a.iloc; echo output > unread/a.iloc; echo 'loadI 1 => r1' > shows/a.iloc;"
                    "printf 'a: output 4\\nb: output 8\\n' > two/a.iloc; echo output 4 | tee twice/a.i > twice/a.iloc;"
@@ -141,4 +142,5 @@ class Class(Graded):
         for line, status, said in rows_of(f"{TOP}/tests/grading/statuses.tsv"):
             line = line.replace("TASKS", BOTH).replace("CLASS", CLASS)
             got, out = self.shell(f"ilocgrade --pictures none {line}")
-            self.expect(f"{line}: {out}", (got, said in out.decode(), b"Traceback" in out), (int(status), True, False))
+            is_said = out.decode() == f"{said}\n" if said.startswith("ilocgrade: ") else said in out.decode()
+            self.expect(f"{line}: {out}", (got, is_said, b"Traceback" in out), (int(status), True, False))
