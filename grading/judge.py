@@ -15,6 +15,8 @@ from words import plain_error
 SECONDS = 600       # no answer takes as long
 ENDINGS = (".i", ".iloc")
 WORDS = r"(?:-i (\d{1,10})((?: -?\d{1,10})*))?"
+# What the program adds of a task with a row.
+EXCHANGED = ", and rows come from standard input: are the two exchanged?"
 VOID = {"faults": "faults on its words", "shows_nothing": "shows nothing"}
 program = "ilocfarm"
 stopped = threading.Event()     # by a signal: nothing is judged or run any more
@@ -72,7 +74,7 @@ def records(task, words, options, rows):
     if status == 1 and not why.startswith("task: "):
         return [], why
     if status not in (0, 5):
-        raise NoAnswer(f"{task}: {why.removeprefix('task: ')}")
+        raise NoAnswer(f"{task}: {why.removeprefix('task: ').removesuffix(EXCHANGED)}")
     return [json.loads(line, object_hook=decoded) | {"passes": status == 0} for line in out.splitlines()], None
 
 

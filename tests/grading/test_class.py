@@ -131,9 +131,10 @@ class Class(Graded):
     def test_statuses(self):
         """A student's fault is none of the command's; what isn't graded is said in a line, which a table has whole from
         `ilocgrade: ` on, or a part of it."""
-        self.shell("mkdir empty open faults two unread shows input twice; chmod 777 open; ln -s two link;"
+        self.shell("mkdir empty open faults two rows unread shows input twice; chmod 777 open; ln -s two link;"
                    "echo output 1 > faults/a.iloc; echo output > unread/a.iloc; echo 'loadI 1 => r1' > shows/a.iloc;"
-                   "printf 'a: output 4\\nb: output 8\\n' > two/a.iloc; echo output 4 | tee twice/a.i > twice/a.iloc;"
+                   "printf 'a: output 4\\nb: output 8\\n' > two/a.iloc; echo '[ nop ]' > rows/a.iloc;"
+                   "echo output 4 | tee twice/a.i > twice/a.iloc;"
                    "printf '//SIM INPUT: -r 1\\noutput 4\\n' > input/a.iloc;"
                    "mkdir -p moodle/Ann_{1,2}_assignsubmission_file; echo 'Name;ID;Grade x' > site.csv;"
                    "printf 'name,late\\nAnn,soon 1\\n' > late.csv; printf 'ID,Grade\\n1\\n2,\\n' > short.csv;"
