@@ -133,7 +133,7 @@ def read_traces(lines):
     found = [block for _, block in sorted(blocks.items()) if block.trace]
     if not found:
         why = [f"; block {other.number}: {said}" for other in blocks.values() for said in other.said[:1]]
-        raise Unread("there is no trace of a block" + "".join(why))
+        raise Unread(f"there is no {'trace of a ' if blocks else ''}block{''.join(why)}")
     for traced in found:
         traced.finish()
     return found

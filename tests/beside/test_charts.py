@@ -295,7 +295,7 @@ class Charts(Place):
         """Listings that were cut off or changed, and those that lack a trace."""
         whole = self.listings(["graph"], ["trace"], given=BLOCK)
         for given, said in (
-                (b"", "there is no trace of a block"),
+                (b"", "there is no block"),
                 (self.listings(["graph"], given=BLOCK), "there is no trace of a block"),
                 (whole[:-3], "line "),
                 (whole.replace(b"issue 0", b"issue 5"), "no operation before sends what arrives: "),

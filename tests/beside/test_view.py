@@ -43,6 +43,7 @@ REFUSED = (
     (["timeline", BOOK, "--block", "2"], 1, f"{BOOK}: there is no block 2"),
     (["compare", BOOK, DAN, "two.iloc"], 1, "the listings have 1, 1, 2 blocks: only the same ones can be compared"),
     (["compare", "none.iloc"], 1, "none.iloc: there is no block"),
+    (["page", "none.iloc"], 1, "none.iloc: there is no block"),
     (["page", "input.iloc"], 1, "input.iloc: expected `//SIM INPUT: -i ADDRESS WORD ..`, found `3 4`"),
     (["page", BOOK, "-i", "2"], 2, "--at is not a multiple of 4"),
     (["timeline", BOOK, "--priority", "nosuch"], 2, None),
