@@ -73,7 +73,8 @@ class Table:
         """The number of the column with one of these names."""
         found = next((self.heads.index(key_of(name)) for name in names if key_of(name) in self.heads), None)
         if found is None:
-            raise CannotGrade(f"{self.path}: there is no column {names[0]}; there is {shown(', '.join(self.header))}")
+            there = shown(", ".join(self.header)) or "none"
+            raise CannotGrade(f"{self.path}: there is no column {names[0]}; there is {there}")
         return found
 
     def columns(self, texts, tasks):
