@@ -230,12 +230,15 @@ class Answers(Repository):
             self.assertEqual(self.ran("run", given="text", by=f"{self.folder}/{by}"), (7, "build 1: run: text\n", ""))
 
     def test_paths_are_the_callers(self):
-        """A relative path after --task leads from the caller's folder, whether the program is built or not."""
+        """A relative path of an option leads from the caller's folder, whether the program is built or not."""
         os.mkdir(f"{self.folder}/at home")
         for words, made in ((["check", "--task", "a b"], f"check --task {self.folder}/at home/a b"),
                             (["check", "--task=../b", "3"], f"check --task={self.folder}/at home/../b 3"),
                             (["check", "--task", "/c", "--csv"], "check --task /c --csv"),
                             (["check", "--task=/c"], "check --task=/c"),
+                            (["counts", "--priorities", "a b"], f"counts --priorities {self.folder}/at home/a b"),
+                            (["counts", "--priorities=a=b"], f"counts --priorities={self.folder}/at home/a=b"),
+                            (["counts", "--priorities", "/c"], "counts --priorities /c"),
                             (["check", "--task", "--csv"], "check --task --csv"),
                             (["check", "--task"], "check --task")):
             with self.subTest(words):
