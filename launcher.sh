@@ -38,8 +38,7 @@ say_why() {
             for (name in was) if (!changed) changed = name
             if (changed !~ /^(crates|HANDLES|out)/) changed = "the toolchain"
             if (same) print changed " isn\047t as it was when the program was built"
-            else print "this is a copy of where the program was built, and only there is it known to be that of the" \
-                " sources"
+            else print "this is a copy: only where the program was built is it known to match the sources"
         }' out/built - | while read -r why; do say "$why"; done
 }
 

@@ -43,8 +43,7 @@ ADVICE = (r"\./build proves and builds the program, once, in some \d+ minutes he
           r"(?:, or \d+ with \d+ GB of memory free)?")
 NOT_PROVED = "ilocfarm: not proved, so not built: out/build.log has what rt said"
 OTHERWISE = "ilocfarm: {} isn't as it was when the program was built\n"
-COPIED = ("ilocfarm: this is a copy of where the program was built, and only there is it known to be that of the "
-          "sources\n")
+COPIED = "ilocfarm: this is a copy: only where the program was built is it known to match the sources\n"
 UNPROVED = rf"ilocfarm: this answer is of an unproved run, which takes one to four minutes by load\. {ADVICE}\n"
 BUILT = "ilocfarm: out/ilocfarm is proved and built, and ./ilocfarm runs it\n"
 
