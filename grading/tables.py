@@ -35,8 +35,12 @@ def decoded(path):
     coding = next((coding for mark, coding in MARKS.items() if data.startswith(mark)), "utf-8")
     with suppress(UnicodeDecodeError):
         return data.decode(coding), coding
+    try:
+        text = data.decode("cp1252")
+    except UnicodeDecodeError as why:
+        raise CannotGrade(f"{path}: expected a table as text: save it as CSV") from why
     say(f"{path} isn't UTF-8, and is read as Windows-1252")
-    return data.decode("cp1252"), "cp1252"
+    return text, "cp1252"
 
 
 def plain(cell):

@@ -139,7 +139,7 @@ class Class(Graded):
                    "mkdir -p moodle/Ann_{1,2}_assignsubmission_file; echo 'Name;ID;Grade x' > site.csv;"
                    "printf 'name,late\\nAnn,soon 1\\n' > late.csv; printf 'ID,Grade\\n1\\n2,\\n' > short.csv;"
                    "printf '\\xef\\xbb\\xbfStudent,Section\\r\\nzoe,1\\r\\nada,2' > headed.csv;"
-                   "printf 'zoe\\n\\nada\\n' > bare.csv; touch none.csv")
+                   "printf 'zoe\\n\\nada\\n' > bare.csv; touch none.csv; printf 'PK\\201' > x.xlsx")
         for line, status, said in rows_of(f"{TOP}/tests/grading/statuses.tsv"):
             line = line.replace("TASKS", BOTH).replace("CLASS", CLASS)
             got, out = self.shell(f"ilocgrade --pictures none {line}")
