@@ -27,8 +27,8 @@ const EDGES: [u32; 2] = [0_u32.wrapping_sub(4), 4 * WORDS as u32];
 /// shift, the highest number and the lowest, and 1.
 const EXTREMES: [u32; 5] = [u32::MAX, 31, u32::MAX >> 1, 1 << 31, 1];
 
-/// How many memories have such words: from each of them on, and one has none but distinct ones.
-const MOST_STARTS: usize = EXTREMES.len() + 1;
+/// How many memories have such words: one from each of them on, and the others none but distinct ones.
+const MOST_STARTS: usize = EXTREMES.len() + 4;
 
 /// How many places at which something is done aims are made of, at most.
 const MOST_REACHED: usize = 8;
@@ -47,7 +47,7 @@ pub(crate) enum Aim {
         still: MentionedAddress,
     },
     /// The words that no address is above, to no address: they are `EXTREMES` in turn, from the one with this number on, or
-    /// distinct ones.
+    /// distinct ones, others for each number.
     Extremes(usize),
 }
 
@@ -125,12 +125,13 @@ fn add_edges(aims: &mut Vec<Aim>, reached: &[MentionedAddress]) -> Result<(), No
 
 /// The word with this number where `Aim::Extremes(start)` has one.
 fn extreme(start: usize, number: usize) -> u32 {
-    let distinct = ((number % MOST_CELLS) as u32 + 1).wrapping_mul(STRIDE);
     let turn = start.wrapping_add(number) % EXTREMES.len();
-    if start < EXTREMES.len() {
-        EXTREMES[turn]
-    } else {
-        distinct
+    match start.checked_sub(EXTREMES.len()) {
+        None => EXTREMES[turn],
+        Some(more) => {
+            let factor = (2 * (more % MOST_STARTS) as u32 + 1).wrapping_mul(STRIDE);
+            ((number % MOST_CELLS) as u32 + 1).wrapping_mul(factor)
+        }
     }
 }
 
