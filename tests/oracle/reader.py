@@ -21,7 +21,7 @@ NOP = Op("nop", [])
 LABEL = re.compile(rb"(" + NAME + rb")[ \t\r]*:")
 HEAD = re.compile(rb"block[ \t\r]+([0-9]+)[ \t\r]+(-|" + NAME + rb")")
 COUNT = re.compile(rb"(cycles|total)[ \t\r]+([0-9]+)")
-NO_SUCH_BLOCK = 'no such block: "block K NAME" names a later one, by - if unnamed'
+NO_SUCH_BLOCK = 'expected "block K NAME" with the number and the name of a later block, - for no name'
 
 
 class Refused(Exception):

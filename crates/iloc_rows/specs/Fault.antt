@@ -7,4 +7,4 @@ use Rattle.iloc_rows.specs.declared.fault.RowsFault.TheVariants.{Read, NoBlocks,
 abbrev pub rows_fault_text : RowsFault → List ℕ
 rows_fault_text (Read fault) = fault_text fault
 rows_fault_text NoBlocks = codes "no blocks"
-rows_fault_text (NoSuchBlock n) = of_line n (codes ": no such block: \"block K NAME\" names a later one, by - if unnamed")
+rows_fault_text (NoSuchBlock n) = of_line n (codes ": expected \"block K NAME\" with the number and the name of a later block, - for no name")

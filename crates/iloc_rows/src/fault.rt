@@ -32,7 +32,7 @@ impl Display for RowsFault {
             RowsFault::NoBlocks => f.write_str("no blocks"),
             RowsFault::NoSuchBlock(line) => write!(
                 f,
-                "line {line}: no such block: \"block K NAME\" names a later one, by - if unnamed"
+                "line {line}: expected \"block K NAME\" with the number and the name of a later block, - for no name"
             ),
         }
     }
