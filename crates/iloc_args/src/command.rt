@@ -26,7 +26,7 @@ const VERSION: &str = "1.0.0 (unreleased)";
 const MANUAL: &str = "\
 Limits:
   16777216 bytes, 65535 blocks, 10000 operations in a block, numbers up to 2147483647
-  The machine is fixed but for --load, --store and --mult; docs/CHANGING.md says where its rules are
+  Only latencies can be changed, by --load, --store and --mult; docs/CHANGING.md says where the rules are
 
 Exit status:
   0  done; a block that faults is listed as fault
