@@ -1,5 +1,5 @@
 -- The names that many proofs import, passed on from one place. Declares nothing.
-pub use Rattle.std.proofs.Common.{◌≡◌, ℕ, zero, suc, ◌+◌, ◌-◌, ◌<◌, ◌≤◌, Bool, true, false, not, ◌&&◌, ◌||◌, List, [], ◌∷◌, ◌++◌, map, length, get_or, take, ℤ, pos, negsuc, IfSome, IfOk, if◌then◌else◌, OnOk, IsTrue, nat_lt, ◌==◌, Some, None, Ok, Err, fold, Contains, filter, Option, Result, option_map, option_to_list, sym, refl, ap, ◌∙◌, subst, ap₂, inl, inr, append_assoc, append-nil, add-zero, add-suc, add-one, arith, rules, eq-eqb, ne_eqb}
+pub use Rattle.std.proofs.Common.{◌≡◌, ℕ, zero, suc, ◌+◌, ◌-◌, ◌<◌, ◌≤◌, Bool, true, false, not, ◌&&◌, ◌||◌, List, [], ◌∷◌, ◌++◌, map, length, get_or, take, ℤ, pos, negsuc, IfSome, if◌then◌else◌, IsTrue, nat_lt, ◌==◌, Some, None, fold, Contains, filter, Option, option_map, option_to_list, sym, refl, ap, ◌∙◌, subst, ap₂, inl, inr, append_assoc, append-nil, add-zero, add-suc, add-one, arith, rules, eq-eqb, ne_eqb}
 pub use Rattle.std.proofs.lemmas.Bool.{and_right, cases_lt, eqb-true, le-ltb, lt-leb, ltb-true, or_cases, or_parts, or_right}
 pub use Rattle.std.proofs.lemmas.Bool.Decides.{nat_tests}
 pub use Rattle.std.proofs.lemmas.List.{get_or_past, map-append}

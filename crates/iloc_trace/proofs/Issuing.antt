@@ -101,7 +101,7 @@ reads_same lat memory ops c log m beside op follows =
 pub slot_lines : (lat : Latencies) (memory : List ℤ) (ops : List Op) (c unit : ℕ) (log : List Issued) (m : TracedMachine)
     (slot beside : Option ℕ) → Follows lat memory (c + 1) log m
     → trace_lines (map (issue_of memory c unit log (issued_in lat memory ops c log beside)) (issued_in lat memory ops c log slot))
-    ≡ slot_line m c unit (in_slot lat m ops c slot) (in_slot lat m ops c beside)
+    ≡ slot_line m unit (in_slot lat m ops c slot) (in_slot lat m ops c beside)
 slot_lines lat memory ops c unit log m None beside follows = refl
 slot_lines lat memory ops c unit log m (Some i) beside follows =
     append-nil _

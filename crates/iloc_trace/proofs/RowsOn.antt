@@ -1,5 +1,5 @@
 -- A row, and what follows from it.
-use Rattle.iloc_trace.proofs.Common.{◌≡◌, ℕ, ◌+◌, Bool, true, false, not, ◌||◌, List, [], ◌∷◌, ◌++◌, map, ℤ, IfOk, OnOk, Some, Ok, Err, Option, Result, option_to_list, sym, refl, ap, ◌∙◌, ap₂, append_assoc, append-nil, arith, or_cases, or_parts, or_right, flat_map-append, All, Op, results_go, has_fault, op_at, no_fault, short_latency, some_latency, slots, AllLand, Issued, executed_in, issue, issue_all, Latencies, Row, event_line, trace_lines}
+use Rattle.iloc_trace.proofs.Common.{◌≡◌, ℕ, ◌+◌, Bool, true, false, not, ◌||◌, List, [], ◌∷◌, ◌++◌, map, ℤ, Some, Option, option_to_list, sym, refl, ap, ◌∙◌, ap₂, append_assoc, append-nil, arith, or_cases, or_parts, or_right, flat_map-append, All, Op, results_go, has_fault, op_at, no_fault, short_latency, some_latency, slots, AllLand, Issued, executed_in, issue, issue_all, Latencies, Row, event_line, trace_lines}
 use Rattle.iloc_timed.proofs.Landing.{landed-later}
 use Rattle.iloc_trace.specs.declared.machine.TracedMachine.{TracedMachine}
 use Rattle.iloc_trace.specs.Events.{due_at, events_after, issue_of, issues, landed, writes, in_slot as issued_in}
@@ -7,12 +7,6 @@ use Rattle.iloc_trace.specs.Steps.Arrivals.{CanArrive, arrival_lines, arrivals, 
 use Rattle.iloc_trace.specs.Steps.Rows.{After, Follows, in_slot, place_value, row_faults, row_lines, sent_from, sent_in, slot_faults}
 use Rattle.iloc_trace.proofs.Landing.{landing_lines}
 use Rattle.iloc_trace.proofs.Issuing.{arrivals_one, effect_now, slot_lines}
-
--- what follows at `Ok` from what holds there
-pub if_ok : {X E : Type 0} (P : Type 0) (Q R : X → Type 0) (r : Result X E) → ((x : X) → P → Q x → R x) → OnOk r P
-    → IfOk r Q → IfOk r R
-if_ok P Q R (Ok x) follows holds says = follows x holds says
-if_ok P Q R (Err e) follows holds says = tt
 
 -- the lines of a row
 pub row_listed : (lat : Latencies) (memory : List ℤ) (ops : List Op) (row : Row) (c : ℕ) (log : List Issued)

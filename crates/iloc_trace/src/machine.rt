@@ -1,24 +1,27 @@
 //! A schedule that is listed in mid-run.
-ghost use Rattle.std.specs.Prelude.{ℕ, ◌≡◌, ◌+◌, ◌++◌, ◌<◌, ◌≤◌, pos, [], List, ℤ, length, fold, option_to_list, All, IfOk, OnOk, IfSome, IsTrue, not};
+ghost use Rattle.std.specs.Prelude.{ℕ, ◌≡◌, ◌+◌, ◌++◌, ◌<◌, ◌≤◌, pos, [], List, ℤ, length, fold, option_to_list, All, IfOk, OnOk, IfSome, IsTrue};
 ghost use Rattle.iloc_ops.specs.declared.op.Reg.{Reg as register};
 ghost use Rattle.iloc_ops.specs.Registers.{defined};
 ghost use Rattle.iloc_meaning.specs.Address.{is_good};
 ghost use Rattle.iloc_meaning.specs.Memory.{word_at};
 ghost use Rattle.iloc_meaning.specs.Registers.{value_of};
 ghost use Rattle.iloc_timed.specs.declared.latencies.Latencies.{Latencies as latencies};
+ghost use Rattle.iloc_timed.specs.Rows.{row_at as row_of_cycle};
 ghost use Rattle.iloc_trace.specs.declared.event.Place.TheVariants.{Register as in_register, Word as in_word};
 ghost use Rattle.iloc_trace.specs.Places.{address_read as word_read, sent, target_of, value_at};
 ghost use Rattle.iloc_trace.specs.Steps.Arrivals as steps;
 ghost use Rattle.iloc_trace.specs.Steps.Rows.{slot_faults};
 
 use crate::event::{Place, Read, Write};
-use crate::listing::{push_issue, push_write};
+use crate::listing::{push_reads, push_write};
 use crate::under_way::{Arrival, UnderWay, first_for};
+use Piece::{Number, Operation, Text};
 use arrayvec::ArrayVec;
 use iloc_meaning::arithmetic::{constant, sum};
 use iloc_meaning::{Effect, Memory, Registers, Scratch};
 use iloc_ops::{NoMemory, Op, defines, uses};
-use iloc_timed::{LONGEST, Latencies, MAX_ROWS, Row, latency};
+use iloc_pieces::{Piece, push_all};
+use iloc_timed::{LONGEST, Latencies, MAX_ROWS, Row, Schedule, latency};
 use std::alloc::Global;
 
 /// No run takes more cycles.
@@ -29,8 +32,17 @@ const MOST_CYCLES: usize = MAX_ROWS + LONGEST;
 pub(crate) struct Executed {
     pub(crate) op: Op,
     pub(crate) effect: Effect,
+    /// The cycle in which it is issued.
+    pub(crate) cycle: u64,
     /// What it sends.
     pub(crate) sent: Option<Arrival>,
+}
+
+/// The row of a cycle, an empty one after the last.
+fn row_at(rows: &[Row], cycle: usize) -> Row
+    ensures { result ≡ row_of_cycle rows.now cycle }
+{
+    rows.get(cycle).copied().unwrap_or_default()
 }
 
 /// Whether there is a fault in a slot.
@@ -159,7 +171,7 @@ impl TracedMachine {
     ghost use Rattle.iloc_timed.specs.Timed.{Issued, issue_all};
     ghost use Rattle.iloc_trace.specs.Events.{events_after};
     ghost use Rattle.iloc_trace.specs.Listing.{trace_lines};
-    ghost use Rattle.iloc_trace.specs.Steps.Rows.{After, Follows, in_slot, place_value, read_at, reads_of, row_faults, row_lines, sent_after, sent_from, sent_in, slot_line};
+    ghost use Rattle.iloc_trace.specs.Steps.Rows.{After, Follows, in_slot, place_value, read_at, reads_of, sent_after, sent_in, slot_line};
 
     /// All registers 0, this memory, nothing under way.
     pub(crate) fn new(alloc: Global, memory: Memory) -> Result<TracedMachine, NoMemory>
@@ -231,16 +243,22 @@ impl TracedMachine {
     {
         let op = ops[slot?];
         let effect = Effect::of(&op, &self.registers, self.memory.memory());
+        let cycle = cycle as u64;
         let sent = match target(&op, effect) {
             Some(place) => Some(Arrival {
                 place,
                 value: value_sent(effect),
-                due: cycle as u64 + latency(&op, latencies),
-                issued: cycle as u64,
+                due: cycle + latency(&op, latencies),
+                issued: cycle,
             }),
             None => None,
         };
-        Some(Executed { op, effect, sent })
+        Some(Executed {
+            op,
+            effect,
+            cycle,
+            sent,
+        })
     }
 
     /// What is read in a place, while this is sent too.
@@ -279,23 +297,34 @@ impl TracedMachine {
         reads
     }
 
-    /// Lists what is issued in a slot, beside what is in the other one.
+    /// Lists what is issued in a slot of `unit`, beside what is in the other one: `issue C unit U OPERATION` and what it reads, with
+    /// `fault` in place of `issue` where it faults.
     fn list(
         &self,
         text: &mut Vec<u8>,
-        cycle: u64,
         unit: u64,
         slot: Option<Executed>,
         beside: Option<Executed>,
     ) -> Result<(), NoMemory>
-        ensures { OnOk result (text.new.items ≡ text.old.items ++ slot_line self.now cycle unit slot beside) }
+        ensures { OnOk result (text.new.items ≡ text.old.items ++ slot_line self.now unit slot beside) }
     {
         let Some(executed) = slot else {
             return Ok(());
         };
         let reads = self.reads(&executed.op, beside.and_then(|other| other.sent));
-        let faults = executed.effect == Effect::Faults;
-        push_issue(text, cycle, unit, &executed.op, reads.as_slice(), faults)
+        push_all(
+            text,
+            &[
+                Text(if faults(slot) { "fault " } else { "issue " }),
+                Number(executed.cycle),
+                Text(" unit "),
+                Number(unit),
+                Text(" "),
+                Operation(executed.op),
+            ],
+        )?;
+        push_reads(text, &executed.op, reads.as_slice())?;
+        Ok(text.push(b'\n')?)
     }
 
     /// Has what was sent in a slot on its way.
@@ -310,53 +339,32 @@ impl TracedMachine {
         }
     }
 
-    /// Lists and issues the operations of a row. Answers whether the run goes on.
-    fn issue(
-        &mut self,
-        text: &mut Vec<u8>,
-        ops: &[Op],
-        row: Row,
-        cycle: usize,
-        latencies: &Latencies,
-    ) -> Result<bool, NoMemory>
-        requires zero { IfSome row.zero (λ i. i < length ops.now) }
-        requires one { IfSome row.one (λ i. i < length ops.now) }
-        requires early { cycle ≤ MOST_CYCLES }
-        ensures first { self.new.memory.first ≡ self.old.memory.first }
-        ensures lists { OnOk result (text.new.items ≡ text.old.items ++ row_lines latencies.now self.old ops.now row cycle) }
-        ensures machine { OnOk result (self.new ≡ sent_from latencies.now self.old ops.now row cycle) }
-        ensures goes_on { IfOk result (λ goes_on. goes_on ≡ not (row_faults latencies.now self.old ops.now row cycle)) }
-    {
-        let zero = self.execute(ops, row.zero, cycle, latencies);
-        let one = self.execute(ops, row.one, cycle, latencies);
-        self.list(text, cycle as u64, 0, zero, one)?;
-        self.list(text, cycle as u64, 1, one, zero)?;
-        self.send(zero)?;
-        self.send(one)?;
-        Ok(!(faults(zero) || faults(one)))
-    }
-
-    /// Lists and does what happens at a cycle. Answers whether the run goes on: a fault ends it.
+    /// Lists and does what happens at a cycle of `schedule`. Answers whether the run goes on: a fault ends it.
     pub(crate) fn run_row(
         &mut self,
         text: &mut Vec<u8>,
-        ops: &[Op],
-        row: Row,
+        schedule: &Schedule,
         cycle: usize,
         latencies: &Latencies,
     ) -> Result<bool, NoMemory>
-        requires zero { IfSome row.zero (λ i. i < length ops.now) }
-        requires one { IfSome row.one (λ i. i < length ops.now) }
-        requires early { cycle ≤ MOST_CYCLES }
+        requires { cycle ≤ MOST_CYCLES }
         ensures first { self.new.memory.first ≡ self.old.memory.first }
         ensures lists { OnOk result ((memory : List ℤ) (log : List Issued) →
             Follows latencies.now memory cycle log self.old → text.new.items ≡ text.old.items
-            ++ trace_lines (events_after latencies.now memory ops.now row cycle log)) }
+            ++ trace_lines (events_after latencies.now memory schedule.now.ops (row_of_cycle schedule.now.rows cycle) cycle log)) }
         ensures after { IfOk result (λ goes_on. (memory : List ℤ) (log : List Issued) →
             Follows latencies.now memory cycle log self.old → After goes_on latencies.now memory (cycle + 1)
-            (issue_all latencies.now memory ops.now cycle (slots row) log) self.new) }
+            (issue_all latencies.now memory schedule.now.ops cycle (slots (row_of_cycle schedule.now.rows cycle)) log) self.new) }
     {
         self.land(text, cycle as u64)?;
-        self.issue(text, ops, row, cycle, latencies)
+        let ops = schedule.ops();
+        let row = row_at(schedule.rows(), cycle);
+        let zero = self.execute(ops, row.zero, cycle, latencies);
+        let one = self.execute(ops, row.one, cycle, latencies);
+        self.list(text, 0, zero, one)?;
+        self.list(text, 1, one, zero)?;
+        self.send(zero)?;
+        self.send(one)?;
+        Ok(!(faults(zero) || faults(one)))
     }
 }

@@ -1,13 +1,12 @@
 //! What happens in runs of schedules, one after another on one memory.
 ghost use Rattle.std.specs.Prelude.{◌≡◌, ◌++◌, IfOk, OnOk};
-ghost use Rattle.iloc_timed.specs.Rows.{row_at as row_of_cycle};
 ghost use Rattle.iloc_trace.specs.Events.{events};
 ghost use Rattle.iloc_trace.specs.Listing.{trace_lines};
 
 use crate::machine::TracedMachine;
 use iloc_meaning::Memory;
 use iloc_ops::NoMemory;
-use iloc_timed::{LONGEST, Latencies, Row, Schedule};
+use iloc_timed::{LONGEST, Latencies, Schedule};
 use std::alloc::Global;
 use std::marker::Model;
 
@@ -24,13 +23,6 @@ impl Model for Tracer {
     ghost Value = { List ℤ };
 
     ghost view = { λ tracer. tracer.machine.memory.first };
-}
-
-/// The row of a cycle, an empty one after the last.
-fn row_at(rows: &[Row], cycle: usize) -> Row
-    ensures { result ≡ row_of_cycle rows.now cycle }
-{
-    rows.get(cycle).copied().unwrap_or_default()
 }
 
 impl Tracer {
@@ -59,13 +51,8 @@ impl Tracer {
             ++ trace_lines (events latencies.now self.old schedule.now.ops schedule.now.rows)) }
     {
         self.machine.restart();
-        let ops = schedule.ops();
-        let rows = schedule.rows();
-        for cycle in 0..rows.len() + LONGEST {
-            if !self
-                .machine
-                .run_row(text, ops, row_at(rows, cycle), cycle, latencies)?
-            {
+        for cycle in 0..schedule.rows().len() + LONGEST {
+            if !self.machine.run_row(text, schedule, cycle, latencies)? {
                 return Ok(());
             }
         }

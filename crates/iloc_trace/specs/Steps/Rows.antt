@@ -44,6 +44,7 @@ abbrev pub executed_at : Latencies → TracedMachine → ℕ → Op → Executed
 executed_at lat m c op = record {
   op = op;
   effect = effect op (value_of m.registers) (word_at m.memory.words);
+  cycle = c;
   sent = sent_by (c + latency lat op) c op (effect op (value_of m.registers) (word_at m.memory.words));
 }
 
@@ -53,10 +54,10 @@ sent_in None = None
 sent_in (Some e) = e.sent
 
 -- the line of a slot, while this was sent in the other one
-abbrev pub slot_line : TracedMachine → ℕ → ℕ → Option Executed → Option Executed → List ℕ
-slot_line m c unit None beside = []
-slot_line m c unit (Some e) beside = issue_line (record {
-  cycle = c;
+abbrev pub slot_line : TracedMachine → ℕ → Option Executed → Option Executed → List ℕ
+slot_line m unit None beside = []
+slot_line m unit (Some e) beside = issue_line (record {
+  cycle = e.cycle;
   unit = unit;
   op = e.op;
   reads = reads_of m (m.under_way ++ option_to_list (sent_in beside)) e.op;
@@ -70,8 +71,8 @@ in_slot lat m ops c slot = option_map (λ i. executed_at lat m c (op_at ops i)) 
 -- the lines of both
 abbrev pub row_lines : Latencies → TracedMachine → List Op → Row → ℕ → List ℕ
 row_lines lat m ops row c =
-    slot_line m c 0 (in_slot lat m ops c row.zero) (in_slot lat m ops c row.one)
-    ++ slot_line m c 1 (in_slot lat m ops c row.one) (in_slot lat m ops c row.zero)
+    slot_line m 0 (in_slot lat m ops c row.zero) (in_slot lat m ops c row.one)
+    ++ slot_line m 1 (in_slot lat m ops c row.one) (in_slot lat m ops c row.zero)
 
 -- the machine with what was sent in a slot
 abbrev pub sent_after : TracedMachine → Option Executed → TracedMachine

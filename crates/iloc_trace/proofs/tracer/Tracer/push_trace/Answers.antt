@@ -1,17 +1,7 @@
-use Rattle.iloc_trace.proofs.Common.{◌≡◌, ◌+◌, ◌≤◌, true, false, [], ◌++◌, length, sym, ap, ◌∙◌, subst, append-nil, arith, one_known, zero_known, row_at, issued_before, trace_lines}
+use Rattle.iloc_trace.proofs.Common.{◌≡◌, ◌+◌, ◌≤◌, true, false, [], ◌++◌, length, sym, refl, ap, ◌∙◌, subst, append-nil, arith, row_at, issued_before, trace_lines}
 use Rattle.iloc_trace.specs.Steps.Rows.{Follows}
 use Rattle.iloc_trace.proofs.WholeRuns.{ends_at_fault, follows_more, row_more_listed}
 use Rattle.iloc_trace.proofs.tracer.Tracer.push_trace.Goals as goal
-
-pub run_row-requires-clause-zero : goal.run_row-requires-clause-zero
-run_row-requires-clause-zero c =
-    rw (c.row_at.ensures, c.ops-ops.ensures.ops, c.rows-rows.ensures.rows)
-    (zero_known _ _ c.loop-cycle.cycle c.ops-ops.ensures.table)
-
-pub run_row-requires-clause-one : goal.run_row-requires-clause-one
-run_row-requires-clause-one c =
-    rw (c.row_at.ensures, c.ops-ops.ensures.ops, c.rows-rows.ensures.rows)
-    (one_known _ _ c.loop-cycle.cycle c.ops-ops.ensures.table)
 
 pub loop-cycle-init : goal.loop-cycle-init
 loop-cycle-init c = record {
@@ -29,15 +19,13 @@ loop-cycle-preserved c =
     let rows = c.args.schedule.now.rows in
     let cycle = c.loop-cycle.cycle in
     let log = issued_before lat memory ops rows cycle in
-    let row_is : c.row_at.result ≡ row_at rows cycle = c.row_at.ensures ∙ ap (λ rs. row_at rs cycle) c.rows-rows.ensures.rows in
-    let lists = rw c.ops-ops.ensures.ops at (c.in_ok-run_row.ensures.lists memory log c.loop-cycle.invariant.follows) in
-    let after = rw (c.ops-ops.ensures.ops, c.if-not-branch.false) at
-    (c.in_ok-run_row.ensures.after memory log c.loop-cycle.invariant.follows) in
+    let lists = c.in_ok-run_row.ensures.lists memory log c.loop-cycle.invariant.follows in
+    let after = rw c.if-not-branch.false at (c.in_ok-run_row.ensures.after memory log c.loop-cycle.invariant.follows) in
     record {
       first = c.run_row.ensures.first ∙ c.loop-cycle.invariant.first;
-      lists = row_more_listed lat memory ops rows cycle c.row_at.result c.args.text.now.items c.loop-cycle.text.items
-          c.run_row.new.text.items row_is c.loop-cycle.invariant.lists lists;
-      follows = follows_more lat memory ops rows cycle c.row_at.result true c.run_row.new.self row_is after;
+      lists = row_more_listed lat memory ops rows cycle (row_at rows cycle) c.args.text.now.items c.loop-cycle.text.items
+          c.run_row.new.text.items refl c.loop-cycle.invariant.lists lists;
+      follows = follows_more lat memory ops rows cycle (row_at rows cycle) true c.run_row.new.self refl after;
     }
 
 pub returns-then-not-branch-clause-lists : goal.returns-then-not-branch-clause-lists
@@ -48,14 +36,12 @@ returns-then-not-branch-clause-lists c =
     let rows = c.args.schedule.now.rows in
     let cycle = c.loop-cycle.cycle in
     let log = issued_before lat memory ops rows cycle in
-    let row_is : c.row_at.result ≡ row_at rows cycle = c.row_at.ensures ∙ ap (λ rs. row_at rs cycle) c.rows-rows.ensures.rows in
-    let lists = rw c.ops-ops.ensures.ops at (c.in_ok-run_row.ensures.lists memory log c.loop-cycle.invariant.follows) in
-    let after = rw (c.ops-ops.ensures.ops, c.if-not-branch.true) at
-    (c.in_ok-run_row.ensures.after memory log c.loop-cycle.invariant.follows) in
-    let count : length c.rows-rows.result.now ≡ length rows = ap length c.rows-rows.ensures.rows in
+    let lists = c.in_ok-run_row.ensures.lists memory log c.loop-cycle.invariant.follows in
+    let after = rw c.if-not-branch.true at (c.in_ok-run_row.ensures.after memory log c.loop-cycle.invariant.follows) in
+    let count : length c.rows.result.now ≡ length rows = ap length c.rows.ensures.rows in
     let within : cycle + 1 ≤ length rows + 16 = omega arith in
-    row_more_listed lat memory ops rows cycle c.row_at.result c.args.text.now.items c.loop-cycle.text.items
-    c.run_row.new.text.items row_is c.loop-cycle.invariant.lists lists
+    row_more_listed lat memory ops rows cycle (row_at rows cycle) c.args.text.now.items c.loop-cycle.text.items
+    c.run_row.new.text.items refl c.loop-cycle.invariant.lists lists
     ∙ ap (λ events. c.args.text.now.items ++ trace_lines events)
     (ends_at_fault lat memory ops rows (cycle + 1) (length rows + 16) within
-    (follows_more lat memory ops rows cycle c.row_at.result false c.run_row.new.self row_is after))
+    (follows_more lat memory ops rows cycle (row_at rows cycle) false c.run_row.new.self refl after))
