@@ -18,12 +18,12 @@ ghost use Rattle.iloc_rules.specs.Renaming.{IsRenamed};
 pub(crate) mod by_address;
 pub(crate) mod kinds;
 pub mod lasts;
+pub mod next;
 
-use crate::edges::lasts::Lasts;
-use crate::registers::{OperandRegisters, Uses};
+use crate::edges::next::Next;
+use crate::registers::Uses;
 use iloc_ops::{MAX_OPS, NoMemory, Reg};
-use iloc_timed::{Kind, Latencies};
-use kinds::Operations;
+use iloc_timed::Kind;
 use std::alloc::Global;
 
 /// At most so many edges are kept for each operation.
@@ -223,88 +223,65 @@ impl Edges {
         }
     }
 
-    /// Adds the edge into operation j for a register that it uses.
+    /// Adds the edge into the next operation for a register that it uses.
     #[inline(always)]
-    fn add_use(
-        &mut self,
-        operations: &Operations,
-        latencies: &Latencies,
-        lasts: &Lasts,
-        register: Reg,
-        j: usize,
-    )
-        requires next { IsNext operations.now.ops.now lasts.now j }
-        requires own { operations.now.latencies.now ≡ map (latency latencies.now) operations.now.ops.now }
-        requires used { Contains (used (op_at operations.now.ops.now j)) register }
+    fn add_use(&mut self, next: &Next, register: Reg)
+        requires next { IsNext next.now }
+        requires used { Contains (used (op_at next.now.ops.now next.now.j)) register }
         requires space { length self.old.edges.items < 5 * length self.old.heads.items }
         requires capacity { HasCapacity self.old (length self.old.heads.items) }
-        requires partial { (rule : rule_value) × IsPartialGraph rule latencies.now operations.now.ops.now (graph_of self.old) j }
-        ensures grows { (rule : rule_value) → IsPartialGraph rule latencies.now operations.now.ops.now (graph_of self.old) j
-            → Grows rule latencies.now operations.now.ops.now (graph_of self.old) (graph_of self.new) j }
-        ensures covers { CoversUse latencies.now operations.now.ops.now (graph_of self.new) j register }
+        requires partial { (rule : rule_value) × IsPartialGraph rule next.now.latencies.now next.now.ops.now (graph_of self.old) next.now.j }
+        ensures grows { (rule : rule_value) → IsPartialGraph rule next.now.latencies.now next.now.ops.now (graph_of self.old) next.now.j
+            → Grows rule next.now.latencies.now next.now.ops.now (graph_of self.old) (graph_of self.new) next.now.j }
+        ensures covers { CoversUse next.now.latencies.now next.now.ops.now (graph_of self.new) next.now.j register }
         ensures count { length self.new.edges.items ≤ length self.old.edges.items + 1 }
         ensures frame { KeepsFrame self.old self.new }
     {
-        if let Some(i) = lasts.definers.get(register) {
-            self.add(i, j as u32, operations.latencies[i as usize]);
+        if let Some(i) = next.lasts.definers.get(register) {
+            self.add(i, next.j as u32, next.own[i as usize]);
         }
     }
 
-    /// Adds the edges into operation j for the registers that it uses.
+    /// Adds the edges into the next operation for the registers that it uses.
     #[inline(always)]
-    fn add_uses(
-        &mut self,
-        operations: &Operations,
-        latencies: &Latencies,
-        lasts: &Lasts,
-        uses: Uses,
-        j: usize,
-    )
-        requires next { IsNext operations.now.ops.now lasts.now j }
-        requires uses { listed uses ≡ used (op_at operations.now.ops.now j) }
-        requires own { operations.now.latencies.now ≡ map (latency latencies.now) operations.now.ops.now }
+    fn add_uses(&mut self, next: &Next)
+        requires next { IsNext next.now }
         requires space { length self.old.edges.items + 2 ≤ 5 * length self.old.heads.items }
         requires capacity { HasCapacity self.old (length self.old.heads.items) }
-        requires partial { (rule : rule_value) × IsPartialGraph rule latencies.now operations.now.ops.now (graph_of self.old) j }
-        ensures grows { (rule : rule_value) → IsPartialGraph rule latencies.now operations.now.ops.now (graph_of self.old) j
-            → Grows rule latencies.now operations.now.ops.now (graph_of self.old) (graph_of self.new) j }
-        ensures covers { CoversUses latencies.now operations.now.ops.now (graph_of self.new) j }
+        requires partial { (rule : rule_value) × IsPartialGraph rule next.now.latencies.now next.now.ops.now (graph_of self.old) next.now.j }
+        ensures grows { (rule : rule_value) → IsPartialGraph rule next.now.latencies.now next.now.ops.now (graph_of self.old) next.now.j
+            → Grows rule next.now.latencies.now next.now.ops.now (graph_of self.old) (graph_of self.new) next.now.j }
+        ensures covers { CoversUses next.now.latencies.now next.now.ops.now (graph_of self.new) next.now.j }
         ensures count { length self.new.edges.items ≤ length self.old.edges.items + 2 }
         ensures frame { KeepsFrame self.old self.new }
     {
-        match uses {
+        match next.uses {
             Uses::Nothing => {}
-            Uses::One(register) => self.add_use(operations, latencies, lasts, register, j),
+            Uses::One(register) => self.add_use(next, register),
             Uses::Two(left, right) => {
-                self.add_use(operations, latencies, lasts, left, j);
-                self.add_use(operations, latencies, lasts, right, j);
+                self.add_use(next, left);
+                self.add_use(next, right);
             }
         }
     }
 
-    /// Adds the edges into operation j by memory and outputs.
+    /// Adds the edges into the next operation by memory and outputs.
     #[inline(always)]
-    fn add_memory(
-        &mut self,
-        operations: &Operations,
-        latencies: &Latencies,
-        lasts: &Lasts,
-        kind: Kind,
-        j: usize,
-    )
-        requires of { kind ≡ kind_of (op_at operations.now.ops.now j) }
-        requires next { IsNext operations.now.ops.now lasts.now j }
-        requires space { length self.old.edges.items + 2 + length lasts.now.loads.items ≤ 5 * length self.old.heads.items }
+    fn add_memory(&mut self, next: &Next)
+        requires next { IsNext next.now }
+        requires space { length self.old.edges.items + 2 + length next.now.lasts.now.loads.items ≤ 5 * length self.old.heads.items }
         requires capacity { HasCapacity self.old (length self.old.heads.items) }
-        requires partial { IsPartialGraph Book latencies.now operations.now.ops.now (graph_of self.old) j }
-        ensures grows { Grows Book latencies.now operations.now.ops.now (graph_of self.old) (graph_of self.new) j }
-        ensures covers { CoversMemory latencies.now operations.now.ops.now (graph_of self.new) j }
+        requires partial { IsPartialGraph Book next.now.latencies.now next.now.ops.now (graph_of self.old) next.now.j }
+        ensures grows { Grows Book next.now.latencies.now next.now.ops.now (graph_of self.old) (graph_of self.new) next.now.j }
+        ensures covers { CoversMemory next.now.latencies.now next.now.ops.now (graph_of self.new) next.now.j }
         ensures count { length self.new.edges.items ≤ length self.old.edges.items + 2
-            + loads_before kind lasts.now }
+            + loads_before next.now.kind next.now.lasts.now }
         ensures frame { KeepsFrame self.old self.new }
     {
-        let to = j as u32;
-        match kind {
+        let to = next.j as u32;
+        let latencies = next.latencies;
+        let lasts = next.lasts;
+        match next.kind {
             Kind::Load => self.add_from(lasts.store, to, latencies.store),
             Kind::Output => {
                 self.add_from(lasts.store, to, latencies.store);
@@ -319,59 +296,23 @@ impl Edges {
         }
     }
 
-    /// Adds all edges into operation j.
+    /// Adds all edges into the next operation.
     #[inline(always)]
-    pub fn add_all(
-        &mut self,
-        operations: &Operations,
-        latencies: &Latencies,
-        lasts: &Lasts,
-        kind: Kind,
-        uses: Uses,
-        j: usize,
-    )
-        requires of { kind ≡ kind_of (op_at operations.now.ops.now j) }
-        requires uses { listed uses ≡ used (op_at operations.now.ops.now j) }
-        requires next { IsNext operations.now.ops.now lasts.now j }
-        requires own { operations.now.latencies.now ≡ map (latency latencies.now) operations.now.ops.now }
-        requires space { length self.old.edges.items + 4 + length lasts.now.loads.items ≤ 5 * length self.old.heads.items }
+    pub fn add_all(&mut self, next: &Next)
+        requires next { IsNext next.now }
+        requires space { length self.old.edges.items + 4 + length next.now.lasts.now.loads.items ≤ 5 * length self.old.heads.items }
         requires capacity { HasCapacity self.old (length self.old.heads.items) }
-        requires starts { length self.old.starts.items ≡ j + 1 }
-        requires partial { IsPartialGraph Book latencies.now operations.now.ops.now (graph_of self.old) j }
-        ensures partial { IsPartialGraph Book latencies.now operations.now.ops.now (graph_of self.new) (j + 1) }
+        requires starts { length self.old.starts.items ≡ next.now.j + 1 }
+        requires partial { IsPartialGraph Book next.now.latencies.now next.now.ops.now (graph_of self.old) next.now.j }
+        ensures partial { IsPartialGraph Book next.now.latencies.now next.now.ops.now (graph_of self.new) (next.now.j + 1) }
         ensures count { length self.new.edges.items ≤ length self.old.edges.items + 4
-            + loads_before kind lasts.now }
-        ensures starts { length self.new.starts.items ≡ j + 2 }
+            + loads_before next.now.kind next.now.lasts.now }
+        ensures starts { length self.new.starts.items ≡ next.now.j + 2 }
         ensures heads { length self.new.heads.items ≡ length self.old.heads.items }
         ensures capacity { KeepsCapacity self.old self.new }
     {
-        self.add_uses(operations, latencies, lasts, uses, j);
-        self.add_memory(operations, latencies, lasts, kind, j);
+        self.add_uses(next);
+        self.add_memory(next);
         self.starts.push_reserved(self.edges.len() as u32);
-    }
-
-    /// The kept edges of renamed operations, found fastest where their registers are below the limit.
-    pub fn fill(
-        &mut self,
-        lasts: &mut Lasts,
-        operations: &Operations,
-        registers: usize,
-        latencies: &Latencies,
-    ) -> Result<(), NoMemory>
-        requires few { length operations.now.ops.now ≤ MAX_OPS }
-        requires renamed { IsRenamed operations.now.ops.now }
-        requires own { operations.now.latencies.now ≡ map (latency latencies.now) operations.now.ops.now }
-        ensures { OnOk result (IsGraphOf Book latencies.now operations.now.ops.now (graph_of self.new)) }
-    {
-        self.clear(operations.ops.len())?;
-        lasts.clear(registers);
-        for j in 0..operations.ops.len() {
-            let op = operations.ops[j];
-            let registers = OperandRegisters::of(&op);
-            let kind = Kind::of(&op);
-            self.add_all(operations, latencies, lasts, kind, registers.uses, j);
-            lasts.note(kind, registers.defines, j)?;
-        }
-        Ok(())
     }
 }

@@ -5,8 +5,9 @@ ghost use Rattle.iloc_rules.specs.Renaming.{is_nop, renamed, without_nops, IsRen
 
 use crate::edges::Edges;
 use crate::edges::by_address::LastsByAddress;
-use crate::edges::kinds::{Operations, fill_kinds};
+use crate::edges::kinds::fill_kinds;
 use crate::edges::lasts::Lasts;
+use crate::edges::next::Next;
 use crate::ranking::priority::fill_latencies;
 use crate::registers::OperandRegisters;
 use crate::renaming::{Names, is_nop};
@@ -115,11 +116,16 @@ impl Tables {
         self.kinds.push_reserved(kind);
         self.own.push_reserved(self.latencies.of(kind));
         self.edges.grow();
-        let operations = Operations {
+        let next = Next {
             ops: &self.ops,
-            latencies: &self.own,
+            own: &self.own,
+            latencies: &self.latencies,
+            lasts,
+            kind,
+            uses: registers.uses,
+            j,
         };
-        self.edges.add_all(&operations, &self.latencies, lasts, kind, registers.uses, j);
+        self.edges.add_all(&next);
         lasts.note(kind, registers.defines, j)?;
         Ok(())
     }
@@ -250,12 +256,7 @@ impl Tables {
         names.rename_block(&mut self.ops, block)?;
         fill_kinds(&mut self.kinds, &self.ops)?;
         fill_latencies(&mut self.own, &self.kinds, latencies)?;
-        let operations = Operations {
-            ops: &self.ops,
-            latencies: &self.own,
-        };
-        self.edges
-            .fill_by_address(lasts, &mut self.by_address, &operations, latencies)?;
+        self.edges.fill_by_address(lasts, &mut self.by_address, &self.ops, &self.own, latencies)?;
         self.rule = MemoryRule::Address;
         Ok(())
     }
@@ -275,16 +276,10 @@ impl Tables {
         ensures ops { OnOk result (self.new.ops.items ≡ ops.now) }
     {
         self.latencies = *latencies;
-        self.ops.clear();
-        self.ops.extend_from_slice(ops)?;
-        fill_kinds(&mut self.kinds, ops)?;
-        fill_latencies(&mut self.own, &self.kinds, latencies)?;
-        let operations = Operations {
-            ops,
-            latencies: &self.own,
-        };
-        self.edges
-            .fill(lasts, &operations, 3 * ops.len(), latencies)?;
+        self.clear(lasts, ops.len())?;
+        for op in ops {
+            self.push(lasts, *op, OperandRegisters::of(op))?;
+        }
         self.rule = MemoryRule::Book;
         Ok(())
     }

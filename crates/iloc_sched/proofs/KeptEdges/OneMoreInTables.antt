@@ -1,10 +1,11 @@
--- What is known of the edges between some operations holds once there is one operation more; for `Tables::push`.
-use Rattle.iloc_sched.proofs.Common.{◌≡◌, ℕ, ◌+◌, ◌<◌, true, false, List, [], ◌∷◌, ◌++◌, map, length, get_or, IsTrue, Some, None, Contains, Option, sym, ap, ◌∙◌, subst, inl, inr, arith, length-append, map-append, Vec, defined, Op, op_at, is_load, is_output, is_store, kind, latency, Kind, Latencies, IsDelayPair, delays, memory_delays, uses_result, IsRenamed, Book, IsNear, takes_over, IsLasts, IsNext, IsNearPairBy, IsPartialGraph, Graph, graph_of, Edge, Edges, Lasts}
+-- What is known of the edges between some operations holds once there is one operation more; for `Tables::push` and
+-- `open_renamed`.
+use Rattle.iloc_sched.proofs.Common.{◌≡◌, ℕ, ◌+◌, ◌<◌, true, false, List, [], ◌∷◌, ◌++◌, ◌⊎◌, map, length, get_or, take, IsTrue, Some, None, Contains, Option, sym, refl, ap, ◌∙◌, subst, inl, inr, arith, length-append, length-take, get_or-take, cases_lt, get_or_past, map-append, take_more, Vec, defined, used, Op, Nop, Reg, op_at, is_load, is_output, is_store, kind, latency, Kind, Latencies, IsDelayPair, delays, memory_delays, uses_result, IsRenamed, is_nop, Book, IsNear, takes_over, IsLasts, IsNearPairBy, IsPartialGraph, Graph, graph_of, Edge, Edges, Lasts}
 use Rattle.std.proofs.Math.ListN.{get_or-append}
 use Rattle.std.proofs.Math.Seq.{get_or-append_seam}
 use Rattle.iloc_sched.proofs.Basics.LastOnes.{last_same}
 use Rattle.iloc_sched.proofs.KeptEdges.AddedEdges.{tables_graph}
-use Rattle.iloc_sched.proofs.Renamed.OneMoreOperation.{op_at_kept}
+use Rattle.iloc_sched.proofs.Renamed.OneMoreOperation.{op_at_kept, op_at_last}
 
 module _ (ops : List Op) (op : Op) where
   on : (P : Op → Type 0) (k : ℕ) → k < length ops → P (op_at ops k) → P (op_at (ops ++ op ∷ []) k)
@@ -117,10 +118,12 @@ module _ (ops : List Op) (op : Op) where
       → own' ≡ own ++ latency lat op ∷ [] → own ≡ map (latency lat) ops → own' ≡ map (latency lat) ops'
   latencies_more lat own own' ops' ops_is own_is own_was = grind (arith, map-append)
 
-  -- it is the next
-  pub is_next : (lasts : Lasts) (j : ℕ) (ops' : List Op) → ops' ≡ ops ++ op ∷ [] → j ≡ length ops
-      → IsRenamed (ops ++ op ∷ []) → length ops < 10000 → IsLasts ops lasts (length ops) → IsNext ops' lasts j
-  is_next lasts j ops' ops_is at renamed few known = grind (arith, lasts_next lasts known, size_more)
+  pub op_at_next : (j : ℕ) (ops' : List Op) → ops' ≡ ops ++ op ∷ [] → j ≡ length ops → op_at ops' j ≡ op
+  op_at_next j ops' ops_is at = ap (λ xs. op_at xs j) ops_is ∙ ap (op_at (ops ++ op ∷ [])) at ∙ op_at_last ops op
+
+  pub lasts_grown : (lasts : Lasts) (j : ℕ) (ops' : List Op) → ops' ≡ ops ++ op ∷ [] → j ≡ length ops
+      → IsLasts ops lasts (length ops) → IsLasts ops' lasts j
+  lasts_grown lasts j ops' ops_is at known = grind (arith, lasts_next lasts known)
 
   -- the same of the tables
   pub partial_grown : (lat : Latencies) (e e' : Edges) (j : ℕ) (ops' : List Op) → ops' ≡ ops ++ op ∷ [] → j ≡ length ops
@@ -138,3 +141,44 @@ module _ (ops : List Op) (op : Op) where
       (subst (λ (v : Vec Edge). IsPartialGraph Book lat (ops ++ op ∷ []) (tables_graph v.items e'.starts.items e'.heads.items) (length ops))
       (sym edges)
       (grind arith)))
+
+-- of the first operations of renamed ones
+module _ (ops : List Op) (k : ℕ) where
+  op_before : (i : ℕ) → (op_at (take k ops) i ≡ op_at ops i) ⊎ (op_at (take k ops) i ≡ Nop)
+  op_before i = elim (cases_lt i k) [
+    | inl below ↦ inl (get_or-take k ops i Nop below)
+    | inr past ↦ inr (get_or_past (take k ops) i Nop (grind (arith, length-take)))
+  ]
+
+  held : (P : Op → Type 0) → (P Nop → ⊥) → (i : ℕ) → P (op_at (take k ops) i) → P (op_at ops i)
+  held P none i at = elim (op_before i) [
+    | inl same ↦ subst P same at
+    | inr past ↦ absurd (none (subst P past at))
+  ]
+
+  defines_none : (r : Reg) → defined Nop ≡ Some r → ⊥
+  defines_none r is = grind arith
+
+  uses_none : (r : Reg) → Contains (used Nop) r → ⊥
+  uses_none r is = grind arith
+
+  first_renamed : IsRenamed ops → IsRenamed (take k ops)
+  first_renamed is = record {
+    no_nop = λ i below. let size = length-take k ops in
+        subst (λ o. is_nop o ≡ false) (sym (get_or-take k ops i Nop (grind arith))) (is.no_nop i (grind arith));
+    once = λ i j r here there. is.once i j r (held (λ o. defined o ≡ Some r) (defines_none r) i here)
+        (held (λ o. defined o ≡ Some r) (defines_none r) j there);
+    defined_before = λ i j r uses there. is.defined_before i j r (held (λ o. Contains (used o) r) (uses_none r) i uses)
+        (held (λ o. defined o ≡ Some r) (defines_none r) j there);
+  }
+
+-- one operation more of renamed ones
+pub more_taken : (ops now more : List Op) (i : ℕ) (d : Op) → now ≡ take i ops → i < length ops → more ≡ now ++ get_or ops i d ∷ []
+    → more ≡ take (i + 1) ops
+more_taken ops now more i d is below pushed =
+    pushed ∙ ap (λ xs. xs ++ get_or ops i d ∷ []) is ∙ sym (take_more ops i d below)
+
+pub more_renamed : (ops now : List Op) (i : ℕ) (d : Op) → IsRenamed ops → now ≡ take i ops → i < length ops
+    → IsRenamed (now ++ get_or ops i d ∷ [])
+more_renamed ops now i d renamed is below =
+    subst IsRenamed (sym (more_taken ops now (now ++ get_or ops i d ∷ []) i d is below refl)) (first_renamed ops (i + 1) renamed)

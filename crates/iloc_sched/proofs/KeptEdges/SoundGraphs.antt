@@ -1,8 +1,10 @@
 -- The tables of a graph are sound, by the book and by address; for `Tables::open`, `open_by_address` and the calls of `Graph`.
-use Rattle.iloc_sched.proofs.Common.{◌≡◌, ℕ, ◌<◌, ◌⊎◌, List, [], map, length, sym, ap, ◌∙◌, subst, inl, inr, arith, get_or_past, Op, kind, latency, Latencies, by_address, IsDelayPairWhere, counts_by, MemoryRule, Address, Book, GraphOf, IsNearBy, IsByTheBook, IsOfBlock, IsSound, Graph, IsGraphOf, IsGraphWhere, IsEmptied, graph_of, Tables}
+use Rattle.iloc_sched.proofs.Common.{◌≡◌, ℕ, ◌<◌, ◌⊎◌, List, [], map, length, sym, ap, ◌∙◌, subst, inl, inr, arith, get_or_past, Op, kind, latency, Latencies, by_address, IsDelayPairWhere, counts_by, MemoryRule, Address, Book, GraphOf, IsNearBy, IsByTheBook, IsOfBlock, IsSound, Graph, IsGraphOf, IsGraphWhere, IsEmptied, graph_of, Lasts, Tables}
 use Rattle.iloc_rules.specs.Steps.Ways.{GoesBy}
 use Rattle.iloc_addresses.proofs.FarPairs.{near_or_by_way as near_or_far_where}
+use Rattle.iloc_sched.specs.Steps.Edges.Filling.{IsFilling}
 use Rattle.iloc_sched.proofs.KeptEdges.FarPairs.{near_or_by_way as near_or_far}
+use Rattle.iloc_sched.proofs.KeptEdges.PartialGraphs.{kept_at_end}
 
 -- what isn't near goes by way of an operation between
 near_or_by_way : (rule : MemoryRule) (lat : Latencies) (ops : List Op) (i j d : ℕ) → IsDelayPairWhere (counts_by rule ops) lat ops i j d
@@ -34,6 +36,14 @@ is_sound t kinds own graph = record {
 pub book_is_sound : (t : Tables) → t.rule ≡ Book → IsByTheBook t → IsSound t
 book_is_sound t book is = is_sound t is.kinds is.own
     (subst (λ rule. IsGraphOf rule t.latencies t.ops.items (graph_of t.edges)) (sym book) is.graph)
+
+-- tables to which all operations are added
+pub filled_by_the_book : (t : Tables) (lasts : Lasts) → IsFilling t lasts → IsByTheBook t
+filled_by_the_book t lasts is = record {
+  kinds = is.kinds;
+  own = is.own;
+  graph = kept_at_end Book t.latencies t.ops.items (graph_of t.edges) is.partial;
+}
 
 none_by_the_book : (t : Tables) → t.ops.items ≡ [] → t.kinds.items ≡ [] → t.own.items ≡ [] → IsEmptied t.edges
     → IsByTheBook t

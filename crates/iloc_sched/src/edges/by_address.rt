@@ -1,7 +1,6 @@
 //! The kept edges where operations whose addresses are known to differ don't wait for each other by memory.
 ghost use Rattle.std.specs.Prelude.{ℕ, ◌≡◌, ◌≤◌, ◌<◌, ◌+◌, ◌*◌, List, length, map, OnOk, Contains};
 ghost use Rattle.iloc_ops.specs.declared.op.Op.{Op as operation};
-ghost use Rattle.iloc_ops.specs.Registers.{used};
 ghost use Rattle.iloc_meaning.specs.Trace.{op_at};
 ghost use Rattle.iloc_timed.specs.Kinds.{kind as kind_of};
 ghost use Rattle.iloc_timed.specs.Latency.{latency};
@@ -11,16 +10,14 @@ ghost use Rattle.iloc_rules.specs.Renaming.{IsRenamed};
 ghost use Rattle.iloc_addresses.specs.Dependences.{AreSources};
 ghost use Rattle.iloc_addresses.specs.Steps.Dependences.{waiting};
 ghost use Rattle.iloc_sched.specs.Steps.Edges.ByAddress.{delay_after, CoversSources};
-ghost use Rattle.iloc_sched.specs.Steps.Edges.Lasts.{IsNext};
 ghost use Rattle.iloc_sched.specs.Steps.Edges.PartialGraph.{HasCapacity, IsPartialGraph, KeepsFrame, KeepsCapacity, Grows};
 ghost use Rattle.iloc_sched.specs.Steps.Graph.{IsGraphOf};
-ghost use Rattle.iloc_sched.specs.Steps.Renaming.Registers.{listed};
 ghost use Rattle.iloc_sched.specs.Steps.Views.{graph_of};
 
 use crate::edges::Edges;
-use crate::edges::kinds::Operations;
 use crate::edges::lasts::Lasts;
-use crate::registers::{OperandRegisters, Uses};
+use crate::edges::next::Next;
+use crate::registers::OperandRegisters;
 use iloc_addresses::{KnownRegisters, MemoryDependences};
 use iloc_ops::{MAX_OPS, NoMemory, Op};
 use iloc_rules::reads_stored;
@@ -88,61 +85,46 @@ impl LastsByAddress {
 }
 
 impl Edges {
-    /// Adds the edges into operation `j` from `sources`, the operations that it waits for by memory and outputs.
-    fn add_sources(
-        &mut self,
-        operations: &Operations,
-        latencies: &Latencies,
-        sources: &[u32],
-        kind: Kind,
-        j: usize,
-    )
-        requires of { kind ≡ kind_of (op_at operations.now.ops.now j) }
-        requires there { j < length operations.now.ops.now }
-        requires few { length operations.now.ops.now ≤ MAX_OPS }
-        requires sources { AreSources (by_address operations.now.ops.now) operations.now.ops.now j sources.now }
+    ghost use Rattle.iloc_sched.specs.Steps.Edges.Lasts.{IsNext};
+
+    /// Adds the edges into the next operation from `sources`, the operations that it waits for by memory and outputs.
+    fn add_sources(&mut self, next: &Next, sources: &[u32])
+        requires next { IsNext next.now }
+        requires sources { AreSources (by_address next.now.ops.now) next.now.ops.now next.now.j sources.now }
         requires space { length self.old.edges.items + length sources.now ≤ 5 * length self.old.heads.items }
         requires capacity { HasCapacity self.old (length self.old.heads.items) }
-        requires partial { IsPartialGraph Address latencies.now operations.now.ops.now (graph_of self.old) j }
-        ensures grows { Grows Address latencies.now operations.now.ops.now (graph_of self.old) (graph_of self.new) j }
-        ensures covers { CoversSources latencies.now operations.now.ops.now (graph_of self.new) j sources.now }
+        requires partial { IsPartialGraph Address next.now.latencies.now next.now.ops.now (graph_of self.old) next.now.j }
+        ensures grows { Grows Address next.now.latencies.now next.now.ops.now (graph_of self.old) (graph_of self.new) next.now.j }
+        ensures covers { CoversSources next.now.latencies.now next.now.ops.now (graph_of self.new) next.now.j sources.now }
         ensures count { length self.new.edges.items ≡ length self.old.edges.items + length sources.now }
         ensures frame { KeepsFrame self.old self.new }
     {
         for i in sources {
-            let first = Kind::of(&operations.ops[*i as usize]);
-            self.add(*i, j as u32, delay_after(latencies, first, kind));
+            let first = Kind::of(&next.ops[*i as usize]);
+            self.add(
+                *i,
+                next.j as u32,
+                delay_after(next.latencies, first, next.kind),
+            );
         }
     }
 
-    /// Adds all edges into operation j.
-    fn add_by_address(
-        &mut self,
-        operations: &Operations,
-        latencies: &Latencies,
-        lasts: &Lasts,
-        sources: &[u32],
-        kind: Kind,
-        uses: Uses,
-        j: usize,
-    )
-        requires of { kind ≡ kind_of (op_at operations.now.ops.now j) }
-        requires uses { listed uses ≡ used (op_at operations.now.ops.now j) }
-        requires next { IsNext operations.now.ops.now lasts.now j }
-        requires own { operations.now.latencies.now ≡ map (latency latencies.now) operations.now.ops.now }
-        requires sources { AreSources (by_address operations.now.ops.now) operations.now.ops.now j sources.now }
+    /// Adds all edges into the next operation, which waits for `sources` by memory and outputs.
+    fn add_by_address(&mut self, next: &Next, sources: &[u32])
+        requires next { IsNext next.now }
+        requires sources { AreSources (by_address next.now.ops.now) next.now.ops.now next.now.j sources.now }
         requires space { length self.old.edges.items + 2 + length sources.now ≤ 5 * length self.old.heads.items }
         requires capacity { HasCapacity self.old (length self.old.heads.items) }
-        requires starts { length self.old.starts.items ≡ j + 1 }
-        requires partial { IsPartialGraph Address latencies.now operations.now.ops.now (graph_of self.old) j }
-        ensures partial { IsPartialGraph Address latencies.now operations.now.ops.now (graph_of self.new) (j + 1) }
+        requires starts { length self.old.starts.items ≡ next.now.j + 1 }
+        requires partial { IsPartialGraph Address next.now.latencies.now next.now.ops.now (graph_of self.old) next.now.j }
+        ensures partial { IsPartialGraph Address next.now.latencies.now next.now.ops.now (graph_of self.new) (next.now.j + 1) }
         ensures count { length self.new.edges.items ≤ length self.old.edges.items + 2 + length sources.now }
-        ensures starts { length self.new.starts.items ≡ j + 2 }
+        ensures starts { length self.new.starts.items ≡ next.now.j + 2 }
         ensures heads { length self.new.heads.items ≡ length self.old.heads.items }
         ensures capacity { KeepsCapacity self.old self.new }
     {
-        self.add_uses(operations, latencies, lasts, uses, j);
-        self.add_sources(operations, latencies, sources, kind, j);
+        self.add_uses(next);
+        self.add_sources(next, sources);
         self.starts.push_reserved(self.edges.len() as u32);
     }
 
@@ -151,32 +133,34 @@ impl Edges {
         &mut self,
         lasts: &mut Lasts,
         earlier: &mut LastsByAddress,
-        operations: &Operations,
+        ops: &[Op],
+        own: &[u32],
         latencies: &Latencies,
     ) -> Result<(), NoMemory>
-        requires few { length operations.now.ops.now ≤ MAX_OPS }
-        requires renamed { IsRenamed operations.now.ops.now }
-        requires own { operations.now.latencies.now ≡ map (latency latencies.now) operations.now.ops.now }
-        ensures { OnOk result (IsGraphOf Address latencies.now operations.now.ops.now (graph_of self.new)) }
+        requires few { length ops.now ≤ MAX_OPS }
+        requires renamed { IsRenamed ops.now }
+        requires own { own.now ≡ map (latency latencies.now) ops.now }
+        ensures { OnOk result (IsGraphOf Address latencies.now ops.now (graph_of self.new)) }
     {
-        let count = operations.ops.len();
+        let count = ops.len();
         self.clear(count)?;
         lasts.clear(3 * count);
         earlier.clear(3 * count);
         for j in 0..count {
-            let op = operations.ops[j];
+            let op = ops[j];
             let registers = OperandRegisters::of(&op);
             let kind = Kind::of(&op);
             earlier.take(&op, kind, j)?;
-            self.add_by_address(
-                operations,
+            let next = Next {
+                ops,
+                own,
                 latencies,
                 lasts,
-                &earlier.sources,
                 kind,
-                registers.uses,
+                uses: registers.uses,
                 j,
-            );
+            };
+            self.add_by_address(&next, &earlier.sources);
             lasts.note(kind, registers.defines, j)?;
         }
         Ok(())

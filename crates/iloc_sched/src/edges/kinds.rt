@@ -5,13 +5,6 @@ ghost use Rattle.iloc_timed.specs.Kinds.{kind};
 use iloc_ops::{NoMemory, Op};
 use iloc_timed::Kind;
 
-/// Operations with the latency of each.
-#[derive(Clone, Copy)]
-pub(crate) struct Operations<'a> {
-    pub ops: &'a [Op],
-    pub latencies: &'a [u32],
-}
-
 /// Fills a list with the kind of each operation.
 #[inline(always)]
 pub(crate) fn fill_kinds(kinds: &mut Vec<Kind>, ops: &[Op]) -> Result<(), NoMemory>

@@ -6,9 +6,9 @@ use Rattle.iloc_sched.proofs.edges.Edges.add_all.Goals as goal
 
 pub returns-clause-partial : goal.returns-clause-partial
 returns-clause-partial c =
-    let lat = c.args.latencies.now in
-    let ops = c.args.operations.now.ops.now in
-    let j : ℕ = c.args.j in
+    let lat = c.args.next.now.latencies.now in
+    let ops = c.args.next.now.ops.now in
+    let j : ℕ = c.args.next.now.j in
     let graph = graph_of c.add_memory.new.self in
     let grows = c.add_memory.ensures.grows in
     let uses : CoversUses lat ops graph j = λ r held. use_covered Book lat ops (graph_of c.add_uses.new.self) graph j r grows

@@ -12,9 +12,9 @@ add_sources-requires-clause-partial c = (c.add_uses.ensures.grows Address c.requ
 
 pub returns-clause-partial : goal.returns-clause-partial
 returns-clause-partial c =
-    let lat = c.args.latencies.now in
-    let ops = c.args.operations.now.ops.now in
-    let j : ℕ = c.args.j in
+    let lat = c.args.next.now.latencies.now in
+    let ops = c.args.next.now.ops.now in
+    let j : ℕ = c.args.next.now.j in
     let graph = graph_of c.add_sources.new.self in
     let grows = c.add_sources.ensures.grows in
     let uses : CoversUses lat ops graph j = λ r held. use_covered Address lat ops (graph_of c.add_uses.new.self) graph j r grows

@@ -20,38 +20,38 @@ earlier : (lat : Latencies) (ops : List Op) (j : ℕ) (sources : List ℕ) (k : 
 earlier lat ops j sources k are there below =
     (source_pair lat ops j sources are there (get_or sources k 0) (in_at sources k 0 below)).order
 
-pub bounds-operations-i : goal.bounds-operations-i
-bounds-operations-i c =
-    let before = earlier c.args.latencies.now c.args.operations.now.ops.now c.args.j c.args.sources.now c.loop-i.i-index
-    c.requires.sources c.requires.there (omega arith) in
-    omega (arith, c.requires.there)
+pub bounds-next-i : goal.bounds-next-i
+bounds-next-i c =
+    let before = earlier c.args.next.now.latencies.now c.args.next.now.ops.now c.args.next.now.j c.args.sources.now c.loop-i.i-index
+    c.requires.sources c.requires.next.there (omega arith) in
+    omega (arith, c.requires.next.there)
 
 pub add-requires-clause-there : goal.add-requires-clause-there
 add-requires-clause-there c =
-    let before = earlier c.args.latencies.now c.args.operations.now.ops.now c.args.j c.args.sources.now c.loop-i.i-index
-    c.requires.sources c.requires.there (omega arith) in
+    let before = earlier c.args.next.now.latencies.now c.args.next.now.ops.now c.args.next.now.j c.args.sources.now c.loop-i.i-index
+    c.requires.sources c.requires.next.there (omega arith) in
     let size = c.loop-i.invariant.grows.partial.size in
-    omega (arith, c.requires.there)
+    omega (arith, c.requires.next.there)
 
 pub loop-i-preserved : goal.loop-i-preserved
 loop-i-preserved c =
-    let lat = c.args.latencies.now in
-    let ops = c.args.operations.now.ops.now in
+    let lat = c.args.next.now.latencies.now in
+    let ops = c.args.next.now.ops.now in
     let xs = c.args.sources.now in
     let k : ℕ = c.loop-i.i-index in
     let i : ℕ = get_or xs k 0 in
     let below : k < length xs = omega arith in
-    let before : i < c.args.j = earlier lat ops c.args.j xs k c.requires.sources c.requires.there below in
-    let there : i < length ops = omega (arith, c.requires.there) in
-    let delay : c.delay_after.result ≡ delay_after lat (kind (op_at ops i)) (kind (op_at ops c.args.j)) =
-    c.delay_after.ensures ∙ ap₂ (delay_after lat) (c.of-first.ensures ∙ ap kind (get_or_default ops i _ Nop there)) c.requires.of in
-    let more = source_more lat ops c.args.j xs c.requires.sources c.requires.there (take k xs) i (graph_of c.args.self.now)
+    let before : i < c.args.next.now.j = earlier lat ops c.args.next.now.j xs k c.requires.sources c.requires.next.there below in
+    let there : i < length ops = omega (arith, c.requires.next.there) in
+    let delay : c.delay_after.result ≡ delay_after lat (kind (op_at ops i)) (kind (op_at ops c.args.next.now.j)) =
+    c.delay_after.ensures ∙ ap₂ (delay_after lat) (c.of-first.ensures ∙ ap kind (get_or_default ops i _ Nop there)) c.requires.next.kind_is in
+    let more = source_more lat ops c.args.next.now.j xs c.requires.sources c.requires.next.there (take k xs) i (graph_of c.args.self.now)
     (graph_of c.loop-i.self) (graph_of c.add.new.self) (in_at xs k 0 below) c.loop-i.invariant.grows
     c.loop-i.invariant.covers
-    (subst (AddsFrom (λ m. m ≡ i) (graph_of c.loop-i.self) (graph_of c.add.new.self) c.args.j) delay c.add.ensures.adds) in
+    (subst (AddsFrom (λ m. m ≡ i) (graph_of c.loop-i.self) (graph_of c.add.new.self) c.args.next.now.j) delay c.add.ensures.adds) in
     record {
       grows = more.0;
-      covers = subst (CoversSources lat ops (graph_of c.add.new.self) c.args.j) (sym (take_more xs k 0 below)) more.1;
+      covers = subst (CoversSources lat ops (graph_of c.add.new.self) c.args.next.now.j) (sym (take_more xs k 0 below)) more.1;
       count = omega (arith, c.add.ensures.count);
       frame = record {
         heads = omega arith;
@@ -62,5 +62,5 @@ loop-i-preserved c =
 
 pub returns-clause-covers : goal.returns-clause-covers
 returns-clause-covers c =
-    subst (CoversSources c.args.latencies.now c.args.operations.now.ops.now (graph_of c.loop-i.self) c.args.j)
+    subst (CoversSources c.args.next.now.latencies.now c.args.next.now.ops.now (graph_of c.loop-i.self) c.args.next.now.j)
     (take_all c.loop-i.i-index c.args.sources.now (omega arith)) c.loop-i.invariant.covers

@@ -5,9 +5,9 @@ use Rattle.iloc_sched.proofs.edges.Edges.fill_by_address.Given as goal
 
 abbrev pub invariant-loop-j : goal.invariant-loop-j
 invariant-loop-j l = record {
-  partial : IsPartialGraph Address l.latencies l.operations.ops.now (graph_of l.self) l.j;
-  lasts : IsLasts l.operations.ops.now l.lasts l.j;
-  known : AreKnown l.operations.ops.now l.earlier l.j;
+  partial : IsPartialGraph Address l.latencies l.ops (graph_of l.self) l.j;
+  lasts : IsLasts l.ops l.lasts l.j;
+  known : AreKnown l.ops l.earlier l.j;
   starts : length l.self.starts.items ≡ l.j + 1;
   capacity : HasCapacity l.self (length l.self.heads.items);
   count : length l.self.edges.items + waiting l.earlier.dependences ≤ 5 * l.j;

@@ -1,6 +1,6 @@
-use Rattle.iloc_sched.proofs.Common.{take, sym, ◌∙◌, arith, graph_of, Book}
+use Rattle.iloc_sched.proofs.Common.{take, sym, ◌∙◌, arith}
 use Rattle.iloc_sched.proofs.Renamed.RenamingLoop.{nop_passed, op_taken, all_renamed}
-use Rattle.iloc_sched.proofs.KeptEdges.PartialGraphs.{kept_at_end}
+use Rattle.iloc_sched.proofs.KeptEdges.SoundGraphs.{filled_by_the_book}
 use Rattle.iloc_sched.proofs.tables.Tables.gather.Goals as goal
 use Rattle.iloc_sched.proofs.tables.Tables.gather.Goals.{then-not-is_nop+in_ok-push_by_shape, else-not-is_nop}
 
@@ -41,12 +41,7 @@ loop-op-preserved c = elim c.if-not-is_nop.branch [
 ]
 
 pub returns-clause-book : goal.returns-clause-book
-returns-clause-book c = record {
-  kinds = c.loop-op.invariant.gathered.filling.kinds;
-  own = c.loop-op.invariant.gathered.filling.own;
-  graph = kept_at_end Book c.loop-op.self.latencies c.loop-op.self.ops.items (graph_of c.loop-op.self.edges)
-      c.loop-op.invariant.gathered.filling.partial;
-}
+returns-clause-book c = filled_by_the_book _ _ c.loop-op.invariant.gathered.filling
 
 pub returns-clause-ops : goal.returns-clause-ops
 returns-clause-ops c =
