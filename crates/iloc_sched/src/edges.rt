@@ -3,17 +3,14 @@
 //! Every result that is used gives an edge from its definition. By memory and outputs only the nearest pairs are
 //! kept, since every other goes by way of an operation between: from the last store, from the last output, and to a
 //! store from each load since the last one.
-ghost use Rattle.std.specs.Prelude.{ℕ, ◌≡◌, ◌+◌, ◌*◌, ◌≤◌, ◌<◌, length, map, List, Some, OnOk, Contains};
+ghost use Rattle.std.specs.Prelude.{ℕ, ◌≡◌, ◌+◌, ◌*◌, ◌≤◌, ◌<◌, length, List, Some, OnOk, Contains};
 ghost use Rattle.iloc_ops.specs.Limits.{MAX_OPS};
 ghost use Rattle.iloc_ops.specs.declared.op.Op.{Op};
 ghost use Rattle.iloc_ops.specs.Registers.{used};
 ghost use Rattle.iloc_timed.specs.declared.latencies.Latencies.{Latencies};
-ghost use Rattle.iloc_timed.specs.Kinds.{kind as kind_of};
-ghost use Rattle.iloc_timed.specs.Latency.{latency};
 ghost use Rattle.iloc_meaning.specs.Trace.{op_at};
 ghost use Rattle.iloc_rules.specs.declared.memory_rule.MemoryRule.{MemoryRule as rule_value};
 ghost use Rattle.iloc_rules.specs.declared.memory_rule.MemoryRule.TheVariants.{Book};
-ghost use Rattle.iloc_rules.specs.Renaming.{IsRenamed};
 
 pub(crate) mod by_address;
 pub(crate) mod kinds;
@@ -54,9 +51,7 @@ pub struct Edges {
 impl Edges {
     ghost use Rattle.std.specs.Prelude.{None, ◌++◌, ◌∷◌, []};
     ghost use Rattle.iloc_rules.specs.Steps.Members.{In};
-    ghost use Rattle.iloc_sched.specs.Steps.Graph.{IsGraphOf};
     ghost use Rattle.iloc_sched.specs.Steps.Edges.Lasts.{IsNext, loads_before};
-    ghost use Rattle.iloc_sched.specs.Steps.Renaming.Registers.{listed};
     ghost use Rattle.iloc_sched.specs.Steps.Edges.PartialGraph.{HasCapacity, IsPartialGraph, KeepsFrame, KeepsCapacity, Grows, AddsFrom, CoversUse, CoversUses, CoversMemory};
     ghost use Rattle.iloc_sched.specs.Steps.Views.{edge_at, graph_of, IsEmptied};
 

@@ -1,4 +1,4 @@
--- The kept edges grow edge by edge and operation by operation; for `Edges::fill`.
+-- The kept edges grow edge by edge and operation by operation; for `Edges::add` and `add_all`.
 use Rattle.iloc_sched.proofs.Common.{◌≡◌, ℕ, ◌+◌, ◌<◌, ◌≤◌, List, length, sym, ap, ◌∙◌, subst, arith, Op, op_at, Latencies, delay_at_least_where, short_delay_where, IsDelayPairWhere, counts_by, MemoryRule, Grows, HasEdge, HasOneMore, IsNearBy, IsNearPairBy, IsPartialGraph, Graph, IsGraph, IsGraphOf, IsLast, LeadsTo}
 use Rattle.iloc_sched.proofs.Basics.Cases.{by_eq, by_lt}
 use Rattle.iloc_sched.proofs.Basics.LastOnes.{last_same, last_here, last_before}

@@ -1,5 +1,5 @@
 //! The kept edges where operations whose addresses are known to differ don't wait for each other by memory.
-ghost use Rattle.std.specs.Prelude.{ℕ, ◌≡◌, ◌≤◌, ◌<◌, ◌+◌, ◌*◌, List, length, map, OnOk, Contains};
+ghost use Rattle.std.specs.Prelude.{◌≡◌, ◌≤◌, ◌<◌, ◌+◌, ◌*◌, List, length, map, OnOk};
 ghost use Rattle.iloc_ops.specs.declared.op.Op.{Op as operation};
 ghost use Rattle.iloc_meaning.specs.Trace.{op_at};
 ghost use Rattle.iloc_timed.specs.Kinds.{kind as kind_of};
