@@ -73,10 +73,11 @@ columns_more csv number before text next i n d within so_far is more =
     ∙ sym (flat_map-append f (take i heuristics) (h ∷ []))
     ∙ ap (columns csv number) (sym (take_more heuristics i d within)))
 
--- five parts of a line, one after another
-pub line_pushed : (text a b c d e head bounded cycled owned whole : List ℕ) → head ≡ text ++ a → bounded ≡ head ++ b
-    → cycled ≡ bounded ++ c → owned ≡ cycled ++ d → whole ≡ owned ++ e → whole ≡ text ++ (a ++ b ++ c ++ d ++ e)
-line_pushed text a b c d e head bounded cycled owned whole p q r s t = rw (t, s, r, q, p) (simp append_assoc)
+-- six parts of a line, one after another
+pub line_pushed : (text a b c d e f head bounded searched cycled owned whole : List ℕ) → head ≡ text ++ a → bounded ≡ head ++ b
+    → searched ≡ bounded ++ c → cycled ≡ searched ++ d → owned ≡ cycled ++ e → whole ≡ owned ++ f
+    → whole ≡ text ++ (a ++ b ++ c ++ d ++ e ++ f)
+line_pushed text a b c d e f head bounded searched cycled owned whole p q r s t u = rw (u, t, s, r, q, p) (simp append_assoc)
 
 -- the totals, one line after another
 pub totals_pushed : (csv : Bool) (nodes : Option ℕ) (own named : Bool) (found : List ComparedCycles)

@@ -96,10 +96,6 @@ abbrev pub sought_columns : Bool → Option Sought → List ℕ
 sought_columns csv None = []
 sought_columns csv (Some s) = field csv (codes "bound") s.bound ++ field csv (codes "best") s.best
 
--- ` least L`, or `,L` in a table, with these
-abbrev pub bounds_columns : Bool → ComparedCycles → List ℕ
-bounds_columns csv c = field csv (codes "least") c.least ++ sought_columns csv c.sought
-
 -- ` own C`, or `,C` in a table, where the block has priorities of its own
 abbrev pub own_column : Bool → Option ℕ → List ℕ
 own_column csv None = []
@@ -108,8 +104,8 @@ own_column csv (Some cycles) = field csv (codes "own") cycles
 -- `block K NAME least L chain C ..`, or `K,NAME,L,C,..` in a table
 abbrev pub compare_line : Bool → ℕ → Option (List ℕ) → ComparedCycles → List ℕ
 compare_line csv k name c =
-    head_as csv k name ++ bounds_columns csv c ++ columns csv (λ heuristic. cycles_by heuristic c) heuristics
-    ++ own_column csv c.own ++ codes "\n"
+    head_as csv k name ++ field csv (codes "least") c.least ++ sought_columns csv c.sought
+    ++ columns csv (λ heuristic. cycles_by heuristic c) heuristics ++ own_column csv c.own ++ codes "\n"
 
 -- the entry of block k: its comparison, which is found
 pub record IsCompareEntry (request : Request) (own : Option (List ℕ)) (k : ℕ) (b : Block) (entry : List ℕ)
@@ -151,13 +147,11 @@ sought_sums None found = []
 sought_sums (Some nodes) found =
     field false (codes "bound") (sum_by bound_of found) ++ field false (codes "best") (sum_by best_of found)
 
--- `total least L` with these
-abbrev pub bounds_total : Option ℕ → List ComparedCycles → List ℕ
-bounds_total nodes found = codes "total least " ++ decimal (sum_by (λ c. c.least) found) ++ sought_sums nodes found
-
--- and `chain C ..`
+-- `total least L bound B best C chain C ..`
 abbrev pub sums_line : Option ℕ → Bool → List ComparedCycles → List ℕ
-sums_line nodes own found = bounds_total nodes found ++ sums_of own (λ cycles _. cycles) found ++ codes "\n"
+sums_line nodes own found =
+    codes "total least " ++ decimal (sum_by (λ c. c.least) found) ++ sought_sums nodes found
+    ++ sums_of own (λ cycles _. cycles) found ++ codes "\n"
 
 -- `LABEL chain N .. of B`, with the number of blocks
 abbrev pub tally_line : List ℕ → Bool → (ℕ → ComparedCycles → ℕ) → List ComparedCycles → List ℕ

@@ -20,7 +20,7 @@ use iloc_driver::FarmedLister;
 use iloc_listing::{Listing, count_of, push_field, push_head, push_numbered};
 use iloc_ops::{Block, Blocks, Name, NoMemory};
 use iloc_optimum::Optimizer;
-use iloc_rules::{HEURISTIC_COUNT, HEURISTICS, Heuristic, Sought};
+use iloc_rules::{HEURISTIC_COUNT, HEURISTICS, Sought};
 use iloc_sched::{Graph, Scheduler};
 use std::alloc::Global;
 
@@ -171,18 +171,6 @@ impl Total {
     }
 }
 
-/// Appends a number by its heuristic.
-fn push_number_by(
-    text: &mut Vec<u8>,
-    csv: bool,
-    heuristic: Heuristic,
-    number: u64,
-) -> Result<(), NoMemory>
-    ensures { OnOk result (text.new.items ≡ text.old.items ++ compare.column csv heuristic number) }
-{
-    push_field(text, csv, priority_name(heuristic), number)
-}
-
 /// Appends for each heuristic the cycles of its schedule.
 fn push_cycles(text: &mut Vec<u8>, csv: bool, comparison: &ComparedCycles) -> Result<(), NoMemory>
     ensures { OnOk result (text.new.items ≡ text.old.items
@@ -190,7 +178,7 @@ fn push_cycles(text: &mut Vec<u8>, csv: bool, comparison: &ComparedCycles) -> Re
 {
     for (place, heuristic) in HEURISTICS.iter().enumerate() {
         let cycles = comparison.cycles[place];
-        push_number_by(text, csv, *heuristic, u64::from(cycles))?;
+        push_field(text, csv, priority_name(*heuristic), u64::from(cycles))?;
     }
     Ok(())
 }
@@ -213,7 +201,7 @@ fn push_sums_by(text: &mut Vec<u8>, tally: Tally, found: &[ComparedCycles]) -> R
 {
     for (place, heuristic) in HEURISTICS.iter().enumerate() {
         let sum = tally.sum(place, found);
-        push_number_by(text, false, *heuristic, sum)?;
+        push_field(text, false, priority_name(*heuristic), sum)?;
     }
     Ok(())
 }
@@ -246,14 +234,6 @@ fn push_sought(text: &mut Vec<u8>, csv: bool, sought: &Option<Sought>) -> Result
     Ok(())
 }
 
-/// Appends ` least L`, or `,L` in a table, with these.
-fn push_bounds(text: &mut Vec<u8>, csv: bool, comparison: &ComparedCycles) -> Result<(), NoMemory>
-    ensures { OnOk result (text.new.items ≡ text.old.items ++ compare.bounds_columns csv comparison.now) }
-{
-    push_field(text, csv, "least", u64::from(comparison.least))?;
-    push_sought(text, csv, &comparison.sought)
-}
-
 /// Appends the line of the block with this number, counted from 1, or its row in a table.
 fn push_comparison(
     text: &mut Vec<u8>,
@@ -267,7 +247,8 @@ fn push_comparison(
         ++ compare.compare_line csv number (option_copied name.entry) comparison.now) }
 {
     push_head(text, csv, number, name)?;
-    push_bounds(text, csv, comparison)?;
+    push_field(text, csv, "least", u64::from(comparison.least))?;
+    push_sought(text, csv, &comparison.sought)?;
     push_cycles(text, csv, comparison)?;
     push_own(text, csv, comparison.own)?;
     text.push(b'\n')?;
@@ -290,19 +271,6 @@ fn push_sought_sums(
     Ok(())
 }
 
-/// Appends `total least L`, with these.
-fn push_bounds_total(
-    text: &mut Vec<u8>,
-    nodes: Option<u32>,
-    found: &[ComparedCycles],
-) -> Result<(), NoMemory>
-    requires { length found.now ≤ MAX_BLOCKS }
-    ensures { OnOk result (text.new.items ≡ text.old.items ++ compare.bounds_total nodes found.now) }
-{
-    push_numbered(text, b"total least ", Total::Least.sum(found), b"")?;
-    push_sought_sums(text, nodes, found)
-}
-
 /// Appends the line of the bounds and the cycles of all blocks together.
 fn push_sums_line(
     text: &mut Vec<u8>,
@@ -313,7 +281,8 @@ fn push_sums_line(
     requires { length found.now ≤ MAX_BLOCKS }
     ensures { OnOk result (text.new.items ≡ text.old.items ++ compare.sums_line nodes own found.now) }
 {
-    push_bounds_total(text, nodes, found)?;
+    push_numbered(text, b"total least ", Total::Least.sum(found), b"")?;
+    push_sought_sums(text, nodes, found)?;
     push_sums(text, own, Tally::Cycles, found)?;
     text.push(b'\n')?;
     Ok(())
@@ -365,7 +334,7 @@ fn push_names(text: &mut Vec<u8>) -> Result<(), NoMemory>
     Ok(())
 }
 
-/// What a table begins with before that.
+/// What a table begins with before the heuristics' names.
 fn heading(nodes: Option<u32>) -> &'static [u8]
     ensures { result.now ≡ compare.heading nodes }
 {
@@ -375,31 +344,24 @@ fn heading(nodes: Option<u32>) -> &'static [u8]
     }
 }
 
-/// What follows that where the request names priorities.
+/// What follows them where the request names priorities.
 fn own_name(own: bool) -> &'static [u8]
     ensures { result.now ≡ compare.own_name own }
 {
     if own { b",own" } else { b"" }
 }
 
-/// Appends what a table begins with.
-fn push_header(text: &mut Vec<u8>, nodes: Option<u32>, own: bool) -> Result<(), NoMemory>
-    ensures { OnOk result (text.new.items ≡ text.old.items ++ compare.compare_header nodes own) }
-{
-    text.extend_from_slice(heading(nodes))?;
-    push_names(text)?;
-    text.extend_from_slice(own_name(own))?;
-    Ok(text.push(b'\n')?)
-}
-
-/// Appends it, if a table is asked for.
+/// Appends what a table begins with, if one is asked for.
 fn push_opening(text: &mut Vec<u8>, request: &Request) -> Result<(), NoMemory>
     ensures { OnOk result (text.new.items ≡ text.old.items ++ compare.opening_for request.now) }
 {
-    if request.flags.has(Flag::Csv) {
-        push_header(text, request.nodes, request.priorities_file.is_some())?;
+    if !request.flags.has(Flag::Csv) {
+        return Ok(());
     }
-    Ok(())
+    text.extend_from_slice(heading(request.nodes))?;
+    push_names(text)?;
+    text.extend_from_slice(own_name(request.priorities_file.is_some()))?;
+    Ok(text.push(b'\n')?)
 }
 
 /// Schedules each block by each heuristic and its own priorities, and answers how many cycles the schedules take.
