@@ -16,9 +16,9 @@ ghost use Rattle.iloc_block_commands.specs.Steps.Tallies.{added, counted};
 
 use iloc_args::{Flag, Request, priority_name};
 use iloc_bound::least_of;
-use iloc_driver::FarmedLister;
+use iloc_driver::{FarmedLister, Job};
 use iloc_listing::{Listing, count_of, push_field, push_head, push_numbered};
-use iloc_ops::{Block, Blocks, Name, NoMemory};
+use iloc_ops::{Blocks, Name, NoMemory};
 use iloc_optimum::Optimizer;
 use iloc_rules::{HEURISTIC_COUNT, HEURISTICS, Sought};
 use iloc_sched::{Graph, Scheduler};
@@ -431,10 +431,9 @@ impl FarmedLister for CompareLister {
         &mut self,
         alloc: Global,
         request: &Request,
-        own: Option<&[u32]>,
-        _number: usize,
-        block: &Block,
+        job: &Job<'_>,
     ) -> Result<ComparedCycles, NoMemory> {
+        let block = job.block;
         self.graph
             .refill(request.memory_rule(), block, &request.latencies)?;
         let least = least_of(alloc, &self.graph)?;
@@ -443,7 +442,7 @@ impl FarmedLister for CompareLister {
         let sought = self
             .optimizer
             .seek_from(block, &self.graph, orders.best, request.nodes)?;
-        let own = own_count(&mut self.scheduler, &self.graph, own)?;
+        let own = own_count(&mut self.scheduler, &self.graph, job.own)?;
         Ok(ComparedCycles {
             least: least as u32,
             sought,

@@ -5,9 +5,9 @@ ghost use Rattle.iloc_listing.specs.Listing.{count_ending};
 
 use crate::schedule::feed;
 use iloc_args::{Flag, Request};
-use iloc_driver::FarmedLister;
+use iloc_driver::{FarmedLister, Job};
 use iloc_listing::{Listing, push_count, push_opening, push_total_of};
-use iloc_ops::{Block, Blocks, NoMemory};
+use iloc_ops::{Blocks, NoMemory};
 use iloc_sched::{CountCycles, Graph, Scheduler};
 use std::alloc::Global;
 
@@ -66,17 +66,15 @@ impl FarmedLister for CountLister {
         &mut self,
         _alloc: Global,
         request: &Request,
-        own: Option<&[u32]>,
-        _number: usize,
-        block: &Block,
+        job: &Job<'_>,
     ) -> Result<u32, NoMemory> {
         self.graph
-            .refill(request.memory_rule(), block, &request.latencies)?;
+            .refill(request.memory_rule(), job.block, &request.latencies)?;
         let mut counted = CountCycles { cycles: 0 };
         feed(
             &mut self.scheduler,
             &self.graph,
-            own,
+            job.own,
             request.priority,
             &mut counted,
         )?;

@@ -3,9 +3,9 @@ ghost use Rattle.std.specs.Prelude.{◌≡◌, ◌≤◌, length, IfOk};
 ghost use Rattle.iloc_ops.specs.Limits.{MAX_BLOCKS};
 
 use iloc_args::Request;
-use iloc_driver::FarmedLister;
+use iloc_driver::{FarmedLister, Job};
 use iloc_listing::{EntryMaker, Listing, ScheduleEntry, with_total};
-use iloc_ops::{Block, Blocks, NoMemory};
+use iloc_ops::{Blocks, NoMemory};
 use iloc_optimum::Optimizer;
 use iloc_sched::Graph;
 use std::alloc::Global;
@@ -49,18 +49,16 @@ impl FarmedLister for OptimizeLister {
         &mut self,
         _alloc: Global,
         request: &Request,
-        _own: Option<&[u32]>,
-        number: usize,
-        block: &Block,
+        job: &Job<'_>,
     ) -> Result<ScheduleEntry, NoMemory> {
-        let latencies = &request.latencies;
+        let (block, latencies) = (job.block, &request.latencies);
         let nodes = request.nodes.unwrap_or(0);
         self.graph.refill(request.memory_rule(), block, latencies)?;
         let optimum = self.optimizer.optimize(block, &self.graph, nodes)?;
         let bound = Some(optimum.bound);
         let entry = self
             .entries
-            .entry(latencies, number, block, &optimum.schedule, bound)?;
+            .entry(latencies, job.number, block, &optimum.schedule, bound)?;
         self.optimizer.take_back(optimum.schedule);
         Ok(entry)
     }

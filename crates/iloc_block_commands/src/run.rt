@@ -1,6 +1,6 @@
 //! `run`: what comes of blocks, one operation after another.
 ghost use Rattle.std.specs.Option.{option_copied};
-ghost use Rattle.std.specs.Prelude.{◌&&◌, is_none, ◌≡◌, ◌≤◌, ◌<◌, ◌+◌, ◌^◌, ◌++◌, length, IfOk, OnOk, codes};
+ghost use Rattle.std.specs.Prelude.{◌&&◌, is_none, ◌≡◌, ◌≤◌, ◌<◌, ◌+◌, ◌++◌, length, IfOk, OnOk, codes};
 ghost use Rattle.iloc_args.specs.Flags.{has};
 ghost use Rattle.iloc_args.specs.declared.flag.Flag.TheVariants.{Where};
 ghost use Rattle.iloc_fault.specs.Place.{IsFaultPlace};
@@ -14,7 +14,7 @@ ghost use Rattle.iloc_meaning.specs.Trace.{op_at};
 ghost use Rattle.iloc_listing.specs.Listing.{block_head};
 
 use iloc_args::{Flag, Request};
-use iloc_driver::{Lister, initial_memory};
+use iloc_driver::{Job, Lister, initial_memory};
 use iloc_fault::{FaultFinder, FaultPlace};
 use iloc_listing::{push_block_head, push_outcome};
 use iloc_meaning::Interpreter;
@@ -69,19 +69,17 @@ fn push_faulting(
     alloc: Global,
     text: &mut Vec<u8>,
     request: &Request,
-    number: usize,
-    block: &Block,
+    job: &Job<'_>,
 ) -> Result<(), NoMemory>
-    requires faults { outcome block.now.ops (initial_memory request.now) ≡ Fault }
-    requires short { length block.now.ops ≤ MAX_OPS }
-    requires number { number < 2 ^ 63 }
-    ensures { OnOk result ((place : place_value) × IsFaultPlace block.now.ops (initial_memory request.now) place
-        × (text.new.items ≡ text.old.items ++ (block_head number block.now.name ++ codes "\n" ++ place_line block.now.ops place))) }
+    requires { outcome job.now.block.now.ops (initial_memory request.now) ≡ Fault }
+    ensures { OnOk result ((place : place_value) × IsFaultPlace job.now.block.now.ops (initial_memory request.now) place
+        × (text.new.items ≡ text.old.items
+        ++ (block_head job.now.number job.now.block.now.name ++ codes "\n" ++ place_line job.now.block.now.ops place))) }
 {
-    let place = fault_place(alloc, request, block)?;
-    push_block_head(text, number, block.name.as_ref())?;
+    let place = fault_place(alloc, request, job.block)?;
+    push_block_head(text, job.number, job.block.name.as_ref())?;
     text.extend_from_slice(b"\n")?;
-    push_place(text, block, place)
+    push_place(text, job.block, place)
 }
 
 /// Whether it is listed where a block faults that emitted `words`, or faulted where there are none.
@@ -116,17 +114,15 @@ impl Lister for RunLister {
         &mut self,
         alloc: Global,
         request: &Request,
-        _own: Option<&[u32]>,
-        number: usize,
-        block: &Block,
+        job: &Job<'_>,
         text: &mut Vec<u8>,
     ) -> Result<(), NoMemory> {
-        self.0.run(block)?;
+        self.0.run(job.block)?;
         let words = self.0.outputs();
         if is_placed(request, words) {
-            return push_faulting(alloc, text, request, number, block);
+            return push_faulting(alloc, text, request, job);
         }
-        push_outcome(text, number, block.name.as_ref(), words)
+        push_outcome(text, job.number, job.block.name.as_ref(), words)
     }
 
     fn push_ending(_text: &mut Vec<u8>, _found: &[()]) -> Result<(), NoMemory> {

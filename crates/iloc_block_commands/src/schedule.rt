@@ -10,9 +10,9 @@ ghost use Rattle.iloc_sched.specs.Scheduled.{AreRowsBy, IsTheScheduleBy};
 ghost use Rattle.iloc_listing.specs.Schedules.{ranks_under};
 
 use iloc_args::Request;
-use iloc_driver::FarmedLister;
+use iloc_driver::{FarmedLister, Job};
 use iloc_listing::{EntryMaker, Listing, ScheduleEntry, with_total};
-use iloc_ops::{Block, Blocks, NoMemory};
+use iloc_ops::{Blocks, NoMemory};
 use iloc_rules::Heuristic;
 use iloc_sched::{Graph, Scheduler, TakeRows};
 use iloc_timed::Schedule;
@@ -93,16 +93,14 @@ impl FarmedLister for ScheduleLister {
         &mut self,
         _alloc: Global,
         request: &Request,
-        own: Option<&[u32]>,
-        number: usize,
-        block: &Block,
+        job: &Job<'_>,
     ) -> Result<ScheduleEntry, NoMemory> {
-        let latencies = &request.latencies;
+        let (block, latencies) = (job.block, &request.latencies);
         self.graph.refill(request.memory_rule(), block, latencies)?;
-        let schedule = lend(&mut self.scheduler, &self.graph, own, request.priority)?;
+        let schedule = lend(&mut self.scheduler, &self.graph, job.own, request.priority)?;
         let entry = self
             .entries
-            .entry(latencies, number, block, &schedule, None)?;
+            .entry(latencies, job.number, block, &schedule, None)?;
         self.scheduler.take_back(schedule);
         Ok(entry)
     }

@@ -1,9 +1,9 @@
 //! `simulate`: what comes of blocks' schedules on the timed machine.
 use crate::schedule::feed;
 use iloc_args::Request;
-use iloc_driver::{Lister, initial_memory};
+use iloc_driver::{Job, Lister, initial_memory};
 use iloc_listing::push_outcome;
-use iloc_ops::{Block, NoMemory};
+use iloc_ops::NoMemory;
 use iloc_sched::{Graph, Scheduler};
 use iloc_timed::Machine;
 use std::alloc::Global;
@@ -41,22 +41,21 @@ impl Lister for SimulateLister {
         &mut self,
         _alloc: Global,
         request: &Request,
-        own: Option<&[u32]>,
-        number: usize,
-        block: &Block,
+        job: &Job<'_>,
         text: &mut Vec<u8>,
     ) -> Result<(), NoMemory> {
         self.graph
-            .refill(request.memory_rule(), block, &request.latencies)?;
+            .refill(request.memory_rule(), job.block, &request.latencies)?;
         self.machine.begin();
         feed(
             &mut self.scheduler,
             &self.graph,
-            own,
+            job.own,
             request.priority,
             &mut self.machine,
         )?;
-        push_outcome(text, number, block.name.as_ref(), self.machine.outputs())
+        let name = job.block.name.as_ref();
+        push_outcome(text, job.number, name, self.machine.outputs())
     }
 
     fn push_ending(_text: &mut Vec<u8>, _found: &[()]) -> Result<(), NoMemory> {

@@ -1,6 +1,6 @@
 //! What a command lists of a file whose blocks several workers share.
-ghost use Rattle.std.specs.Prelude.{◌≡◌, ℕ, ◌≤◌, ◌<◌, ◌^◌, List, Option, length, option_copied, IfErr, IfOk, IfSome};
-ghost use Rattle.iloc_ops.specs.Limits.{MAX_BLOCKS, MAX_OPS};
+ghost use Rattle.std.specs.Prelude.{◌≡◌, ℕ, ◌≤◌, List, Option, length, option_copied, IfErr, IfOk};
+ghost use Rattle.iloc_ops.specs.Limits.{MAX_BLOCKS};
 ghost use Rattle.iloc_ops.specs.declared.file.Block.{Block as block_value};
 ghost use Rattle.iloc_args.specs.declared.request.Request.{Request as request_value};
 ghost use Rattle.iloc_text.specs.Files.{AreWithinLimits};
@@ -8,9 +8,9 @@ ghost use Rattle.iloc_driver.specs.Entries.{AreListed, OfBlock};
 ghost use Rattle.iloc_driver.specs.Run.Causes.{IsCaused, of_shared_file};
 ghost use Rattle.iloc_driver.specs.Work.{AreFarmed, ListsFarmed, by_own};
 ghost use Rattle.iloc_driver.specs.Priorities.{AreFor, AreIn, Own};
-ghost use Rattle.iloc_rules.specs.Renaming.{without_nops};
 
 use crate::fault::{FarmFault, RunFault};
+use crate::job::Job;
 use crate::reading::priorities::Priorities;
 use crate::reading::read_ranked;
 use crate::reading::texts::Texts;
@@ -46,21 +46,14 @@ pub trait FarmedLister: Drop {
     /// A lister.
     fn new(alloc: Global) -> Self;
 
-    /// The answer for `block`, which is block `number`, counted from 1; its `own` numbers rank its operations if it has
-    /// some.
+    /// The answer for the block of `job`.
     fn answer(
         &mut self,
         alloc: Global,
         request: &Request,
-        own: Option<&[u32]>,
-        number: usize,
-        block: &Block,
+        job: &Job<'_>,
     ) -> Result<Self::Answer, NoText>
-        requires short { length block.now.ops ≤ MAX_OPS }
-        requires number { number < 2 ^ 63 }
-        requires each { IfSome (option_copied own)
-            (λ numbers. length numbers ≡ length (without_nops block.now.ops)) }
-        ensures { IfOk result (answers request.now (option_copied own.entry) number block.now) };
+        ensures { IfOk result (answers request.now (option_copied job.now.own) job.now.number job.now.block.now) };
 
     /// The cycles of the block's schedule.
     fn cycles(answer: &Self::Answer) -> u32
@@ -162,8 +155,8 @@ impl<'f, L: FarmedLister> AtDesk<L> for ListedJobs<'f, L> {
         let block = &self.blocks[i as usize];
         let number = i as usize + 1;
         let own = self.priorities.of(number);
-        desk.answer(alloc, self.request, own, number, block)
-            .map_err(|_| NoMemory)
+        let job = Job { number, block, own };
+        desk.answer(alloc, self.request, &job).map_err(|_| NoMemory)
     }
 }
 

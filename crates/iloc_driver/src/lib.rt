@@ -4,6 +4,7 @@
 mod commands;
 mod farmed;
 mod fault;
+mod job;
 mod lister;
 mod program;
 mod reading;
@@ -17,6 +18,7 @@ pub use farmed::FarmedLister;
 pub use fault::{
     FarmFault, FileFault, NumbersFault, PrioritiesFault, RunFault, TaskFault, Word, run_status,
 };
+pub use job::Job;
 pub use lister::{Lister, initial_memory};
 pub use program::{Ending, run_request, run_words};
 pub use reading::texts::Texts;

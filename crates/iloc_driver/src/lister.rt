@@ -1,16 +1,16 @@
 //! What a command lists of a file, block by block as the file is read.
-ghost use Rattle.std.specs.Prelude.{◌≡◌, ℕ, ◌≤◌, ◌<◌, ◌^◌, ◌++◌, List, None, Option, length, option_copied, ℤ, IfErr, IfOk, IfSome, OnOk};
-ghost use Rattle.iloc_ops.specs.Limits.{MAX_BLOCKS, MAX_OPS};
+ghost use Rattle.std.specs.Prelude.{◌≡◌, ℕ, ◌≤◌, ◌++◌, List, None, Option, length, option_copied, ℤ, IfErr, IfOk, OnOk};
+ghost use Rattle.iloc_ops.specs.Limits.{MAX_BLOCKS};
 ghost use Rattle.iloc_ops.specs.declared.file.Block.{Block as block_value};
 ghost use Rattle.iloc_args.specs.declared.request.Request.{Request as request_value};
 ghost use Rattle.iloc_text.specs.Files.{AreWithinLimits};
-ghost use Rattle.iloc_rules.specs.Renaming.{without_nops};
 ghost use Rattle.iloc_driver.specs.Command.{initial_memory};
 ghost use Rattle.iloc_driver.specs.Entries.{IsListingOf, ListsRead, AppendsEntry};
 ghost use Rattle.iloc_driver.specs.Priorities.{AreFor, AreIn, own_of};
 ghost use Rattle.iloc_driver.specs.Run.Causes.{IsCaused, of_file, of_ranked_file};
 
 use crate::fault::RunFault;
+use crate::job::Job;
 use crate::reading::priorities::Priorities;
 use crate::reading::read_ranked;
 use crate::reading::texts::Texts;
@@ -44,25 +44,19 @@ pub trait Lister: Drop {
     fn new(alloc: Global, request: &Request) -> Result<Self, NoMemory>
         ensures { IfOk result (λ lister. memory request.now lister ≡ initial_memory request.now) };
 
-    /// Appends the entry of `block`, which is block `number`, counted from 1, and answers what is found of it; its `own`
-    /// numbers rank its operations if it has some. After a refusal a part of the entry may follow the text.
+    /// Appends the entry of the block of `job`, and answers what is found of it. After a refusal a part of the entry may
+    /// follow the text.
     fn list(
         &mut self,
         alloc: Global,
         request: &Request,
-        own: Option<&[u32]>,
-        number: usize,
-        block: &Block,
+        job: &Job<'_>,
         text: &mut Vec<u8>,
     ) -> Result<Self::Found, NoMemory>
-        requires starts { memory request.now self.old ≡ initial_memory request.now }
-        requires short { length block.now.ops ≤ MAX_OPS }
-        requires number { number < 2 ^ 63 }
-        requires each { IfSome (option_copied own)
-            (λ numbers. length numbers ≡ length (without_nops block.now.ops)) }
+        requires { memory request.now self.old ≡ initial_memory request.now }
         ensures starts { memory request.now self.new ≡ initial_memory request.now }
-        ensures listed { IfOk result
-            (AppendsEntry (lists request.now (option_copied own.entry) number block.now) text.old.items text.new.items) };
+        ensures listed { IfOk result (AppendsEntry
+            (lists request.now (option_copied job.now.own) job.now.number job.now.block.now) text.old.items text.new.items) };
 
     /// Appends the ending.
     fn push_ending(text: &mut Vec<u8>, found: &[Self::Found]) -> Result<(), NoMemory>
@@ -99,9 +93,12 @@ impl<'q, L: Lister> TakeBlocks for AsRead<'q, L> {
         × Grows (L.lists start.request.now None) blocks start.text.items now.text.items start.found.items now.found.items };
 
     fn take(&mut self, alloc: Global, number: usize, block: &Block) -> Result<(), NoMemory> {
-        let found = self
-            .lister
-            .list(alloc, self.request, None, number, block, &mut self.text)?;
+        let job = Job {
+            number,
+            block,
+            own: None,
+        };
+        let found = self.lister.list(alloc, self.request, &job, &mut self.text)?;
         Ok(self.found.push(found)?)
     }
 
@@ -164,7 +161,8 @@ fn listed_ranked<L: Lister>(
     for block in blocks.as_slice() {
         let number = found.len() + 1;
         let own = priorities.of(number);
-        found.push(lister.list(alloc, request, own, number, block, &mut text)?)?;
+        let job = Job { number, block, own };
+        found.push(lister.list(alloc, request, &job, &mut text)?)?;
     }
     L::push_ending(&mut text, &found)?;
     Ok(Listing::of_text(alloc, text))

@@ -1,7 +1,7 @@
 //! What a command lists of the rows that others proposed for blocks.
-ghost use Rattle.std.specs.Prelude.{◌≡◌, ◌≢◌, ℕ, ◌≤◌, ◌<◌, ◌^◌, ◌++◌, Bool, List, length, ℤ, IfErr, IfOk, OnOk};
+ghost use Rattle.std.specs.Prelude.{◌≡◌, ◌≢◌, ℕ, ◌≤◌, ◌++◌, Bool, List, length, ℤ, IfErr, IfOk, OnOk};
 ghost use Rattle.std.specs.List.{All, list_all};
-ghost use Rattle.iloc_ops.specs.Limits.{MAX_BLOCKS, MAX_OPS};
+ghost use Rattle.iloc_ops.specs.Limits.{MAX_BLOCKS};
 ghost use Rattle.iloc_ops.specs.declared.file.Block.{Block as block_value};
 ghost use Rattle.iloc_text.specs.declared.fault.ReadFault.TheVariants.{NoMemory as no_memory};
 ghost use Rattle.iloc_rows.specs.Laws.{AreWithinLimits};
@@ -18,11 +18,12 @@ ghost use Rattle.iloc_driver.specs.Entries.{AppendsEntry};
 
 use crate::commands::{Finding, Listed};
 use crate::fault::RunFault;
+use crate::job::Job;
 use crate::reading::task::submission_apart;
 use crate::reading::texts::Texts;
 use iloc_args::{Flag, Request};
 use iloc_listing::Listing;
-use iloc_ops::{Block, NoMemory};
+use iloc_ops::NoMemory;
 use iloc_rows::laws::{placed_rows_are_within_limits, submissions_are_within_limits};
 use iloc_rows::{Proposal, RowsFault, Submission, read_submission};
 use iloc_text::read_text_from;
@@ -62,22 +63,20 @@ pub trait RowLister: Drop {
     fn push_opening(request: &Request, text: &mut Vec<u8>) -> Result<(), NoMemory>
         ensures { OnOk result (text.new.items ≡ text.old.items ++ opening request.now) };
 
-    /// Appends the entry of the block with this number, counted from 1, and of what is proposed for it, and answers what is
-    /// found of that. After a refusal a part of the entry may follow the text.
+    /// Appends the entry of the block of `job` and of what is proposed for it, and answers what is found of `proposal`. After
+    /// a refusal a part of the entry may follow the text.
     fn list(
         &mut self,
         alloc: Global,
         request: &Request,
-        number: usize,
-        block: &Block,
+        job: &Job<'_>,
         proposal: Proposal,
         text: &mut Vec<u8>,
     ) -> Result<Self::Found, NoMemory>
-        requires starts { memory request.now self.old ≡ initial_memory request.now }
-        requires short { length block.now.ops ≤ MAX_OPS }
-        requires number { number < 2 ^ 63 }
+        requires { memory request.now self.old ≡ initial_memory request.now }
         ensures starts { memory request.now self.new ≡ initial_memory request.now }
-        ensures listed { IfOk result (AppendsEntry (lists request.now number (block.now, proposal)) text.old.items text.new.items) }
+        ensures listed { IfOk result (AppendsEntry
+            (lists request.now job.now.number (job.now.block.now, proposal)) text.old.items text.new.items) }
         ensures small { IfOk result fits };
 
     /// Appends the ending.
@@ -115,7 +114,12 @@ fn listed_rows<L: RowLister>(
     L::push_opening(request, &mut text)?;
     for (block, proposal) in blocks.into_iter().zip(proposals) {
         let number = found.len() + 1;
-        let one = lister.list(alloc, request, number, &block, proposal, &mut text)?;
+        let job = Job {
+            number,
+            block: &block,
+            own: None,
+        };
+        let one = lister.list(alloc, request, &job, proposal, &mut text)?;
         found.push(one)?;
     }
     L::push_ending(request, &mut text, &found)?;

@@ -15,7 +15,7 @@ use crate::totals::Totals;
 use iloc_args::{Flag, Request};
 use iloc_bound::least_of;
 use iloc_comparison::{CheckOptions, Form, JudgedBlock, Judging};
-use iloc_driver::{Finding, RowLister, initial_memory};
+use iloc_driver::{Finding, Job, RowLister, initial_memory};
 use iloc_judge::push_check;
 use iloc_listing::push_head;
 use iloc_meaning::Memory;
@@ -188,12 +188,11 @@ impl RowLister for CheckLister {
         &mut self,
         alloc: Global,
         request: &Request,
-        number: usize,
-        block: &Block,
+        job: &Job<'_>,
         proposal: Proposal,
         text: &mut Vec<u8>,
     ) -> Result<Checked, NoMemory> {
-        let latencies = &request.latencies;
+        let (block, latencies) = (job.block, &request.latencies);
         prove!(proposal.rows().len() <= MAX_ROWS);
         let rule = request.memory_rule();
         self.graph.refill(rule, block, latencies)?;
@@ -211,7 +210,7 @@ impl RowLister for CheckLister {
             latencies,
             ruled,
         )?;
-        push_check_head(text, form_of(request), number, block.name.as_ref())?;
+        push_check_head(text, form_of(request), job.number, block.name.as_ref())?;
         let judging = Judging {
             options: options_of(request),
             memory: &self.memory,

@@ -10,9 +10,9 @@ mod explained;
 
 use explained::{ExplainedRows, KnownBlock, push_rows_explanation};
 use iloc_args::Request;
-use iloc_driver::{Finding, RowLister};
+use iloc_driver::{Finding, Job, RowLister};
 use iloc_listing::{push_block_head, push_total};
-use iloc_ops::{Block, NoMemory};
+use iloc_ops::NoMemory;
 use iloc_rows::Proposal;
 use iloc_rules::MemoryRule;
 use iloc_sched::{Graph, Scheduler};
@@ -77,16 +77,16 @@ impl RowLister for RowsExplainer {
         &mut self,
         alloc: Global,
         request: &Request,
-        number: usize,
-        block: &Block,
+        job: &Job<'_>,
         proposal: Proposal,
         text: &mut Vec<u8>,
     ) -> Result<ExplainedRows, NoMemory> {
         let (latencies, priority) = (&request.latencies, request.priority);
+        let block = job.block;
         prove!(proposal.rows().len() <= MAX_ROWS);
         self.graph.refill(MemoryRule::Book, block, latencies)?;
         let ours = self.scheduler.lend_as(&self.graph, priority)?;
-        push_block_head(text, number, block.name.as_ref())?;
+        push_block_head(text, job.number, block.name.as_ref())?;
         text.push(b'\n')?;
         let known = KnownBlock {
             block,

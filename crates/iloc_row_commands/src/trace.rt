@@ -3,10 +3,10 @@ ghost use Rattle.std.specs.Prelude.{ℕ, ◌≡◌, ◌++◌, List, IfOk};
 ghost use Rattle.iloc_row_commands.specs.Trace.{IsTraceOf};
 
 use iloc_args::Request;
-use iloc_driver::{Finding, RowLister, initial_memory};
+use iloc_driver::{Finding, Job, RowLister, initial_memory};
 use iloc_judge::obstacle_of;
 use iloc_listing::push_block_head;
-use iloc_ops::{Block, NoMemory};
+use iloc_ops::NoMemory;
 use iloc_rows::Proposal;
 use iloc_timed::Latencies;
 use iloc_trace::Tracer;
@@ -71,12 +71,11 @@ impl RowLister for RowsTracer {
         &mut self,
         alloc: Global,
         request: &Request,
-        number: usize,
-        block: &Block,
+        job: &Job<'_>,
         proposal: Proposal,
         text: &mut Vec<u8>,
     ) -> Result<bool, NoMemory> {
-        push_block_head(text, number, block.name.as_ref())?;
+        push_block_head(text, job.number, job.block.name.as_ref())?;
         text.push(b'\n')?;
         push_traced(alloc, text, &mut self.0, proposal, &request.latencies)
     }

@@ -3,9 +3,9 @@ ghost use Rattle.std.specs.Prelude.{◌≡◌, ◌++◌, OnOk};
 ghost use Rattle.iloc_view_commands.specs.Graph.{opening_at};
 
 use iloc_args::Request;
-use iloc_driver::Lister;
+use iloc_driver::{Job, Lister};
 use iloc_graph::{push_closing, push_cluster, push_opening};
-use iloc_ops::{Block, NoMemory};
+use iloc_ops::NoMemory;
 use iloc_sched::Graph;
 use std::alloc::Global;
 
@@ -48,15 +48,13 @@ impl Lister for GraphLister {
         &mut self,
         alloc: Global,
         request: &Request,
-        _own: Option<&[u32]>,
-        number: usize,
-        block: &Block,
+        job: &Job<'_>,
         text: &mut Vec<u8>,
     ) -> Result<(), NoMemory> {
         self.graph
-            .refill(request.memory_rule(), block, &request.latencies)?;
-        push_opening_at(text, number)?;
-        push_cluster(alloc, text, number, block, &self.graph)
+            .refill(request.memory_rule(), job.block, &request.latencies)?;
+        push_opening_at(text, job.number)?;
+        push_cluster(alloc, text, job.number, job.block, &self.graph)
     }
 
     fn push_ending(text: &mut Vec<u8>, found: &[()]) -> Result<(), NoMemory> {

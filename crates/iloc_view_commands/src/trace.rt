@@ -1,9 +1,9 @@
 //! `trace`: what blocks' schedules do on the timed machine, cycle by cycle.
 use crate::explain::ranks_of;
 use iloc_args::Request;
-use iloc_driver::{Lister, initial_memory};
+use iloc_driver::{Job, Lister, initial_memory};
 use iloc_listing::push_block_head;
-use iloc_ops::{Block, NoMemory};
+use iloc_ops::NoMemory;
 use iloc_sched::{Graph, Scheduler};
 use iloc_trace::Tracer;
 use std::alloc::Global;
@@ -41,16 +41,14 @@ impl Lister for TraceLister {
         &mut self,
         alloc: Global,
         request: &Request,
-        own: Option<&[u32]>,
-        number: usize,
-        block: &Block,
+        job: &Job<'_>,
         text: &mut Vec<u8>,
     ) -> Result<(), NoMemory> {
         self.graph
-            .refill(request.memory_rule(), block, &request.latencies)?;
-        let ranks = ranks_of(alloc, &self.graph, own, request.priority)?;
+            .refill(request.memory_rule(), job.block, &request.latencies)?;
+        let ranks = ranks_of(alloc, &self.graph, job.own, request.priority)?;
         let schedule = self.scheduler.lend(&self.graph, &ranks)?;
-        push_block_head(text, number, block.name.as_ref())?;
+        push_block_head(text, job.number, job.block.name.as_ref())?;
         text.push(b'\n')?;
         self.tracer.push_trace(text, &schedule, &request.latencies)?;
         self.scheduler.take_back(schedule);

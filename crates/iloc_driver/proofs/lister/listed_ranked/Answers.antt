@@ -1,4 +1,4 @@
-use Rattle.iloc_driver.proofs.Common.{◌≡◌, ◌+◌, ◌≤◌, [], length, drop, slice_get, Some, IfSome, option_copied, sym, refl, ap, subst, arith, length-drop, MAX_BLOCKS, AppendsEntry, own_of}
+use Rattle.iloc_driver.proofs.Common.{◌≡◌, ◌+◌, ◌≤◌, [], length, drop, slice_get, Some, IfSome, sym, refl, ap, subst, arith, length-drop, MAX_BLOCKS, AppendsEntry, own_of}
 use Rattle.std.proofs.lemmas.Option.{slice_get_read}
 use Rattle.iloc_rules.specs.Renaming.{without_nops}
 use Rattle.iloc_driver.proofs.RowListing.{found_few, next_left, none_listed, one_listed}
@@ -11,14 +11,14 @@ loop-block-init g c = record {
   starts = c.in_ok-lister.ensures;
 }
 
-pub list-requires-clause-number : goal.list-requires-clause-number
-list-requires-clause-number g c =
+pub invariant_of-job-clause-few : goal.invariant_of-job-clause-few
+invariant_of-job-clause-few g c =
     let few = found_few _ _ _ _ _ _ _ c.loop-block.invariant.so_far in
     let most : length c.args.blocks.now ≤ MAX_BLOCKS = c.requires.few.0 in
     omega (arith, ap length c.as_slice-block-items.ensures, c.len-number.ensures)
 
-pub list-requires-clause-each : goal.list-requires-clause-each
-list-requires-clause-each g c =
+pub invariant_of-job-clause-each : goal.invariant_of-job-clause-each
+invariant_of-job-clause-each g c =
     let items = c.as_slice-block-items.result.now in
     let index = c.loop-block.block-index in
     let item = c.block-item.result in

@@ -27,15 +27,16 @@ loop-block-init g c =
       short = rw blocks c.requires.short_blocks;
     }
 
-pub list-requires-clause-short : goal.list-requires-clause-short
-list-requires-clause-short g c = (rw c.in-Some.ensures.steps.0.0 at c.loop-block.invariant.short).0
-
-pub list-requires-clause-number : goal.list-requires-clause-number
-list-requires-clause-number g c =
+pub invariant_of-job : goal.invariant_of-job
+invariant_of-job g c =
     let few = found_few _ _ _ _ _ _ _ c.loop-block.invariant.so_far in
     let many = length-zip c.args.submission.blocks (placed (has c.args.request.now.flags EitherSlot) c.args.submission.proposals) in
     let most : length c.args.submission.blocks ≤ MAX_BLOCKS = c.requires.few_blocks in
-    omega arith
+    record {
+      few = omega arith;
+      short = (rw c.in-Some.ensures.steps.0.0 at c.loop-block.invariant.short).0;
+      each = tt;
+    }
 
 pub loop-block-preserved : goal.loop-block-preserved
 loop-block-preserved g c =

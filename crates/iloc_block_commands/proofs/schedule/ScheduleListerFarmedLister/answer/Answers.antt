@@ -4,11 +4,11 @@ use Rattle.iloc_block_commands.proofs.schedule.ScheduleListerFarmedLister.answer
 
 pub lend-requires : goal.lend-requires
 lend-requires c =
-    each_ranked (option_copied c.args.own) c.args.block.now _ (ap (λ (g : GraphOf). g.ops) c.in_ok-refill.ensures.graph) c.requires.each
+    each_ranked (option_copied c.args.job.now.own) c.args.job.now.block.now _ (ap (λ (g : GraphOf). g.ops) c.in_ok-refill.ensures.graph) c.args.job.now.each
 
 pub returns : goal.returns
 returns c =
-    schedule_is c.args.request.now (option_copied c.args.own) c.args.number c.args.block.now c.in_ok-schedule.schedule
+    schedule_is c.args.request.now (option_copied c.args.job.now.own) c.args.job.now.number c.args.job.now.block.now c.in_ok-schedule.schedule
     (c.in_ok-schedule.ensures _ _ _ (c.in_ok-refill.ensures.graph
-    ∙ ap (λ rule. of_block rule c.args.request.now.latencies c.args.block.now.ops) c.memory_rule.ensures)).greedy
+    ∙ ap (λ rule. of_block rule c.args.request.now.latencies c.args.job.now.block.now.ops) c.memory_rule.ensures)).greedy
     c.in_ok-entry.entry.text c.in_ok-entry.entry.cycles c.in_ok-entry.ensures.text c.in_ok-entry.ensures.cycles

@@ -11,14 +11,14 @@ by_the_book-requires-clause-ruled c = (c.in_ok-ruled.ensures _ _ _ c.in_ok-refil
 
 pub invariant_of-task : goal.invariant_of-task
 invariant_of-task c = record {
-  few = c.requires.short;
+  few = c.args.job.now.short;
   lawful = c.in_ok-ours.ensures.lawful;
 }
 
 pub returns-clause-listed : goal.returns-clause-listed
 returns-clause-listed c =
     let request = c.args.request.now in
-    let block = c.args.block.now in
+    let block = c.args.job.now.block.now in
     let rule = memory_rule request in
     let graph = c.in_ok-refill.ensures.graph
     ∙ ap (λ rule. of_block rule request.latencies block.ops) c.memory_rule-rule.ensures in
@@ -31,15 +31,15 @@ returns-clause-listed c =
     beside.2 ∙ (c.in_ok-least.ensures ∙ ap (λ (g : GraphOf). least_of_under g.rule g.latencies g.ops) graph) in
     let counted : c.in_ok-checked.checked.ours ≡ cycles_of request.latencies c.in_ok-ruled.ruled =
     beside.0 ∙ c.cycles-cycles.ensures in
-    check_listed (options_of request) request.nodes rule request.latencies _ _ c.args.number block
+    check_listed (options_of request) request.nodes rule request.latencies _ _ c.args.job.now.number block
     c.in_ok-ours.ours c.in_ok-ruled.ruled c.args.proposal c.in_ok-checked.checked c.args.text.now.items _ _ said.0 _
-    c.in_ok-ours.ensures (c.in_ok-ruled.ensures _ _ _ graph).greedy counted sought least c.requires.starts c.as_ref.ensures.value
+    c.in_ok-ours.ensures (c.in_ok-ruled.ensures _ _ _ graph).greedy counted sought least c.requires c.as_ref.ensures.value
     (rw c.form_of.ensures at c.in_ok-push_check_head.ensures) (rw c.options_of.ensures at said.1) said.2
 
 pub returns-clause-small : goal.returns-clause-small
 returns-clause-small c =
     let request = c.args.request.now in
-    let block = c.args.block.now in
+    let block = c.args.job.now.block.now in
     let graph = c.in_ok-refill.ensures.graph in
     let said = c.in_ok-checked.ensures.entry in
     let beside = c.in_ok-checked.ensures.beside in
@@ -47,4 +47,4 @@ returns-clause-small c =
     block.ops c.in_ok-ours.ours c.in_ok-ruled.ruled c.args.proposal c.in_ok-checked.checked said.0
     (rw c.options_of.ensures at said.1) (c.in_ok-ruled.ensures _ _ _ graph).greedy (beside.0 ∙ c.cycles-cycles.ensures)
     (beside.2 ∙ (c.in_ok-least.ensures ∙ ap (λ (g : GraphOf). least_of_under g.rule g.latencies g.ops) graph))
-    c.requires.short c.rows.ensures.few
+    c.args.job.now.short c.rows.ensures.few

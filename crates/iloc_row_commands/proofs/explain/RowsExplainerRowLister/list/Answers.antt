@@ -41,7 +41,7 @@ pub returns-clause-listed : goal.returns-clause-listed
 returns-clause-listed c =
     let request = c.args.request.now in
     let said = c.in_ok-found.ensures in
-    rows_listed request.priority request.latencies c.args.number c.args.block.now c.in_ok-ours.ours c.args.proposal
+    rows_listed request.priority request.latencies c.args.job.now.number c.args.job.now.block.now c.in_ok-ours.ours c.args.proposal
     c.in_ok-found.found c.args.text.now.items _ _ _ said.0 _ (c.in_ok-ours.ensures _ _ _ c.in_ok-refill.ensures.graph).greedy c.as_ref.ensures.value
     c.in_ok-push_block_head.ensures c.in_ok-push.ensures.items said.1 said.2
 
@@ -49,5 +49,5 @@ pub returns-clause-small : goal.returns-clause-small
 returns-clause-small c =
     let request = c.args.request.now in
     let said = c.in_ok-found.ensures in
-    few_told request.priority request.latencies c.args.block.now.ops c.in_ok-ours.ours c.args.proposal c.in_ok-found.found
+    few_told request.priority request.latencies c.args.job.now.block.now.ops c.in_ok-ours.ours c.args.proposal c.in_ok-found.found
     said.0 said.1 c.rows.ensures.few

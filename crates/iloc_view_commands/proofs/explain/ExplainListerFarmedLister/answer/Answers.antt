@@ -7,43 +7,43 @@ use Rattle.iloc_view_commands.proofs.explain.ExplainListerFarmedLister.answer.Go
 
 pub measure-requires : goal.measure-requires
 measure-requires c =
-    each_ranked c.args.request.now.priority (option_copied c.args.own) c.args.block.now _ _
-    (ap (λ (g : GraphOf). g.ops) c.in_ok-refill.ensures.graph) c.requires.each c.in_ok-ranks.ensures
+    each_ranked c.args.request.now.priority (option_copied c.args.job.now.own) c.args.job.now.block.now _ _
+    (ap (λ (g : GraphOf). g.ops) c.in_ok-refill.ensures.graph) c.args.job.now.each c.in_ok-ranks.ensures
 
 pub lend-requires : goal.lend-requires
 lend-requires c = ap length c.deref.ensures.value ∙ c.in_ok-measures.ensures.measures.ranked
 
 pub invariant_of-explained : goal.invariant_of-explained
 invariant_of-explained c =
-    let lawful = (c.in_ok-schedule.ensures c.memory_rule.result c.args.request.now.latencies c.args.block.now.ops
+    let lawful = (c.in_ok-schedule.ensures c.memory_rule.result c.args.request.now.latencies c.args.job.now.block.now.ops
     c.in_ok-refill.ensures.graph).greedy.lawful in
     record {
       names = lawful.names;
       waits = rw (c.in_ok-measures.ensures.rule ∙ ap (λ (g : GraphOf). g.rule) c.in_ok-refill.ensures.graph) lawful.waits;
     }
 
-pub push_entry-requires-clause-measured : goal.push_entry-requires-clause-measured
-push_entry-requires-clause-measured c =
+pub push_entry-requires : goal.push_entry-requires
+push_entry-requires c =
     let rule = c.memory_rule.result in
     let lat = c.args.request.now.latencies in
-    measured_too rule lat c.args.block.now c.in_ok-schedule.schedule _ _ c.in_ok-refill.ensures.graph
-    (c.in_ok-schedule.ensures rule lat c.args.block.now.ops c.in_ok-refill.ensures.graph).greedy.lawful.names
+    measured_too rule lat c.args.job.now.block.now c.in_ok-schedule.schedule _ _ c.in_ok-refill.ensures.graph
+    (c.in_ok-schedule.ensures rule lat c.args.job.now.block.now.ops c.in_ok-refill.ensures.graph).greedy.lawful.names
     c.in_ok-measures.ensures.measures
 
 pub returns : goal.returns
 returns c =
     let request = c.args.request.now in
-    let block = c.args.block.now in
+    let block = c.args.job.now.block.now in
     let said = c.in_ok-push_entry.ensures in
     let entry = c.in_ok-entry.entry in
     let filled = c.in_ok-refill.ensures.graph
     ∙ ap (λ rule. of_block rule request.latencies block.ops) c.memory_rule.ensures in
-    explain_is request (option_copied c.args.own) c.args.number block c.in_ok-schedule.schedule _
+    explain_is request (option_copied c.args.job.now.own) c.args.job.now.number block c.in_ok-schedule.schedule _
     c.in_ok-measures.measures.ranks.items said.0 _ _ filled
     (c.in_ok-measures.ensures.ranks ∙ c.in_ok-ranks.ensures) c.in_ok-measures.ensures.rule c.in_ok-measures.ensures.least
     (rw c.deref.ensures.value at (c.in_ok-schedule.ensures (memory_rule request) request.latencies block.ops filled).greedy)
     said.1 entry.text entry.cycles
     (c.in_ok-entry.ensures.text
     ∙ (c.deref-2.ensures.value
-    ∙ (said.2 ∙ ap (λ xs. xs ++ with_block (has request.flags Csv) c.args.number block.name said.0) c.clear.ensures.items)))
+    ∙ (said.2 ∙ ap (λ xs. xs ++ with_block (has request.flags Csv) c.args.job.now.number block.name said.0) c.clear.ensures.items)))
     (c.in_ok-entry.ensures.cycles ∙ c.count_of-cycles.ensures)
