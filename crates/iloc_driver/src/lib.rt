@@ -20,7 +20,7 @@ pub use fault::{
 };
 pub use job::Job;
 pub use lister::{Lister, initial_memory};
-pub use program::{Ending, run_request, run_words};
+pub use program::{Ending, Streams, run_request, run_words};
 pub use reading::texts::Texts;
 pub use rows::RowLister;
 pub use workers::{farm_out, work_all};

@@ -27,6 +27,17 @@ const NO_TEXT: &str = "error: invalid UTF-8 was detected in one or more argument
 /// At most so many bytes are said of a fault that the parser didn't find.
 const MOST_SAID: usize = 128;
 
+/// What the program reads and writes.
+#[derive(Drop)]
+pub struct Streams<R, W, F> {
+    /// Gives its input.
+    pub reader: R,
+    /// Takes its listing.
+    pub writer: W,
+    /// Takes what is said of a fault.
+    pub faults: F,
+}
+
 /// How the program ended.
 #[derive(Clone, Copy, Debug, Drop, PartialEq, Eq)]
 pub struct Ending {
@@ -94,20 +105,19 @@ impl From<WriteFailed> for Fault {
 /// one of them isn't UTF-8, or that memory was refused. `texts` opens the file of blocks that they may name.
 ///
 /// Promise: the program does what its words ask for and ends with the status of what was found. Or a fault stops it: then it says
-/// which on one line of `faults`, or in the parser's own words, and ends with that fault's status.
+/// which on one line of `streams.faults`, or in the parser's own words, and ends with that fault's status.
 pub fn run_words<C: Commands, H: Threads + Wait + Sync, T: Texts, R: Read, W: Write, F: Write>(
     rt: &H,
     alloc: Global,
     words: io::Result<Args>,
     texts: &T,
-    reader: &mut R,
-    writer: &mut W,
-    faults: &mut F,
+    streams: &mut Streams<R, W, F>,
 ) -> Ending
-    ensures { Ends C.command_of (T.held texts.now) words (R.remaining reader.old) (R.remaining reader.new)
-        (W.contents writer.old) (W.contents writer.new)
-        (F.contents faults.old) (F.contents faults.new) result }
+    ensures { Ends C.command_of (T.held texts.now) words (R.remaining streams.old.reader) (R.remaining streams.new.reader)
+        (W.contents streams.old.writer) (W.contents streams.new.writer)
+        (F.contents streams.old.faults) (F.contents streams.new.faults) result }
 {
+    let (reader, writer) = (&mut streams.reader, &mut streams.writer);
     match serve::<C, H, T, R, W>(rt, alloc, words, texts, reader, writer) {
         Ok(finding) => Ending {
             status: finding.status(),
@@ -115,7 +125,7 @@ pub fn run_words<C: Commands, H: Threads + Wait + Sync, T: Texts, R: Read, W: Wr
         },
         Err(fault) => Ending {
             status: fault.status(),
-            told: fault.tell(faults),
+            told: fault.tell(&mut streams.faults),
         },
     }
 }

@@ -11,7 +11,7 @@ ghost use Rattle.iloc_farm.specs.Theorem.Farmed.{HasHeadline};
 use crate::commands::AllCommands;
 use crate::receipt::CommandReceipt;
 use iloc_args::Request;
-use iloc_driver::{Ending, Finding, RunFault, Texts};
+use iloc_driver::{Ending, Finding, RunFault, Streams, Texts};
 use std::alloc::Global;
 use std::env::Args;
 use std::io::{self, Read, Write};
@@ -23,7 +23,7 @@ use std::thread::Threads;
 ///
 /// Promise: the program does what its words ask for and ends with status 0, with 5 where what it judged or explained doesn't
 /// pass, or with 1 where the text that it searched for faults has some. Or a fault stops it: then it says which on one line of
-/// `faults`, or in the parser's own words, and ends with that fault's status.
+/// `streams.faults`, or in the parser's own words, and ends with that fault's status.
 ///
 /// What status 0 tells is a promise of its own (`status_0`). Of `schedule` and `counts`: the bytes that were read denote blocks,
 /// and what was written is the listing of schedules, or of their cycles. They are one for each block, in order, lawful with the
@@ -34,20 +34,16 @@ pub fn run_program<H: Threads + Wait + Sync, T: Texts, R: Read, W: Write, F: Wri
     alloc: Global,
     words: io::Result<Args>,
     texts: &T,
-    reader: &mut R,
-    writer: &mut W,
-    faults: &mut F,
+    streams: &mut Streams<R, W, F>,
 ) -> Ending
-    ensures ends { Ends command_of (T.held texts.now) words (R.remaining reader.old) (R.remaining reader.new)
-        (W.contents writer.old) (W.contents writer.new)
-        (F.contents faults.old) (F.contents faults.new) result }
+    ensures ends { Ends command_of (T.held texts.now) words (R.remaining streams.old.reader) (R.remaining streams.new.reader)
+        (W.contents streams.old.writer) (W.contents streams.new.writer)
+        (F.contents streams.old.faults) (F.contents streams.new.faults) result }
     ensures status_0 { result.status ≡ 0 → Status0Tells (T.held texts.now) words
-        (R.remaining reader.old) (R.remaining reader.new)
-        (W.contents writer.old) (W.contents writer.new) }
+        (R.remaining streams.old.reader) (R.remaining streams.new.reader)
+        (W.contents streams.old.writer) (W.contents streams.new.writer) }
 {
-    iloc_driver::run_words::<AllCommands, H, T, R, W, F>(
-        rt, alloc, words, texts, reader, writer, faults,
-    )
+    iloc_driver::run_words::<AllCommands, H, T, R, W, F>(rt, alloc, words, texts, streams)
 }
 
 /// Reads an input, writes what the request lists of it, and answers what was found. For `Check` the input is blocks with rows

@@ -9,7 +9,7 @@ use crate::program::run_program;
 use crate::reason::reason_of;
 use crate::watched::Watched;
 use iloc_args::{Request, Task, parse_line};
-use iloc_driver::{Ending, Texts};
+use iloc_driver::{Ending, Streams, Texts};
 use iloc_listing::write_text;
 use std::alloc::Global;
 use std::env::Args;
@@ -108,18 +108,16 @@ pub fn run_talking<H: Threads + Wait + Sync, T: Texts, R: Read + Drop, W: Write,
     alloc: Global,
     words: io::Result<Args>,
     texts: &T,
-    reader: &mut Watched<R>,
-    writer: &mut W,
-    faults: &mut F,
+    streams: &mut Streams<Watched<R>, W, F>,
     terminals: Terminals,
 ) -> Ending
-    ensures ends { EndsTalking command_of (T.held texts.now) words terminals (bytes_of reader.new.kept)
-        (R.remaining reader.old.reader) (R.remaining reader.new.reader)
-        (W.contents writer.old) (W.contents writer.new)
-        (F.contents faults.old) (F.contents faults.new) result }
+    ensures ends { EndsTalking command_of (T.held texts.now) words terminals (bytes_of streams.new.reader.kept)
+        (R.remaining streams.old.reader.reader) (R.remaining streams.new.reader.reader)
+        (W.contents streams.old.writer) (W.contents streams.new.writer)
+        (F.contents streams.old.faults) (F.contents streams.new.faults) result }
     ensures status_0 { result.status ≡ 0 → Status0Tells (T.held texts.now) words
-        (R.remaining reader.old.reader) (R.remaining reader.new.reader)
-        (W.contents writer.old) (W.contents writer.new) }
+        (R.remaining streams.old.reader.reader) (R.remaining streams.new.reader.reader)
+        (W.contents streams.old.writer) (W.contents streams.new.writer) }
 {
     let explains = terminals.faults || !are_terse(&words);
     let request = if terminals.input || explains {
@@ -130,19 +128,22 @@ pub fn run_talking<H: Threads + Wait + Sync, T: Texts, R: Read + Drop, W: Write,
     if terminals.input
         && let Some(request) = &request
     {
-        let _ = faults.write_all(waiting(request));
+        let _ = streams.faults.write_all(waiting(request));
     }
-    reader.keep(alloc, explains);
-    reader.watch(terminals.faults && gets_no_words(&request));
-    let ending = run_program(rt, alloc, words, texts, reader, writer, faults);
+    streams.reader.keep(alloc, explains);
+    streams
+        .reader
+        .watch(terminals.faults && gets_no_words(&request));
+    let ending = run_program(rt, alloc, words, texts, streams);
     let unread = if explains && ending.status == 1 && ending.told.is_ok() {
         request.as_ref()
     } else {
         None
     };
-    explain(alloc, texts, unread, reader.kept(), faults);
-    if terminals.faults && reader.gives_words() {
-        let _ = faults.write_all(WORDS);
+    let kept = streams.reader.kept();
+    explain(alloc, texts, unread, kept, &mut streams.faults);
+    if terminals.faults && streams.reader.gives_words() {
+        let _ = streams.faults.write_all(WORDS);
     }
     ending
 }

@@ -1,7 +1,7 @@
 //! The program: a file of basic blocks on standard input, what comes of it on standard output.
 #![tactic(auto)]
 
-use iloc_driver::Texts;
+use iloc_driver::{Streams, Texts};
 use iloc_farm::{Terminals, Watched, run_talking};
 use std::env;
 use std::fs::{self, File};
@@ -37,9 +37,11 @@ fn main(rt: HostRuntime) -> ExitCode {
         rt.alloc(),
         env::args(&rt),
         &Files { rt: &rt },
-        &mut Watched::new(stdin),
-        &mut rt.stdout(),
-        &mut rt.stderr(),
+        &mut Streams {
+            reader: Watched::new(stdin),
+            writer: rt.stdout(),
+            faults: rt.stderr(),
+        },
         terminals,
     );
     ExitCode::from(ending.status)

@@ -1,4 +1,4 @@
-use Rattle.iloc_driver.proofs.Common.{◌≡◌, ◌+◌, ◌≤◌, [], length, drop, slice_get, Some, IfSome, sym, refl, ap, subst, arith, length-drop, MAX_BLOCKS, AppendsEntry, own_of}
+use Rattle.iloc_driver.proofs.Common.{◌≡◌, ◌+◌, ◌≤◌, [], length, drop, slice_get, Some, IfSome, option_copied, sym, refl, ap, subst, arith, length-drop, MAX_BLOCKS, AppendsEntry, own_of}
 use Rattle.std.proofs.lemmas.Option.{slice_get_read}
 use Rattle.iloc_rules.specs.Renaming.{without_nops}
 use Rattle.iloc_driver.proofs.RowListing.{found_few, next_left, none_listed, one_listed}
