@@ -1,6 +1,6 @@
 pub mod Waiting
 pub mod Chain
-pub mod Counted
+pub mod Addresses
 pub mod Holding
 pub mod Explained
 pub mod Laws

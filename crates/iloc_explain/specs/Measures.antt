@@ -9,7 +9,6 @@ use Rattle.iloc_rules.specs.Rule.{counts_by}
 use Rattle.iloc_rules.specs.Starts.{starts_where}
 use Rattle.iloc_explain.specs.declared.measures.Measures.{Measures}
 use Rattle.iloc_explain.specs.Chain.{chains_by}
-use Rattle.iloc_explain.specs.Counted.{IsKnownOf}
 
 -- `pairs` are delay pairs of `ops` by `rule`, and cycles of issue that wait for them wait for all.
 pub record ImplyAll (rule : MemoryRule) (lat : Latencies) (ops : List Op) (pairs : List Pair) : Type 0 where
@@ -20,7 +19,6 @@ pub record ImplyAll (rule : MemoryRule) (lat : Latencies) (ops : List Op) (pairs
 -- `m` are the measures of the operations `ops`, which are renamed, by whatever numbers they are ranked
 pub record AreMeasures (lat : Latencies) (ops : List Op) (m : Measures) : Type 0 where
   pub ranked : length m.ranks.items ≡ length ops
-  pub counted : IsKnownOf ops m.counted
-  pub pairs : ImplyAll m.counted.rule lat ops m.pairs.items
-  pub chains : m.chains.items ≡ chains_by m.counted.rule lat ops
-  pub starts : m.starts.items ≡ starts_where (counts_by m.counted.rule ops) lat ops
+  pub pairs : ImplyAll m.delays.rule lat ops m.pairs.items
+  pub chains : m.chains.items ≡ chains_by m.delays.rule lat ops
+  pub starts : m.starts.items ≡ starts_where (counts_by m.delays.rule ops) lat ops

@@ -1,13 +1,10 @@
 //! A longest chain of delays.
 ghost use Rattle.std.specs.Prelude.{◌≡◌, ◌<◌, ◌↔◌, [], length, IfOk, IsTrue, MatchOption};
 ghost use Rattle.iloc_explain.specs.Chain.{Continues, IsLongestChain, SpansTheGreatest, chains_by};
-ghost use Rattle.iloc_explain.specs.Counted.{IsKnownOf};
 ghost use Rattle.iloc_explain.specs.Steps.Greatest.{IsPlaceOfGreatest};
 
-use crate::counted::Counted;
-use crate::waited::has_delay;
-use iloc_ops::{NoMemory, Op};
-use iloc_timed::Latencies;
+use crate::delays::Delays;
+use iloc_ops::NoMemory;
 use std::alloc::Global;
 
 /// The first place of the greatest number.
@@ -27,23 +24,15 @@ pub(crate) fn place_of_greatest(numbers: &[u32]) -> Option<usize>
 }
 
 /// Whether a longest chain from operation i may go on with operation j.
-fn continues(
-    ops: &[Op],
-    latencies: &Latencies,
-    counted: &Counted,
-    chains: &[u32],
-    i: usize,
-    j: usize,
-) -> bool
+fn continues(delays: &Delays<'_>, chains: &[u32], i: usize, j: usize) -> bool
     requires order { i < j }
-    requires within { j < length ops.now }
-    requires counted { IsKnownOf ops.now counted.now }
-    requires chains { chains.now ≡ chains_by counted.now.rule latencies.now ops.now }
-    ensures { IsTrue result ↔ Continues counted.now.rule latencies.now ops.now i j }
+    requires within { j < length delays.now.ops.now }
+    requires chains { chains.now ≡ chains_by delays.now.rule delays.now.latencies.now delays.now.ops.now }
+    ensures { IsTrue result ↔ Continues delays.now.rule delays.now.latencies.now delays.now.ops.now i j }
 {
     let own = chains[i];
     let next = chains[j];
-    next <= own && has_delay(ops, latencies, counted, i, j, u64::from(own - next))
+    next <= own && delays.has(i, j, u64::from(own - next))
 }
 
 /// A longest chain of delays of renamed operations, by how long the longest chains from each are: it starts with the first
@@ -53,15 +42,14 @@ fn continues(
 /// Promise: The chain is that one, and its delays and the latency of its last operation together are as long as the longest.
 pub fn longest_chain(
     alloc: Global,
-    ops: &[Op],
-    latencies: &Latencies,
-    counted: &Counted,
+    delays: &Delays<'_>,
     chains: &[u32],
 ) -> Result<Vec<usize>, NoMemory>
-    requires counted { IsKnownOf ops.now counted.now }
-    requires chains { chains.now ≡ chains_by counted.now.rule latencies.now ops.now }
-    ensures chosen { IfOk result (λ chain. IsLongestChain counted.now.rule latencies.now ops.now chain.items) }
-    ensures longest { IfOk result (λ chain. SpansTheGreatest counted.now.rule latencies.now ops.now chain.items) }
+    requires { chains.now ≡ chains_by delays.now.rule delays.now.latencies.now delays.now.ops.now }
+    ensures chosen { IfOk result (λ chain.
+        IsLongestChain delays.now.rule delays.now.latencies.now delays.now.ops.now chain.items) }
+    ensures longest { IfOk result (λ chain.
+        SpansTheGreatest delays.now.rule delays.now.latencies.now delays.now.ops.now chain.items) }
 {
     let mut chain = Vec::new(alloc);
     let Some(first) = place_of_greatest(chains) else {
@@ -69,8 +57,8 @@ pub fn longest_chain(
     };
     chain.push(first)?;
     let mut last = first;
-    for j in first + 1..ops.len() {
-        if continues(ops, latencies, counted, chains, last, j) {
+    for j in first + 1..delays.ops.len() {
+        if continues(delays, chains, last, j) {
             chain.push(j)?;
             last = j;
         }

@@ -9,18 +9,17 @@ ghost use Rattle.iloc_explain.specs.Explained.{AreExplained};
 ghost use Rattle.iloc_explain.specs.Measures.{AreMeasures};
 ghost use Rattle.iloc_explain.specs.Steps.CycleParts.{front_by, last_by, taken_by};
 ghost use Rattle.iloc_explain.specs.Steps.Queue.{IsInOrder, IsKnown, Place};
-ghost use Rattle.iloc_explain.specs.Waiting.{WaitsForAll};
 
 use crate::explanation::{Explained, explain};
 use crate::holding::{held_by, keeper};
 use crate::listing::{held, push_cycles};
-use crate::measures::Measures;
 use crate::ready_list::{MOST_LISTED, ReadyList};
+use crate::subject::Subject;
 use crate::under_way::under_way;
 use Piece::{Number, Text};
 use iloc_ops::{NoMemory, Op};
 use iloc_pieces::{Piece, push_all};
-use iloc_timed::{Latencies, Row, Schedule, cycles};
+use iloc_timed::{Row, cycles};
 use std::alloc::Global;
 
 /// Appends `pairs` with commas between them, each with `mark` between its numbers; `-` where there are none.
@@ -144,23 +143,23 @@ fn push_cycle(
     alloc: Global,
     text: &mut Vec<u8>,
     list: &ReadyList,
-    schedule: &Schedule,
-    latencies: &Latencies,
+    subject: &Subject<'_>,
     cycle: usize,
 ) -> Result<(), NoMemory>
     requires order { IsInOrder list.now }
-    requires within { cycle < length schedule.now.rows }
+    requires within { cycle < length subject.now.schedule.now.rows }
     requires known { (prios : List ℕ) × (rule : rule_value)
-        × IsKnown prios rule latencies.now schedule.now.ops schedule.now.rows cycle list.now }
+        × IsKnown prios rule subject.now.measures.now.delays.latencies.now subject.now.schedule.now.ops subject.now.schedule.now.rows cycle list.now }
     ensures { OnOk result ((prios : List ℕ) (rule : rule_value)
-        → IsKnown prios rule latencies.now schedule.now.ops schedule.now.rows cycle list.now → text.new.items
-        ≡ text.old.items ++ listed.cycle_line prios rule latencies.now schedule.now.ops schedule.now.rows cycle) }
+        → IsKnown prios rule subject.now.measures.now.delays.latencies.now subject.now.schedule.now.ops subject.now.schedule.now.rows cycle list.now
+        → text.new.items ≡ text.old.items ++ listed.cycle_line prios rule subject.now.measures.now.delays.latencies.now
+        subject.now.schedule.now.ops subject.now.schedule.now.rows cycle) }
 {
-    let (ops, rows) = (schedule.ops(), schedule.rows());
+    let (ops, rows) = (subject.schedule.ops(), subject.schedule.rows());
     push_front(alloc, text, list, cycle, rows.len())?;
     push_taken_from(text, list, ops, rows[cycle])?;
     text.extend_from_slice(b" active ")?;
-    push_pairs(text, "@", &under_way(alloc, schedule, latencies, cycle)?)?;
+    push_pairs(text, "@", &under_way(alloc, subject, cycle)?)?;
     Ok(text.extend_from_slice(b"\n")?)
 }
 
@@ -173,52 +172,30 @@ fn is_skipped(list: &ReadyList, was_idle: bool) -> bool
     was_idle && is_idle
 }
 
-/// Appends the line that begins with a cycle, if one does: where nothing is ready, as in the cycle before, none does.
-fn push_line_from(
-    alloc: Global,
-    text: &mut Vec<u8>,
-    list: &ReadyList,
-    schedule: &Schedule,
-    latencies: &Latencies,
-    cycle: usize,
-    was_idle: bool,
-) -> Result<(), NoMemory>
-    requires within { cycle < length schedule.now.rows }
-    requires known { (prios : List ℕ) × (rule : rule_value)
-        × IsKnown prios rule latencies.now schedule.now.ops schedule.now.rows cycle list.now }
-    ensures { OnOk result ((prios : List ℕ) (rule : rule_value)
-        → IsKnown prios rule latencies.now schedule.now.ops schedule.now.rows cycle list.now
-        → was_idle ≡ listed.is_idle_before prios rule latencies.now schedule.now.ops schedule.now.rows cycle
-        → text.new.items
-        ≡ text.old.items ++ listed.line_from prios rule latencies.now schedule.now.ops schedule.now.rows cycle) }
-{
-    if is_skipped(list, was_idle) {
-        return Ok(());
-    }
-    push_cycle(alloc, text, list, schedule, latencies, cycle)
-}
-
-/// Appends the lines of all cycles of a schedule, of which this is explained.
+/// Appends the lines of all cycles of a schedule, of which this is explained: where nothing is ready, as in the cycle before, no
+/// line begins.
 fn push_cycles_of(
     alloc: Global,
     text: &mut Vec<u8>,
-    schedule: &Schedule,
-    latencies: &Latencies,
+    subject: &Subject<'_>,
     explained: &[Explained],
 ) -> Result<(), NoMemory>
     requires { (prios : List ℕ) × (rule : rule_value)
-        × AreExplained prios rule latencies.now schedule.now.ops schedule.now.rows explained.now }
+        × AreExplained prios rule subject.now.measures.now.delays.latencies.now subject.now.schedule.now.ops subject.now.schedule.now.rows explained.now }
     ensures { OnOk result ((prios : List ℕ) (rule : rule_value)
-        → AreExplained prios rule latencies.now schedule.now.ops schedule.now.rows explained.now → text.new.items
-        ≡ text.old.items ++ listed.cycle_lines prios rule latencies.now schedule.now.ops schedule.now.rows) }
+        → AreExplained prios rule subject.now.measures.now.delays.latencies.now subject.now.schedule.now.ops subject.now.schedule.now.rows explained.now
+        → text.new.items ≡ text.old.items ++ listed.cycle_lines prios rule subject.now.measures.now.delays.latencies.now
+        subject.now.schedule.now.ops subject.now.schedule.now.rows) }
 {
     // Whose numbers are those of operations.
-    let _ops = schedule.ops();
+    let _ops = subject.schedule.ops();
     let mut list = ReadyList::new(alloc, explained)?;
     let mut was_idle = false;
-    for (cycle, row) in schedule.rows().iter().enumerate() {
+    for (cycle, row) in subject.schedule.rows().iter().enumerate() {
         list.release(cycle)?;
-        push_line_from(alloc, text, &list, schedule, latencies, cycle, was_idle)?;
+        if !is_skipped(&list, was_idle) {
+            push_cycle(alloc, text, &list, subject, cycle)?;
+        }
         was_idle = list.len() == 0;
         list.issue(explained, *row);
     }
@@ -232,17 +209,16 @@ fn push_cycles_of(
 pub fn push_ready_list(
     alloc: Global,
     text: &mut Vec<u8>,
-    latencies: &Latencies,
-    measures: &Measures,
-    schedule: &Schedule,
+    subject: &Subject<'_>,
 ) -> Result<(), NoMemory>
-    requires measured { AreMeasures latencies.now schedule.now.ops measures.now }
-    requires waits { WaitsForAll measures.now.counted.rule latencies.now schedule.now.ops schedule.now.rows }
+    requires { AreMeasures subject.now.measures.now.delays.latencies.now subject.now.schedule.now.ops subject.now.measures.now }
     ensures { OnOk result (text.new.items ≡ text.old.items
-        ++ ready_listing measures.now.ranks.items measures.now.counted.rule latencies.now measures.now.least
-        schedule.now.ops schedule.now.rows) }
+        ++ ready_listing subject.now.measures.now.ranks.items subject.now.measures.now.delays.rule
+        subject.now.measures.now.delays.latencies.now subject.now.measures.now.least subject.now.schedule.now.ops subject.now.schedule.now.rows) }
 {
-    let explained = explain(alloc, schedule, latencies, measures)?;
-    push_cycles_of(alloc, text, schedule, latencies, &explained)?;
-    push_cycles(text, cycles(schedule, latencies), measures.least)
+    let explained = explain(alloc, subject)?;
+    push_cycles_of(alloc, text, subject, &explained)?;
+    let measures = subject.measures;
+    let taken = cycles(subject.schedule, measures.delays.latencies);
+    push_cycles(text, taken, measures.least)
 }

@@ -2,15 +2,14 @@
 ghost use Rattle.std.specs.Prelude.{◌≡◌, ◌-◌, IfOk};
 ghost use Rattle.iloc_explain.specs.Explained.{AreExplained, unit_of};
 ghost use Rattle.iloc_explain.specs.Measures.{AreMeasures};
-ghost use Rattle.iloc_explain.specs.Waiting.{WaitsForAll};
 
 use crate::holding::{Holder, holder_of};
 use crate::issued::issue_cycles;
-use crate::measures::Measures;
 use crate::ready::ready_cycles;
+use crate::subject::Subject;
 use crate::waited::waited_until;
 use iloc_ops::NoMemory;
-use iloc_timed::{Latencies, Row, Schedule, cycles};
+use iloc_timed::{Row, cycles};
 use std::alloc::Global;
 
 /// One of the two units that issue operations.
@@ -67,27 +66,22 @@ fn slack_of(total: u64, cycle: usize, chain: u64) -> u64
 /// Promise: Each operation is listed with its cycle of issue, its unit, its priority, the first cycle at which all that it
 /// waits for is over, just the operations for which it waited until then, its start, its slack, and what kept it out of the
 /// row before.
-pub(crate) fn explain(
-    alloc: Global,
-    schedule: &Schedule,
-    latencies: &Latencies,
-    measures: &Measures,
-) -> Result<Vec<Explained>, NoMemory>
-    requires measured { AreMeasures latencies.now schedule.now.ops measures.now }
-    requires waits { WaitsForAll measures.now.counted.rule latencies.now schedule.now.ops schedule.now.rows }
-    ensures { IfOk result (λ explained. AreExplained measures.now.ranks.items measures.now.counted.rule latencies.now
-        schedule.now.ops schedule.now.rows explained.items) }
+pub(crate) fn explain(alloc: Global, subject: &Subject<'_>) -> Result<Vec<Explained>, NoMemory>
+    requires { AreMeasures subject.now.measures.now.delays.latencies.now subject.now.schedule.now.ops subject.now.measures.now }
+    ensures { IfOk result (λ explained. AreExplained subject.now.measures.now.ranks.items subject.now.measures.now.delays.rule
+        subject.now.measures.now.delays.latencies.now subject.now.schedule.now.ops subject.now.schedule.now.rows explained.items) }
 {
+    let (measures, schedule) = (subject.measures, subject.schedule);
     let ops = schedule.ops();
     let rows = schedule.rows();
     let issued = issue_cycles(alloc, schedule)?;
     let ready_at = ready_cycles(alloc, &measures.pairs, &issued)?;
-    let total = cycles(schedule, latencies);
+    let total = cycles(schedule, measures.delays.latencies);
     let mut explained = Vec::new(alloc);
     for j in 0..ops.len() {
         let cycle = issued[j];
         let ready = ready_at[j];
-        let after = waited_until(alloc, schedule, latencies, &measures.counted, j, ready)?;
+        let after = waited_until(alloc, subject, j, ready)?;
         explained.push(Explained {
             cycle,
             unit: unit_of(rows[cycle], j),

@@ -2,8 +2,8 @@
 #![tactic(auto)]
 
 mod chain;
-mod counted;
 mod cycle_lines;
+mod delays;
 mod explanation;
 mod holding;
 mod issued;
@@ -13,12 +13,13 @@ mod measures;
 mod path;
 mod ready;
 mod ready_list;
+mod subject;
 mod under_way;
 mod waited;
 
 pub use chain::longest_chain;
-pub use counted::Counted;
 pub use cycle_lines::push_ready_list;
+pub use delays::Delays;
 pub use listing::{push_explanation, push_table};
 pub use measures::Measures;
-pub use waited::has_delay;
+pub use subject::Subject;

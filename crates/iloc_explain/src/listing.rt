@@ -3,21 +3,20 @@ ghost use Rattle.std.specs.Prelude.{◌≡◌, ◌++◌, List, ℕ, length, opti
 ghost use Rattle.std.specs.List.{flat_map};
 ghost use Rattle.std.specs.Fmt.{decimal};
 ghost use Rattle.iloc_pieces.specs.Pieces.{piece_text};
-ghost use Rattle.iloc_rules.specs.Renaming.{renamed, without_nops};
+ghost use Rattle.iloc_rules.specs.Renaming.{without_nops};
 ghost use Rattle.iloc_explain.specs.Listing as listed;
 ghost use Rattle.iloc_explain.specs.Listing.{AreTableRows, IsExplanation};
 ghost use Rattle.iloc_explain.specs.Measures.{AreMeasures};
-ghost use Rattle.iloc_explain.specs.Waiting.{WaitsForAll};
 
 use crate::chain::longest_chain;
 use crate::explanation::{Explained, Unit, explain};
 use crate::holding::Holder;
-use crate::measures::Measures;
 use crate::path::{Stretch, path_of};
+use crate::subject::Subject;
 use Piece::{Number, Operation, Text};
-use iloc_ops::{Block, NoMemory, Op, push_column, push_number};
+use iloc_ops::{NoMemory, Op, push_column, push_number};
 use iloc_pieces::{Piece, push_all};
-use iloc_timed::{Latencies, Schedule, cycles};
+use iloc_timed::cycles;
 use std::alloc::Global;
 
 /// Appends each of `numbers` after `mark`.
@@ -263,56 +262,46 @@ fn push_path(text: &mut Vec<u8>, path: &[Stretch]) -> Result<(), NoMemory>
 pub fn push_explanation(
     alloc: Global,
     text: &mut Vec<u8>,
-    block: &Block,
-    latencies: &Latencies,
-    measures: &Measures,
-    schedule: &Schedule,
+    subject: &Subject<'_>,
     issued: &[Op],
 ) -> Result<(), NoMemory>
-    requires names { schedule.now.ops ≡ renamed block.now.ops }
-    requires measured { AreMeasures latencies.now schedule.now.ops measures.now }
-    requires waits { WaitsForAll measures.now.counted.rule latencies.now schedule.now.ops schedule.now.rows }
-    requires issued { length issued.now ≡ length schedule.now.ops }
-    ensures { OnOk result ((entry : List ℕ) × IsExplanation measures.now.ranks.items measures.now.counted.rule latencies.now
-        measures.now.least block.now.ops schedule.now.ops schedule.now.rows issued.now entry
+    requires measured { AreMeasures subject.now.measures.now.delays.latencies.now subject.now.schedule.now.ops subject.now.measures.now }
+    requires issued { length issued.now ≡ length subject.now.schedule.now.ops }
+    ensures { OnOk result ((entry : List ℕ)
+        × IsExplanation subject.now.measures.now.ranks.items subject.now.measures.now.delays.rule
+        subject.now.measures.now.delays.latencies.now subject.now.measures.now.least subject.now.block.now.ops
+        subject.now.schedule.now.ops subject.now.schedule.now.rows issued.now entry
         × (text.new.items ≡ text.old.items ++ entry)) }
 {
-    let explained = explain(alloc, schedule, latencies, measures)?;
-    let Measures {
-        counted,
-        chains,
-        least,
-        ..
-    } = measures;
-    push_lines(text, None, block.ops.as_slice(), &explained, issued)?;
-    push_cycles(text, cycles(schedule, latencies), *least)?;
-    push_chain(
+    let explained = explain(alloc, subject)?;
+    let (measures, schedule) = (subject.measures, subject.schedule);
+    let delays = &measures.delays;
+    push_lines(text, None, subject.block.ops.as_slice(), &explained, issued)?;
+    push_cycles(text, cycles(schedule, delays.latencies), measures.least)?;
+    push_chain(text, &longest_chain(alloc, delays, &measures.chains)?)?;
+    push_path(
         text,
-        &longest_chain(alloc, schedule.ops(), latencies, counted, chains)?,
-    )?;
-    push_path(text, &path_of(alloc, schedule, latencies, &explained)?)
+        &path_of(alloc, schedule, delays.latencies, &explained)?,
+    )
 }
 
-/// Appends a row of a table for each operation of `schedule`, each after `head`, which is what the table has of `block`.
+/// Appends a row of a table for each operation of a schedule, each after `head`, which is what the table has of its block.
 ///
-/// Promise: Each row has what explains the cycle in which `schedule` issues its operation.
+/// Promise: Each row has what explains the cycle in which the schedule issues its operation.
 pub fn push_table(
     alloc: Global,
     text: &mut Vec<u8>,
     head: &[u8],
-    block: &Block,
-    latencies: &Latencies,
-    measures: &Measures,
-    schedule: &Schedule,
+    subject: &Subject<'_>,
 ) -> Result<(), NoMemory>
-    requires names { schedule.now.ops ≡ renamed block.now.ops }
-    requires measured { AreMeasures latencies.now schedule.now.ops measures.now }
-    requires waits { WaitsForAll measures.now.counted.rule latencies.now schedule.now.ops schedule.now.rows }
-    ensures { OnOk result ((table : List (List ℕ)) × AreTableRows measures.now.ranks.items measures.now.counted.rule latencies.now
-        block.now.ops schedule.now.ops schedule.now.rows table
+    requires { AreMeasures subject.now.measures.now.delays.latencies.now subject.now.schedule.now.ops subject.now.measures.now }
+    ensures { OnOk result ((table : List (List ℕ))
+        × AreTableRows subject.now.measures.now.ranks.items subject.now.measures.now.delays.rule
+        subject.now.measures.now.delays.latencies.now subject.now.block.now.ops subject.now.schedule.now.ops
+        subject.now.schedule.now.rows table
         × (text.new.items ≡ text.old.items ++ listed.each_after head.now table)) }
 {
-    let explained = explain(alloc, schedule, latencies, measures)?;
-    let issued = schedule.ops();
-    push_lines(text, Some(head), block.ops.as_slice(), &explained, issued)
+    let explained = explain(alloc, subject)?;
+    let (ops, issued) = (subject.block.ops.as_slice(), subject.schedule.ops());
+    push_lines(text, Some(head), ops, &explained, issued)
 }

@@ -1,12 +1,12 @@
 //! What an explanation needs to know of a block's operations.
-use crate::counted::Counted;
+use crate::delays::Delays;
 use iloc_rules::Pair;
 
 /// What is known of a block's renamed operations by a rule of memory.
-#[derive(Debug, Drop)]
-pub struct Measures {
-    /// Which of their pairs count.
-    pub counted: Counted,
+#[derive(Drop)]
+pub struct Measures<'a> {
+    /// Which delays they put on one another.
+    pub delays: Delays<'a>,
     /// Delay pairs of the operations: rows that wait for these wait for all.
     pub pairs: Vec<Pair>,
     /// By operation the number that ranks it.

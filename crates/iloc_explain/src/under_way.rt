@@ -4,33 +4,34 @@ ghost use Rattle.iloc_timed.specs.Rows.{issue_cycle};
 ghost use Rattle.iloc_explain.specs.CycleLines.{paired};
 ghost use Rattle.iloc_explain.specs.ReadyList.{arrival, under_way};
 
+use crate::subject::Subject;
 use iloc_ops::NoMemory;
 use iloc_rules::LONGEST_DELAY;
-use iloc_timed::{Latencies, Schedule, latency};
+use iloc_timed::latency;
 use std::alloc::Global;
 
 /// Adds what a slot holds, which is issued at a cycle, with the cycle at which its result arrives, if that is after this cycle.
 fn push_under_way(
     found: &mut Vec<(usize, u64)>,
     slot: Option<usize>,
-    schedule: &Schedule,
-    latencies: &Latencies,
+    subject: &Subject<'_>,
     issued: usize,
     cycle: usize,
 ) -> Result<(), NoMemory>
-    requires known { IfSome slot (λ i. i < length schedule.now.ops) }
-    requires issued { IfSome slot (λ i. issue_cycle schedule.now.rows i ≡ issued) }
-    requires within { issued < length schedule.now.rows }
+    requires known { IfSome slot (λ i. i < length subject.now.schedule.now.ops) }
+    requires issued { IfSome slot (λ i. issue_cycle subject.now.schedule.now.rows i ≡ issued) }
+    requires within { issued < length subject.now.schedule.now.rows }
     ensures { OnOk result (found.new.items ≡ found.old.items
-        ++ paired (arrival latencies.now schedule.now.ops schedule.now.rows)
-        (filter (λ i. nat_lt cycle (arrival latencies.now schedule.now.ops schedule.now.rows i)) (option_to_list slot))) }
+        ++ paired (arrival subject.now.measures.now.delays.latencies.now subject.now.schedule.now.ops subject.now.schedule.now.rows)
+        (filter (λ i. nat_lt cycle (arrival subject.now.measures.now.delays.latencies.now subject.now.schedule.now.ops subject.now.schedule.now.rows i)) (option_to_list slot))) }
 {
     let Some(i) = slot else {
         return Ok(());
     };
     // Of which there are so few that no sum wraps.
-    let _rows = schedule.rows();
-    let arrival = issued as u64 + latency(&schedule.ops()[i], latencies);
+    let _rows = subject.schedule.rows();
+    let measures = subject.measures;
+    let arrival = issued as u64 + latency(&subject.schedule.ops()[i], measures.delays.latencies);
     if arrival <= cycle as u64 {
         return Ok(());
     }
@@ -41,21 +42,20 @@ fn push_under_way(
 /// `LONGEST_DELAY`, so it visits so many rows alone.
 pub(crate) fn under_way(
     alloc: Global,
-    schedule: &Schedule,
-    latencies: &Latencies,
+    subject: &Subject<'_>,
     cycle: usize,
 ) -> Result<Vec<(usize, u64)>, NoMemory>
-    requires { cycle ≤ length schedule.now.rows }
-    ensures { IfOk result (λ found. found.items ≡ paired (arrival latencies.now schedule.now.ops schedule.now.rows)
-        (under_way latencies.now schedule.now.ops schedule.now.rows cycle)) }
+    requires { cycle ≤ length subject.now.schedule.now.rows }
+    ensures { IfOk result (λ found. found.items ≡ paired (arrival subject.now.measures.now.delays.latencies.now subject.now.schedule.now.ops subject.now.schedule.now.rows)
+        (under_way subject.now.measures.now.delays.latencies.now subject.now.schedule.now.ops subject.now.schedule.now.rows cycle)) }
 {
-    let _ops = schedule.ops();
-    let rows = schedule.rows();
+    let _ops = subject.schedule.ops();
+    let rows = subject.schedule.rows();
     let mut found = Vec::new(alloc);
     for issued in cycle.saturating_sub(LONGEST_DELAY)..cycle {
         let row = rows[issued];
-        push_under_way(&mut found, row.zero, schedule, latencies, issued, cycle)?;
-        push_under_way(&mut found, row.one, schedule, latencies, issued, cycle)?;
+        push_under_way(&mut found, row.zero, subject, issued, cycle)?;
+        push_under_way(&mut found, row.one, subject, issued, cycle)?;
     }
     Ok(found)
 }

@@ -8,7 +8,7 @@ ghost use Rattle.iloc_graph.specs.Listing.{IsCluster};
 
 use crate::nearest::nearest_pairs;
 use Piece::{Number, Operation, Text};
-use iloc_explain::{Counted, longest_chain};
+use iloc_explain::{Delays, longest_chain};
 use iloc_ops::{Block, Name, NoMemory, Op};
 use iloc_pieces::{Piece, push_all};
 use iloc_rules::Pair;
@@ -248,10 +248,9 @@ pub fn push_cluster(
 {
     let mut chains = Vec::new(alloc);
     graph.chains(&mut chains)?;
-    let (ops, latencies) = (graph.ops(), graph.latencies());
-    let counted = Counted::of(alloc, ops, graph.rule())?;
-    let pairs = nearest_pairs(alloc, graph, &counted)?;
-    let chain = longest_chain(alloc, ops, latencies, &counted, &chains)?;
+    let delays = Delays::of(alloc, graph.ops(), graph.latencies(), graph.rule())?;
+    let pairs = nearest_pairs(alloc, graph, &delays)?;
+    let chain = longest_chain(alloc, &delays, &chains)?;
     push_head(text, number, block.name.as_ref())?;
     push_operations(text, number, block.ops.as_slice(), &chains)?;
     push_edges(text, number, &pairs)?;

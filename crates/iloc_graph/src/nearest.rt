@@ -2,15 +2,14 @@
 ghost use Rattle.std.specs.Prelude.{ℕ, ◌≡◌, ◌++◌, ◌<◌, length, map, slice_index, IfOk, OnOk};
 ghost use Rattle.iloc_meaning.specs.Trace.{op_at};
 ghost use Rattle.iloc_rules.specs.Rule.{counts_by};
-ghost use Rattle.iloc_explain.specs.Counted.{IsKnownOf};
 ghost use Rattle.iloc_graph.specs.Nearest as near;
 ghost use Rattle.iloc_graph.specs.Nearest.{pair_of, unpassed};
 
-use iloc_explain::{Counted, has_delay};
-use iloc_ops::{NoMemory, Op};
+use iloc_explain::Delays;
+use iloc_ops::NoMemory;
 use iloc_rules::Pair;
 use iloc_sched::Graph;
-use iloc_timed::{Kind, Latencies, latency};
+use iloc_timed::{Kind, latency};
 use std::alloc::Global;
 
 /// The operations that are near to operation `j`, by rising number.
@@ -28,17 +27,16 @@ fn near_to(alloc: Global, graph: &Graph, j: usize) -> Result<Vec<usize>, NoMemor
 }
 
 /// The longest delay that operation i puts on operation j, 0 where there is none: its latency or a cycle.
-fn longest_delay(ops: &[Op], latencies: &Latencies, counted: &Counted, i: usize, j: usize) -> u64
-    requires counted { IsKnownOf ops.now counted.now }
-    requires first { i < length ops.now }
-    requires second { j < length ops.now }
-    ensures { result ≡ near.longest_delay (counts_by counted.now.rule ops.now i j) latencies.now
-        (op_at ops.now i) (op_at ops.now j) }
+fn longest_delay(delays: &Delays<'_>, i: usize, j: usize) -> u64
+    requires first { i < length delays.now.ops.now }
+    requires second { j < length delays.now.ops.now }
+    ensures { result ≡ near.longest_delay (counts_by delays.now.rule delays.now.ops.now i j) delays.now.latencies.now
+        (op_at delays.now.ops.now i) (op_at delays.now.ops.now j) }
 {
-    let own = latency(&ops[i], latencies);
-    if has_delay(ops, latencies, counted, i, j, own) {
+    let own = latency(&delays.ops[i], delays.latencies);
+    if delays.has(i, j, own) {
         own
-    } else if has_delay(ops, latencies, counted, i, j, 1) {
+    } else if delays.has(i, j, 1) {
         1
     } else {
         0
@@ -46,23 +44,16 @@ fn longest_delay(ops: &[Op], latencies: &Latencies, counted: &Counted, i: usize,
 }
 
 /// Whether operation `i` is a store or an output, and one of `later` has to come after it.
-fn is_passed(
-    ops: &[Op],
-    latencies: &Latencies,
-    counted: &Counted,
-    i: usize,
-    later: &[usize],
-) -> bool
-    requires counted { IsKnownOf ops.now counted.now }
-    requires first { i < length ops.now }
-    requires within { (k : ℕ) → k < length later.now → slice_index later.now k < length ops.now }
-    ensures { result ≡ near.is_passed counted.now.rule ops.now i later.now }
+fn is_passed(delays: &Delays<'_>, i: usize, later: &[usize]) -> bool
+    requires first { i < length delays.now.ops.now }
+    requires within { (k : ℕ) → k < length later.now → slice_index later.now k < length delays.now.ops.now }
+    ensures { result ≡ near.is_passed delays.now.rule delays.now.ops.now i later.now }
 {
-    if !matches!(Kind::of(&ops[i]), Kind::Store | Kind::Output) {
+    if !matches!(Kind::of(&delays.ops[i]), Kind::Store | Kind::Output) {
         return false;
     }
     for k in later {
-        if longest_delay(ops, latencies, counted, i, *k) > 0 {
+        if longest_delay(delays, i, *k) > 0 {
             return true;
         }
     }
@@ -72,24 +63,22 @@ fn is_passed(
 /// Appends a pair to operation `second` from each operation of `near` that no later one of `near` passes.
 fn push_pairs(
     pairs: &mut Vec<Pair>,
-    ops: &[Op],
-    latencies: &Latencies,
-    counted: &Counted,
+    delays: &Delays<'_>,
     near: &[usize],
     second: usize,
 ) -> Result<(), NoMemory>
-    requires counted { IsKnownOf ops.now counted.now }
-    requires there { second < length ops.now }
+    requires there { second < length delays.now.ops.now }
     requires earlier { (k : ℕ) → k < length near.now → slice_index near.now k < second }
     ensures { OnOk result (pairs.new.items ≡ pairs.old.items
-        ++ map (pair_of counted.now.rule latencies.now ops.now second) (unpassed counted.now.rule ops.now near.now)) }
+        ++ map (pair_of delays.now.rule delays.now.latencies.now delays.now.ops.now second)
+        (unpassed delays.now.rule delays.now.ops.now near.now)) }
 {
     for (place, first) in near.iter().enumerate() {
-        if !is_passed(ops, latencies, counted, *first, &near[place + 1..]) {
+        if !is_passed(delays, *first, &near[place + 1..]) {
             pairs.push(Pair {
                 first: *first,
                 second,
-                delay: longest_delay(ops, latencies, counted, *first, second),
+                delay: longest_delay(delays, *first, second),
             })?;
         }
     }
@@ -105,18 +94,18 @@ fn push_pairs(
 pub(crate) fn nearest_pairs(
     alloc: Global,
     graph: &Graph,
-    counted: &Counted,
+    delays: &Delays<'_>,
 ) -> Result<Vec<Pair>, NoMemory>
-    requires counted { IsKnownOf graph.now.ops counted.now }
-    requires rule { counted.now.rule ≡ graph.now.rule }
+    requires ops { delays.now.ops.now ≡ graph.now.ops }
+    requires latencies { delays.now.latencies.now ≡ graph.now.latencies }
+    requires rule { delays.now.rule ≡ graph.now.rule }
     ensures { IfOk result (λ pairs. pairs.items
         ≡ near.nearest_pairs graph.now.rule graph.now.latencies graph.now.ops) }
 {
-    let (ops, latencies) = (graph.ops(), graph.latencies());
     let mut pairs = Vec::new(alloc);
-    for second in 0..ops.len() {
+    for second in 0..delays.ops.len() {
         let near = near_to(alloc, graph, second)?;
-        push_pairs(&mut pairs, ops, latencies, counted, &near, second)?;
+        push_pairs(&mut pairs, delays, &near, second)?;
     }
     Ok(pairs)
 }

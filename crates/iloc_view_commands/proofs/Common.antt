@@ -10,7 +10,6 @@ pub use Rattle.iloc_rules.specs.Heuristics.{priorities_under}
 pub use Rattle.iloc_rules.specs.declared.memory_rule.MemoryRule.{MemoryRule}
 pub use Rattle.iloc_sched.specs.Graph.GraphOf.{GraphOf, of_block}
 pub use Rattle.iloc_bound.specs.Bound.{least_of_under, least_under}
-pub use Rattle.iloc_explain.specs.Measures.{AreMeasures, ImplyAll}
 pub use Rattle.iloc_graph.specs.Listing.{IsCluster}
 pub use Rattle.iloc_args.specs.Rule.{memory_rule}
 pub use Rattle.iloc_listing.specs.Listing.{block_head, cycles_of, total_of_all}

@@ -1,5 +1,5 @@
 -- What the commands list of a block.
-use Rattle.iloc_view_commands.proofs.Common.{◌≡◌, ℕ, false, List, [], ◌∷◌, ◌++◌, length, ℤ, IfSome, Some, None, codes, Option, sym, refl, ap, ◌∙◌, subst, ap₂, append_assoc, append-nil, arith, Op, Latencies, length-priorities_by_where, ruled_priorities, counts_by, priorities_under, MemoryRule, GraphOf, of_block, least_of_under, least_under, AreMeasures, IsCluster, memory_rule, block_head, cycles_of, parts_joined, AreSaid, IsExplainEntry}
+use Rattle.iloc_view_commands.proofs.Common.{◌≡◌, ℕ, false, List, [], ◌∷◌, ◌++◌, length, ℤ, IfSome, Some, None, codes, Option, sym, refl, ap, ◌∙◌, subst, ap₂, append_assoc, append-nil, arith, Op, Latencies, length-priorities_by_where, ruled_priorities, counts_by, priorities_under, MemoryRule, GraphOf, of_block, least_of_under, least_under, IsCluster, memory_rule, block_head, cycles_of, parts_joined, AreSaid, IsExplainEntry}
 use Rattle.std.proofs.Math.Path.{transport}
 use Rattle.iloc_ops.specs.declared.file.Block.{Block}
 use Rattle.iloc_timed.specs.Schedule.{Table}
@@ -7,7 +7,6 @@ use Rattle.iloc_rules.specs.declared.heuristic.Heuristic.{Heuristic}
 use Rattle.iloc_rules.specs.Greedy.{IsGreedyWhere}
 use Rattle.iloc_rules.specs.Renaming.{numbering, renamed, without_nops}
 use Rattle.iloc_rules.proofs.Renamed.MentionedSources.{length-renamed_by}
-use Rattle.iloc_explain.specs.declared.measures.Measures.{Measures}
 use Rattle.iloc_trace.specs.Events.{events}
 use Rattle.iloc_trace.specs.Listing.{trace_lines}
 use Rattle.iloc_args.specs.Flags.{has}
@@ -86,15 +85,6 @@ each_ranked heuristic None b g found is each ranked = ap length ranked ∙ lengt
 each_ranked heuristic (Some numbers) b g found is each ranked =
     ap length ranked
     ∙ (each ∙ (sym (length-renamed_by (without_nops b.ops) (numbering (without_nops b.ops))) ∙ ap length (sym is)))
-
--- what was measured of the graph is so of the schedule
-pub measured_too : (rule : MemoryRule) (lat : Latencies) (b : Block) (s : Table) (g : GraphOf) (m : Measures)
-    → g ≡ of_block rule lat b.ops
-    → s.ops ≡ renamed b.ops → AreMeasures g.latencies g.ops m → AreMeasures lat s.ops m
-measured_too rule lat b s g m is names are =
-    let ops : g.ops ≡ s.ops = ap (λ (x : GraphOf). x.ops) is ∙ sym names in
-    let same : g.latencies ≡ lat = ap (λ (x : GraphOf). x.latencies) is in
-    transport (λ i. AreMeasures (same i) (ops i) m) are
 
 -- what was appended, which is no table, is one text with the block
 pub text_with_block : (start head line whole said : List ℕ) (k : ℕ) (b : Block) (name : Option (List ℕ))

@@ -1,10 +1,8 @@
 //! `explain`: why blocks' schedules take their cycles.
-ghost use Rattle.std.specs.Prelude.{ℕ, ◌≡◌, ◌≤◌, ◌++◌, List, [], ◌∷◌, true, false, length, option_copied, IfOk, OnOk};
+ghost use Rattle.std.specs.Prelude.{ℕ, ◌≡◌, ◌≤◌, ◌<◌, ◌^◌, ◌++◌, List, [], ◌∷◌, true, false, length, option_copied, IfOk, OnOk};
 ghost use Rattle.iloc_ops.specs.Limits.{MAX_BLOCKS};
-ghost use Rattle.iloc_rules.specs.Renaming.{renamed};
 ghost use Rattle.iloc_explain.specs.Listing.{AreTableRows};
 ghost use Rattle.iloc_explain.specs.Measures.{AreMeasures};
-ghost use Rattle.iloc_explain.specs.Waiting.{WaitsForAll};
 ghost use Rattle.iloc_listing.specs.Schedules.{ranks_under};
 ghost use Rattle.iloc_args.specs.Flags.{has};
 ghost use Rattle.iloc_args.specs.declared.flag.Flag.TheVariants.{Csv, Cycles};
@@ -12,7 +10,7 @@ ghost use Rattle.iloc_view_commands.specs.Explain.{AreSaid, IsSaid, listing_of_e
 
 use iloc_args::{Flag, Request};
 use iloc_driver::{FarmedLister, Job};
-use iloc_explain::{Measures, push_explanation, push_ready_list, push_table};
+use iloc_explain::{Subject, push_explanation, push_ready_list, push_table};
 use iloc_graph::measure;
 use iloc_listing::{
     EntryMaker, Listing, ScheduleEntry, count_of, push_block_head, push_head, with_total,
@@ -20,7 +18,6 @@ use iloc_listing::{
 use iloc_ops::{Blocks, NoMemory};
 use iloc_rules::Heuristic;
 use iloc_sched::{Graph, Scheduler};
-use iloc_timed::{Latencies, Schedule};
 use std::alloc::Global;
 
 /// What a table begins with.
@@ -46,96 +43,88 @@ pub(crate) fn ranks_of(
     Ok(ranks)
 }
 
-/// A schedule of a block that waits for all delays, and what is measured of the block.
-#[derive(Drop)]
-struct Explained<'a> {
-    job: &'a Job<'a>,
-    latencies: &'a Latencies,
-    measures: &'a Measures,
-    schedule: &'a Schedule,
-    ghost names: { schedule.now.ops ≡ renamed job.now.block.now.ops },
-    ghost waits: { WaitsForAll measures.now.counted.rule latencies.now schedule.now.ops schedule.now.rows },
-}
-
 /// Appends what is said of a schedule: cycle by cycle or operation by operation.
 fn push_said(
     alloc: Global,
     text: &mut Vec<u8>,
-    explained: &Explained<'_>,
+    explained: &Subject<'_>,
     by_cycle: bool,
 ) -> Result<(), NoMemory>
-    requires { AreMeasures explained.now.latencies.now explained.now.schedule.now.ops explained.now.measures.now }
+    requires { AreMeasures explained.now.measures.now.delays.latencies.now explained.now.schedule.now.ops explained.now.measures.now }
     ensures { OnOk result ((said : List ℕ)
-        × IsSaid by_cycle explained.now.measures.now.ranks.items explained.now.measures.now.counted.rule
-        explained.now.latencies.now explained.now.measures.now.least explained.now.job.now.block.now.ops explained.now.schedule.now said
+        × IsSaid by_cycle explained.now.measures.now.ranks.items explained.now.measures.now.delays.rule
+        explained.now.measures.now.delays.latencies.now explained.now.measures.now.least explained.now.block.now.ops explained.now.schedule.now said
         × (text.new.items ≡ text.old.items ++ said)) }
 {
-    let (block, latencies) = (explained.job.block, explained.latencies);
-    let (measures, schedule) = (explained.measures, explained.schedule);
     if by_cycle {
-        return push_ready_list(alloc, text, latencies, measures, schedule);
+        return push_ready_list(alloc, text, explained);
     }
-    let issued = schedule.ops();
-    push_explanation(alloc, text, block, latencies, measures, schedule, issued)
+    push_explanation(alloc, text, explained, explained.schedule.ops())
 }
 
-/// Appends the rows of a block in a table.
-fn push_rows(alloc: Global, text: &mut Vec<u8>, explained: &Explained<'_>) -> Result<(), NoMemory>
-    requires { AreMeasures explained.now.latencies.now explained.now.schedule.now.ops explained.now.measures.now }
+/// Appends the rows of block `number` in a table.
+fn push_rows(
+    alloc: Global,
+    text: &mut Vec<u8>,
+    number: usize,
+    explained: &Subject<'_>,
+) -> Result<(), NoMemory>
+    requires number { number < 2 ^ 63 }
+    requires measured { AreMeasures explained.now.measures.now.delays.latencies.now explained.now.schedule.now.ops explained.now.measures.now }
     ensures { OnOk result ((table : List (List ℕ))
-        × AreTableRows explained.now.measures.now.ranks.items explained.now.measures.now.counted.rule
-        explained.now.latencies.now explained.now.job.now.block.now.ops explained.now.schedule.now.ops
+        × AreTableRows explained.now.measures.now.ranks.items explained.now.measures.now.delays.rule
+        explained.now.measures.now.delays.latencies.now explained.now.block.now.ops explained.now.schedule.now.ops
         explained.now.schedule.now.rows table
-        × (text.new.items ≡ text.old.items ++ with_block true explained.now.job.now.number explained.now.job.now.block.now.name table)) }
+        × (text.new.items ≡ text.old.items ++ with_block true number explained.now.block.now.name table)) }
 {
-    let (block, latencies) = (explained.job.block, explained.latencies);
-    let (measures, schedule) = (explained.measures, explained.schedule);
     let mut head = Vec::new(alloc);
-    push_head(&mut head, true, explained.job.number, block.name.as_ref())?;
-    push_table(alloc, text, &head, block, latencies, measures, schedule)
+    push_head(&mut head, true, number, explained.block.name.as_ref())?;
+    push_table(alloc, text, &head, explained)
 }
 
-/// Appends the head of a block, and what is said of its schedule.
+/// Appends the head of block `number`, and what is said of its schedule.
 fn push_text(
     alloc: Global,
     text: &mut Vec<u8>,
-    explained: &Explained<'_>,
+    number: usize,
+    explained: &Subject<'_>,
     by_cycle: bool,
 ) -> Result<(), NoMemory>
-    requires { AreMeasures explained.now.latencies.now explained.now.schedule.now.ops explained.now.measures.now }
+    requires number { number < 2 ^ 63 }
+    requires measured { AreMeasures explained.now.measures.now.delays.latencies.now explained.now.schedule.now.ops explained.now.measures.now }
     ensures { OnOk result ((said : List ℕ)
-        × IsSaid by_cycle explained.now.measures.now.ranks.items explained.now.measures.now.counted.rule
-        explained.now.latencies.now explained.now.measures.now.least explained.now.job.now.block.now.ops explained.now.schedule.now said
-        × (text.new.items ≡ text.old.items ++ with_block false explained.now.job.now.number explained.now.job.now.block.now.name
-        (said ∷ []))) }
+        × IsSaid by_cycle explained.now.measures.now.ranks.items explained.now.measures.now.delays.rule
+        explained.now.measures.now.delays.latencies.now explained.now.measures.now.least explained.now.block.now.ops explained.now.schedule.now said
+        × (text.new.items ≡ text.old.items ++ with_block false number explained.now.block.now.name (said ∷ []))) }
 {
-    let job = explained.job;
-    push_block_head(text, job.number, job.block.name.as_ref())?;
+    push_block_head(text, number, explained.block.name.as_ref())?;
     text.push(b'\n')?;
     push_said(alloc, text, explained, by_cycle)
 }
 
-/// Appends the entry of a block, as `request` asks for it.
+/// Appends the entry of block `number`, as `request` asks for it.
 fn push_entry(
     alloc: Global,
     text: &mut Vec<u8>,
     request: &Request,
-    explained: &Explained<'_>,
+    number: usize,
+    explained: &Subject<'_>,
 ) -> Result<(), NoMemory>
-    requires { AreMeasures explained.now.latencies.now explained.now.schedule.now.ops explained.now.measures.now }
+    requires number { number < 2 ^ 63 }
+    requires measured { AreMeasures explained.now.measures.now.delays.latencies.now explained.now.schedule.now.ops explained.now.measures.now }
     ensures { OnOk result ((said : List (List ℕ))
         × AreSaid (has request.now.flags Csv) (has request.now.flags Cycles) explained.now.measures.now.ranks.items
-        explained.now.measures.now.counted.rule explained.now.latencies.now explained.now.measures.now.least
-        explained.now.job.now.block.now.ops explained.now.schedule.now said
-        × (text.new.items ≡ text.old.items
-        ++ with_block (has request.now.flags Csv) explained.now.job.now.number explained.now.job.now.block.now.name said)) }
+        explained.now.measures.now.delays.rule explained.now.measures.now.delays.latencies.now explained.now.measures.now.least
+        explained.now.block.now.ops explained.now.schedule.now said
+        × (text.new.items
+        ≡ text.old.items ++ with_block (has request.now.flags Csv) number explained.now.block.now.name said)) }
 {
     let csv = request.flags.has(Flag::Csv);
     let by_cycle = request.flags.has(Flag::Cycles);
     if csv {
-        push_rows(alloc, text, explained)
+        push_rows(alloc, text, number, explained)
     } else {
-        push_text(alloc, text, explained, by_cycle)
+        push_text(alloc, text, number, explained, by_cycle)
     }
 }
 
@@ -206,14 +195,13 @@ impl FarmedLister for ExplainLister {
         let measures = measure(alloc, &self.graph, ranks)?;
         let schedule = self.scheduler.lend(&self.graph, &measures.ranks)?;
         let cycles = count_of(&schedule, latencies);
-        let explained = Explained {
-            job,
-            latencies,
+        let explained = Subject {
+            block,
             measures: &measures,
             schedule: &schedule,
         };
         self.text.clear();
-        push_entry(alloc, &mut self.text, request, &explained)?;
+        push_entry(alloc, &mut self.text, request, job.number, &explained)?;
         let entry = self.entries.entry_of(&self.text, cycles)?;
         self.scheduler.take_back(schedule);
         Ok(entry)

@@ -18,7 +18,7 @@ ghost use Rattle.iloc_row_commands.specs.Explain.Departure.{departure, departure
 ghost use Rattle.iloc_row_commands.specs.Explain.Explained.{not_lawful, IsRowsExplanation, IsSaidOf};
 
 use crate::explain::departure::{departure_of, push_departure};
-use iloc_explain::push_explanation;
+use iloc_explain::{Subject, push_explanation};
 use iloc_facts::Reasons;
 use iloc_graph::measure;
 use iloc_judge::obstacle_of;
@@ -101,11 +101,15 @@ fn push_own(
         own.now.schedule.ops own.now.schedule.rows))) }
 {
     let (schedule, issued) = (&own.schedule, &own.issued);
-    let (block, latencies) = (known.block, known.latencies);
     let mut ranks = Vec::new(alloc);
     known.graph.rank(known.heuristic, &mut ranks)?;
     let measures = measure(alloc, known.graph, ranks)?;
-    push_explanation(alloc, text, block, latencies, &measures, schedule, issued)?;
+    let explained = Subject {
+        block: known.block,
+        measures: &measures,
+        schedule,
+    };
+    push_explanation(alloc, text, &explained, issued)?;
     push_departure(text, departure_of(schedule, known.ours), issued)
 }
 

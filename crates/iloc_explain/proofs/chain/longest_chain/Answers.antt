@@ -7,8 +7,8 @@ use Rattle.iloc_explain.proofs.chain.longest_chain.Goals.{then-continues+in_ok-p
 
 pub loop-j-init : goal.loop-j-init
 loop-j-init c =
-    let same : length c.args.chains.now ≡ length c.args.ops.now =
-    ap length c.requires.chains ∙ length-chains c.args.counted.now.rule c.args.latencies.now c.args.ops.now in
+    let same : length c.args.chains.now ≡ length c.args.delays.now.ops.now =
+    ap length c.requires ∙ length-chains c.args.delays.now.rule c.args.delays.now.latencies.now c.args.delays.now.ops.now in
     rw (c.in_ok-push.ensures.items, c.new-chain.ensures.items)
     (chain_start _ _ _ _ (rw same at c.in-Some.ensures.known))
 
@@ -24,8 +24,8 @@ loop-j-preserved c = elim c.if-continues.branch [
 
 pub returns : goal.returns
 returns c =
-    let first = first_of_greatest c.args.counted.now.rule c.args.latencies.now c.args.ops.now c.args.chains.now _ c.requires.chains
+    let first = first_of_greatest c.args.delays.now.rule c.args.delays.now.latencies.now c.args.delays.now.ops.now c.args.chains.now _ c.requires
     c.in-Some.ensures.known c.in-Some.ensures.most c.in-Some.ensures.first in
-    let chosen : IsLongestChain c.args.counted.now.rule c.args.latencies.now c.args.ops.now c.loop-j.chain.items =
+    let chosen : IsLongestChain c.args.delays.now.rule c.args.delays.now.latencies.now c.args.delays.now.ops.now c.loop-j.chain.items =
     chain_ends _ _ _ _ _ _ _ c.loop-j.invariant c.loop-j-test.false first in
     record { chosen = chosen; longest = longest_spans _ _ _ _ chosen }

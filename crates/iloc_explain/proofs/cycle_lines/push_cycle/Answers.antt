@@ -14,12 +14,12 @@ push_taken_from-requires-clause-one c =
 pub push_taken_from-requires-clause-known : goal.push_taken_from-requires-clause-known
 push_taken_from-requires-clause-known c = λ p there.
     let known = c.requires.known.2 in
-    rw c.ops-ops.ensures.ops (known_place c.requires.known.0 c.requires.known.1 c.args.latencies.now c.args.schedule.now.ops c.args.schedule.now.rows
+    rw c.ops-ops.ensures.ops (known_place c.requires.known.0 c.requires.known.1 c.args.subject.now.measures.now.delays.latencies.now c.args.subject.now.schedule.now.ops c.args.subject.now.schedule.now.rows
     c.ops-ops.ensures.table known.explained known.are c.args.list.now c.args.cycle known.is c.requires.order p there)
 
 pub returns : goal.returns
 returns c = λ prios rule known.
-    line_is prios rule c.args.latencies.now c.args.schedule.now.ops c.args.schedule.now.rows c.ops-ops.ensures.table c.args.list.now
+    line_is prios rule c.args.subject.now.measures.now.delays.latencies.now c.args.subject.now.schedule.now.ops c.args.subject.now.schedule.now.rows c.ops-ops.ensures.table c.args.list.now
     c.args.cycle known c.requires.order c.requires.within c.args.text.now.items c.push_front.new.text.items
     c.push_taken_from.new.text.items c.extend_from_slice.new.self.items c.push_pairs.new.text.items _
     (rw c.rows-rows.ensures.rows at c.in_ok-push_front.ensures)

@@ -72,29 +72,29 @@ is_explained prios rule lat ops rows j row e at stands unit ready after prio fir
 
 pub ready_cycles-requires-clause-first : goal.ready_cycles-requires-clause-first
 ready_cycles-requires-clause-first c = λ p there.
-    let pair = c.requires.measured.pairs.each p (rw c.deref.ensures.value at there) in
+    let pair = c.requires.pairs.each p (rw c.deref.ensures.value at there) in
     omega (arith, pair.order, pair.within, ap length c.deref-2.ensures.value, c.in_ok-issued.ensures.size)
 
 pub ready_cycles-requires-clause-second : goal.ready_cycles-requires-clause-second
 ready_cycles-requires-clause-second c = λ p there.
-    let pair = c.requires.measured.pairs.each p (rw c.deref.ensures.value at there) in
+    let pair = c.requires.pairs.each p (rw c.deref.ensures.value at there) in
     omega (arith, pair.within, ap length c.deref-2.ensures.value, c.in_ok-issued.ensures.size)
 
 pub ready_cycles-requires-clause-short : goal.ready_cycles-requires-clause-short
 ready_cycles-requires-clause-short c = λ p there.
-    let pair = c.requires.measured.pairs.each p (rw c.deref.ensures.value at there) in
-    let ops = c.args.schedule.now.ops in
-    short_delay_where (counts_by c.args.measures.now.counted.rule ops p.first p.second) c.args.latencies.now
+    let pair = c.requires.pairs.each p (rw c.deref.ensures.value at there) in
+    let ops = c.args.subject.now.schedule.now.ops in
+    short_delay_where (counts_by c.args.subject.now.measures.now.delays.rule ops p.first p.second) c.args.subject.now.measures.now.delays.latencies.now
     (op_at ops p.first) (op_at ops p.second) p.delay pair.delay
 
 pub ready_cycles-requires-clause-early : goal.ready_cycles-requires-clause-early
 ready_cycles-requires-clause-early c = λ i below.
-    let ops = c.args.schedule.now.ops in
+    let ops = c.args.subject.now.schedule.now.ops in
     let known : i < length ops =
     omega (arith, below, ap length c.deref-2.ensures.value, c.in_ok-issued.ensures.size) in
-    let at : slice_index c.deref-2.result.now i ≡ issue_cycle c.args.schedule.now.rows i =
+    let at : slice_index c.deref-2.result.now i ≡ issue_cycle c.args.subject.now.schedule.now.rows i =
     ap (λ xs. slice_index xs i) c.deref-2.ensures.value ∙ c.in_ok-issued.ensures.each i known in
-    omega (arith, at, issued_within ops c.args.schedule.now.rows i known c.ops-ops.ensures.table, c.rows-rows.ensures.few)
+    omega (arith, at, issued_within ops c.args.subject.now.schedule.now.rows i known c.ops-ops.ensures.table, c.rows-rows.ensures.few)
 
 pub offset_bounds-rows-cycle : goal.offset_bounds-rows-cycle
 offset_bounds-rows-cycle c =
@@ -110,20 +110,20 @@ bounds-rows-cycle c =
 
 pub index-requires-in-loop-j : goal.index-requires-in-loop-j
 index-requires-in-loop-j c =
-    let known : c.loop-j.j < length c.args.schedule.now.ops = rw c.ops-ops.ensures.ops at c.loop-j-test.true in
+    let known : c.loop-j.j < length c.args.subject.now.schedule.now.ops = rw c.ops-ops.ensures.ops at c.loop-j-test.true in
     omega (
       arith,
-      ap length c.requires.measured.starts,
-      length-starts_where (counts_by c.args.measures.now.counted.rule c.args.schedule.now.ops) c.args.latencies.now c.args.schedule.now.ops,
+      ap length c.requires.starts,
+      length-starts_where (counts_by c.args.subject.now.measures.now.delays.rule c.args.subject.now.schedule.now.ops) c.args.subject.now.measures.now.delays.latencies.now c.args.subject.now.schedule.now.ops,
     )
 
 pub index-requires-in-loop-j-2 : goal.index-requires-in-loop-j-2
 index-requires-in-loop-j-2 c =
-    let known : c.loop-j.j < length c.args.schedule.now.ops = rw c.ops-ops.ensures.ops at c.loop-j-test.true in
+    let known : c.loop-j.j < length c.args.subject.now.schedule.now.ops = rw c.ops-ops.ensures.ops at c.loop-j-test.true in
     omega (
       arith,
-      ap length c.requires.measured.chains,
-      length-chains c.args.measures.now.counted.rule c.args.latencies.now c.args.schedule.now.ops,
+      ap length c.requires.chains,
+      length-chains c.args.subject.now.measures.now.delays.rule c.args.subject.now.measures.now.delays.latencies.now c.args.subject.now.schedule.now.ops,
     )
 
 pub holder_of-requires-clause-within : goal.holder_of-requires-clause-within
@@ -134,12 +134,12 @@ holder_of-requires-clause-within c =
 
 pub loop-j-preserved : goal.loop-j-preserved
 loop-j-preserved c =
-    let measured = c.requires.measured in
-    let measures = c.args.measures.now in
-    let rule = measures.counted.rule in
-    let lat = c.args.latencies.now in
-    let ops = c.args.schedule.now.ops in
-    let rows = c.args.schedule.now.rows in
+    let measured = c.requires in
+    let measures = c.args.subject.now.measures.now in
+    let rule = measures.delays.rule in
+    let lat = c.args.subject.now.measures.now.delays.latencies.now in
+    let ops = c.args.subject.now.schedule.now.ops in
+    let rows = c.args.subject.now.schedule.now.rows in
     let j = c.loop-j.j in
     let row = noted_row _ _ _ _ _ _ c.index-cycle.ensures c.in_ok-issued.ensures.size c.in_ok-issued.ensures.each
     c.ops-ops.ensures.ops c.ops-ops.ensures.table c.loop-j-test.true in
@@ -156,7 +156,7 @@ loop-j-preserved c =
     (is_explained measures.ranks.items rule lat ops rows j _ _ row.1
     (ap (λ rows. row_at rows c.index-cycle.result.now) c.rows-rows.ensures.rows) c.unit_of.ensures
     (rw ready (is_ready rule lat ops rows measures.pairs.items c.in_ok-issued.issued.items c.in_ok-ready_at.ready_at.items
-    measured.pairs c.requires.waits c.in_ok-issued.ensures.each are j))
+    measured.pairs c.args.subject.now.waits c.in_ok-issued.ensures.each are j))
     c.in_ok-after.ensures
     (c.from.ensures ∙ read_at measures.ranks.items j _ (omega (arith, measured.ranked)) c.index.ensures)
     (c.from-in-loop-j.ensures

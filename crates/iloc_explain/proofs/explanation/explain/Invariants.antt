@@ -3,4 +3,5 @@ use Rattle.iloc_explain.proofs.explanation.explain.Given as goal
 
 abbrev pub invariant-loop-j : goal.invariant-loop-j
 invariant-loop-j l =
-    IsExplainedSoFar l.measures.ranks.items l.measures.counted.rule l.latencies l.schedule.ops l.schedule.rows l.j l.explained.items
+    IsExplainedSoFar l.subject.measures.now.ranks.items l.subject.measures.now.delays.rule
+    l.subject.measures.now.delays.latencies.now l.subject.schedule.now.ops l.subject.schedule.now.rows l.j l.explained.items

@@ -9,20 +9,17 @@ push_lines-requires-clause-all c =
 
 pub push_lines-requires-clause-same : goal.push_lines-requires-clause-same
 push_lines-requires-clause-same c =
-    rw (c.as_slice.ensures, c.requires.issued, c.requires.names, length-renamed_by) refl
+    rw (c.as_slice.ensures, c.requires.issued, c.args.subject.now.names, length-renamed_by) refl
 
-pub longest_chain-requires-clause-counted : goal.longest_chain-requires-clause-counted
-longest_chain-requires-clause-counted c = rw c.ops.ensures.ops c.requires.measured.counted
-
-pub longest_chain-requires-clause-chains : goal.longest_chain-requires-clause-chains
-longest_chain-requires-clause-chains c = rw c.ops.ensures.ops (c.deref-2.ensures.value ∙ c.requires.measured.chains)
+pub longest_chain-requires : goal.longest_chain-requires
+longest_chain-requires c = rw c.args.subject.now.measured (c.deref-2.ensures.value ∙ c.requires.measured.chains)
 
 pub returns : goal.returns
 returns c =
-    let lat = c.args.latencies.now in
-    let block = c.args.block.now.ops in
-    let schedule = c.args.schedule.now in
-    let measures = c.args.measures.now in
+    let lat = c.args.subject.now.measures.now.delays.latencies.now in
+    let block = c.args.subject.now.block.now.ops in
+    let schedule = c.args.subject.now.schedule.now in
+    let measures = c.args.subject.now.measures.now in
     let explained = c.in_ok-explained.explained.items in
     let chain = c.in_ok-longest_chain.field-0.items in
     let path = c.in_ok-path_of.field-0.items in
@@ -34,9 +31,9 @@ returns c =
         explained = explained;
         are_explained = c.in_ok-explained.ensures;
         chain = chain;
-        is_longest = rw c.ops.ensures.ops at c.in_ok-longest_chain.ensures.chosen;
+        is_longest = rw c.args.subject.now.measured at c.in_ok-longest_chain.ensures.chosen;
         path = path;
-        is_path = c.in_ok-path_of.ensures measures.ranks.items measures.counted.rule
+        is_path = c.in_ok-path_of.ensures measures.ranks.items measures.delays.rule
             (rw c.deref-4.ensures.value c.in_ok-explained.ensures);
         listed = refl;
       },

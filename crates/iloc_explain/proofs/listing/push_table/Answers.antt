@@ -8,15 +8,15 @@ push_lines-requires-clause-all c =
 
 pub push_lines-requires-clause-same : goal.push_lines-requires-clause-same
 push_lines-requires-clause-same c =
-    rw (c.as_slice.ensures, c.ops-issued.ensures.ops, c.requires.names, length-renamed_by) refl
+    rw (c.as_slice-ops.ensures, c.ops-issued.ensures.ops, c.args.subject.now.names, length-renamed_by) refl
 
 pub returns : goal.returns
 returns c =
-    let block = c.args.block.now.ops in
-    let ops = c.args.schedule.now.ops in
+    let block = c.args.subject.now.block.now.ops in
+    let ops = c.args.subject.now.schedule.now.ops in
     let explained = c.in_ok-explained.explained.items in
     on_ok_weaker c.push_lines.result (λ pushed. (
       explained_lines explained_row 0 explained (without_nops block) ops,
       record { explained = explained; are_explained = c.in_ok-explained.ensures; listed = refl },
-      rw (c.deref.ensures.value, c.as_slice.ensures, c.ops-issued.ensures.ops) at pushed,
+      rw (c.deref.ensures.value, c.as_slice-ops.ensures, c.ops-issued.ensures.ops) at pushed,
     )) c.push_lines.ensures

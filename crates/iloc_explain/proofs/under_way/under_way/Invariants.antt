@@ -5,5 +5,5 @@ use Rattle.iloc_explain.proofs.under_way.under_way.Given as goal
 
 abbrev pub invariant-loop-issued : goal.invariant-loop-issued
 invariant-loop-issued l =
-    l.found.items ≡ paired (arrival l.latencies l.schedule.ops l.schedule.rows)
-    (filter (λ i. nat_lt l.cycle (arrival l.latencies l.schedule.ops l.schedule.rows i)) (issue_order (take l.issued l.schedule.rows)))
+    l.found.items ≡ paired (arrival l.subject.measures.now.delays.latencies.now l.subject.schedule.now.ops l.subject.schedule.now.rows)
+    (filter (λ i. nat_lt l.cycle (arrival l.subject.measures.now.delays.latencies.now l.subject.schedule.now.ops l.subject.schedule.now.rows i)) (issue_order (take l.issued l.subject.schedule.now.rows)))

@@ -9,8 +9,8 @@ use Rattle.iloc_graph.proofs.cluster.push_cluster.Goals as goal
 pub push_operations-requires : goal.push_operations-requires
 push_operations-requires c = grind (arith, length_where, length-renamed_by, common_steps)
 
-pub longest_chain-requires-clause-chains : goal.longest_chain-requires-clause-chains
-longest_chain-requires-clause-chains c =
+pub longest_chain-requires : goal.longest_chain-requires
+longest_chain-requires c =
     let graph = c.args.graph.now in
     grind (arith, ruled_priorities graph.rule Chain graph.latencies graph.ops, common_steps)
 
@@ -24,7 +24,11 @@ returns c =
       _,
       record {
         chain = c.in_ok-chain.chain.items;
-        longest = rw (c.in_ok-counted.ensures.rule ∙ c.rule.ensures, c.latencies-latencies.ensures, c.ops-ops.ensures.ops ∙ c.requires) at
+        longest = rw (
+          c.in_ok-delays.ensures.rule ∙ c.rule.ensures,
+          c.in_ok-delays.ensures.latencies ∙ c.latencies.ensures,
+          c.in_ok-delays.ensures.ops ∙ (c.ops.ensures.ops ∙ c.requires),
+        ) at
             c.in_ok-chain.ensures.chosen;
         listed = refl;
       },

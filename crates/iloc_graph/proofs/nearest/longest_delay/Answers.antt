@@ -41,22 +41,22 @@ module _ (counts : Bool) (lat : Latencies) (a b : Op) where
     ]
   ]
 
-pub returns-then-has_delay : goal.returns-then-has_delay
-returns-then-has_delay c =
-    let lat = c.args.latencies.now in
-    let own = c.latency-own.ensures.latency ∙ ap (latency lat) (get_or_default c.args.ops.now c.args.i _ Nop c.requires.first) in
-    own ∙ longest_own _ lat _ _ (rw own at c.has_delay.ensures.0 c.if-has_delay.true)
+pub returns-then-has : goal.returns-then-has
+returns-then-has c =
+    let lat = c.args.delays.now.latencies.now in
+    let own = c.latency-own.ensures.latency ∙ ap (latency lat) (get_or_default c.args.delays.now.ops.now c.args.i _ Nop c.requires.first) in
+    own ∙ longest_own _ lat _ _ (rw own at c.has.ensures.0 c.if-has.true)
 
-pub returns-then-has_delay-2 : goal.returns-then-has_delay-2
-returns-then-has_delay-2 c =
-    let lat = c.args.latencies.now in
-    let own = c.latency-own.ensures.latency ∙ ap (latency lat) (get_or_default c.args.ops.now c.args.i _ Nop c.requires.first) in
-    longest_cycle _ lat _ _ (λ there. false≢true (sym c.if-has_delay.false ∙ c.has_delay.ensures.1 (rw own there)))
-    (c.has_delay-else-has_delay.ensures.0 c.if-has_delay-2.true)
+pub returns-then-has-2 : goal.returns-then-has-2
+returns-then-has-2 c =
+    let lat = c.args.delays.now.latencies.now in
+    let own = c.latency-own.ensures.latency ∙ ap (latency lat) (get_or_default c.args.delays.now.ops.now c.args.i _ Nop c.requires.first) in
+    longest_cycle _ lat _ _ (λ there. false≢true (sym c.if-has.false ∙ c.has.ensures.1 (rw own there)))
+    (c.has-else-has.ensures.0 c.if-has-2.true)
 
-pub returns-else-has_delay-2 : goal.returns-else-has_delay-2
-returns-else-has_delay-2 c =
-    let lat = c.args.latencies.now in
-    let own = c.latency-own.ensures.latency ∙ ap (latency lat) (get_or_default c.args.ops.now c.args.i _ Nop c.requires.first) in
-    longest_none _ lat _ _ (λ there. false≢true (sym c.if-has_delay.false ∙ c.has_delay.ensures.1 (rw own there)))
-    (λ there. false≢true (sym c.if-has_delay-2.false ∙ c.has_delay-else-has_delay.ensures.1 there))
+pub returns-else-has-2 : goal.returns-else-has-2
+returns-else-has-2 c =
+    let lat = c.args.delays.now.latencies.now in
+    let own = c.latency-own.ensures.latency ∙ ap (latency lat) (get_or_default c.args.delays.now.ops.now c.args.i _ Nop c.requires.first) in
+    longest_none _ lat _ _ (λ there. false≢true (sym c.if-has.false ∙ c.has.ensures.1 (rw own there)))
+    (λ there. false≢true (sym c.if-has-2.false ∙ c.has-else-has.ensures.1 there))

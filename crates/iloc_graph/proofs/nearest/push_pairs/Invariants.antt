@@ -3,5 +3,5 @@ use Rattle.iloc_graph.proofs.nearest.push_pairs.Given as goal
 
 abbrev pub invariant-loop-place : goal.invariant-loop-place
 invariant-loop-place l =
-    l.pairs.items ++ map (pair_of l.counted.rule l.latencies l.ops l.second) (unpassed l.counted.rule l.ops (drop l.place l.near))
-    ≡ l.initial.pairs.items ++ map (pair_of l.counted.rule l.latencies l.ops l.second) (unpassed l.counted.rule l.ops l.near)
+    l.pairs.items ++ map (pair_of l.delays.rule l.delays.latencies.now l.delays.ops.now l.second) (unpassed l.delays.rule l.delays.ops.now (drop l.place l.near))
+    ≡ l.initial.pairs.items ++ map (pair_of l.delays.rule l.delays.latencies.now l.delays.ops.now l.second) (unpassed l.delays.rule l.delays.ops.now l.near)

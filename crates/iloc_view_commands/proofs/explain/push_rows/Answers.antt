@@ -10,5 +10,5 @@ returns c =
       told.1,
       told.2 ∙ ap (λ head. c.args.text.now.items ++ each_after head told.0)
           (c.deref.ensures.value ∙ (c.in_ok-push_head.ensures
-          ∙ ap₂ (λ start name. start ++ head_as true c.args.explained.now.job.now.number name) c.new-head.ensures.items c.as_ref.ensures.value)),
+          ∙ ap₂ (λ start name. start ++ head_as true c.args.number name) c.new-head.ensures.items c.as_ref.ensures.value)),
     )) c.push_table.ensures

@@ -1,5 +1,6 @@
-use Rattle.iloc_view_commands.proofs.Common.{◌++◌, length, option_copied, ap, ◌∙◌, GraphOf, of_block, memory_rule}
-use Rattle.iloc_view_commands.proofs.Listers.{each_ranked, explain_is, measured_too}
+use Rattle.iloc_view_commands.proofs.Common.{◌++◌, length, option_copied, sym, ap, ◌∙◌, subst, GraphOf, of_block, memory_rule}
+use Rattle.iloc_view_commands.proofs.Listers.{each_ranked, explain_is}
+use Rattle.iloc_explain.specs.Measures.{AreMeasures}
 use Rattle.iloc_args.specs.Flags.{has}
 use Rattle.iloc_args.specs.declared.flag.Flag.TheVariants.{Csv}
 use Rattle.iloc_view_commands.specs.Explain.{with_block}
@@ -15,20 +16,26 @@ lend-requires c = ap length c.deref.ensures.value ∙ c.in_ok-measures.ensures.m
 
 pub invariant_of-explained : goal.invariant_of-explained
 invariant_of-explained c =
-    let lawful = (c.in_ok-schedule.ensures c.memory_rule.result c.args.request.now.latencies c.args.job.now.block.now.ops
-    c.in_ok-refill.ensures.graph).greedy.lawful in
+    let lat = c.args.request.now.latencies in
+    let filled = c.in_ok-refill.ensures.graph in
+    let lawful = (c.in_ok-schedule.ensures c.memory_rule.result lat c.args.job.now.block.now.ops filled).greedy.lawful in
     record {
       names = lawful.names;
-      waits = rw (c.in_ok-measures.ensures.rule ∙ ap (λ (g : GraphOf). g.rule) c.in_ok-refill.ensures.graph) lawful.waits;
+      measured = c.in_ok-measures.ensures.ops ∙ (ap (λ (g : GraphOf). g.ops) filled ∙ sym lawful.names);
+      waits = rw (
+        c.in_ok-measures.ensures.rule ∙ ap (λ (g : GraphOf). g.rule) filled,
+        c.in_ok-measures.ensures.latencies ∙ ap (λ (g : GraphOf). g.latencies) filled,
+      ) lawful.waits;
     }
 
-pub push_entry-requires : goal.push_entry-requires
-push_entry-requires c =
-    let rule = c.memory_rule.result in
-    let lat = c.args.request.now.latencies in
-    measured_too rule lat c.args.job.now.block.now c.in_ok-schedule.schedule _ _ c.in_ok-refill.ensures.graph
-    (c.in_ok-schedule.ensures rule lat c.args.job.now.block.now.ops c.in_ok-refill.ensures.graph).greedy.lawful.names
-    c.in_ok-measures.ensures.measures
+pub push_entry-requires-clause-measured : goal.push_entry-requires-clause-measured
+push_entry-requires-clause-measured c =
+    let measures = c.in_ok-measures.measures in
+    let filled = c.in_ok-refill.ensures.graph in
+    let lawful = (c.in_ok-schedule.ensures c.memory_rule.result c.args.request.now.latencies c.args.job.now.block.now.ops filled).greedy.lawful in
+    subst (λ lat. AreMeasures lat c.in_ok-schedule.schedule.ops measures) (sym c.in_ok-measures.ensures.latencies)
+    (subst (λ ops. AreMeasures c.refill.new.self.latencies ops measures) (ap (λ (g : GraphOf). g.ops) filled ∙ sym lawful.names)
+    c.in_ok-measures.ensures.measures)
 
 pub returns : goal.returns
 returns c =
@@ -42,7 +49,7 @@ returns c =
     c.in_ok-measures.measures.ranks.items said.0 _ _ filled
     (c.in_ok-measures.ensures.ranks ∙ c.in_ok-ranks.ensures) c.in_ok-measures.ensures.rule c.in_ok-measures.ensures.least
     (rw c.deref.ensures.value at (c.in_ok-schedule.ensures (memory_rule request) request.latencies block.ops filled).greedy)
-    said.1 entry.text entry.cycles
+    (rw (c.in_ok-measures.ensures.latencies ∙ ap (λ (g : GraphOf). g.latencies) filled) at said.1) entry.text entry.cycles
     (c.in_ok-entry.ensures.text
     ∙ (c.deref-2.ensures.value
     ∙ (said.2 ∙ ap (λ xs. xs ++ with_block (has request.flags Csv) c.args.job.now.number block.name said.0) c.clear.ensures.items)))

@@ -1,25 +1,25 @@
 use Rattle.iloc_explain.proofs.Common.{◌≡◌, length, map, get_or, ap, ◌∙◌, arith, get_or_default, get_or-map-range_with_len, length-map-range_with_len, range_with_len, Nop}
 use Rattle.iloc_rules.specs.Apart.{address_at}
 use Rattle.iloc_explain.proofs.CountedPairs.{apart_counts}
-use Rattle.iloc_explain.proofs.counted.Counted.counts.Goals as goal
+use Rattle.iloc_explain.proofs.delays.Delays.counts.Goals as goal
 
 pub index-requires : goal.index-requires
 index-requires c =
-    let are : c.args.self.now.addresses.items ≡ map (address_at c.args.ops.now) (range_with_len 0 (length c.args.ops.now)) =
-    rw c.in-Address.is at c.requires.counted in
-    omega (arith, c.requires.first, ap length are, length-map-range_with_len (address_at c.args.ops.now) 0 (length c.args.ops.now))
+    let are : c.args.self.now.addresses.items ≡ map (address_at c.args.self.now.ops.now) (range_with_len 0 (length c.args.self.now.ops.now)) =
+    c.args.self.now.known c.in-Address.is in
+    omega (arith, c.requires.first, ap length are, length-map-range_with_len (address_at c.args.self.now.ops.now) 0 (length c.args.self.now.ops.now))
 
 pub index-requires-else-are_stores : goal.index-requires-else-are_stores
 index-requires-else-are_stores c =
-    let are : c.args.self.now.addresses.items ≡ map (address_at c.args.ops.now) (range_with_len 0 (length c.args.ops.now)) =
-    rw c.in-Address.is at c.requires.counted in
-    omega (arith, c.requires.second, ap length are, length-map-range_with_len (address_at c.args.ops.now) 0 (length c.args.ops.now))
+    let are : c.args.self.now.addresses.items ≡ map (address_at c.args.self.now.ops.now) (range_with_len 0 (length c.args.self.now.ops.now)) =
+    c.args.self.now.known c.in-Address.is in
+    omega (arith, c.requires.second, ap length are, length-map-range_with_len (address_at c.args.self.now.ops.now) 0 (length c.args.self.now.ops.now))
 
 pub returns-else-are_stores : goal.returns-else-are_stores
 returns-else-are_stores c =
-    let ops = c.args.ops.now in
+    let ops = c.args.self.now.ops.now in
     let are : c.args.self.now.addresses.items ≡ map (address_at ops) (range_with_len 0 (length ops)) =
-    rw c.in-Address.is at c.requires.counted in
+    c.args.self.now.known c.in-Address.is in
     rw c.in-Address.is
     (apart_counts ops c.args.i c.args.j _ _ _ _ c.are_stores.result c.apart_if_both.result
     (get_or_default ops c.args.i _ Nop c.requires.first) (get_or_default ops c.args.j _ Nop c.requires.second)
