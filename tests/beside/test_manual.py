@@ -4,7 +4,7 @@ import re
 import subprocess
 
 from harness.place import COMMAND, COMMANDS, Place
-from harness.program import SECONDS, TESTED, TOP
+from harness.program import NO_BLOCKS, SECONDS, TESTED, TOP
 from harness.terminal import terminal
 from language import MAX_NUMBER, MOST_BLOCKS, MOST_BYTES, MOST_OPERATIONS
 from oracle.scheduler import ORDERS
@@ -67,6 +67,7 @@ NO_SUCH_OPCODE = 'line 1: no such opcode "nope": nop?\n    nope\n       ^\n'
 CAPITAL = 'line 1: expected a register, found "R1": registers begin with a small r\n    add R1, r2 => r3\n        ^\n'
 HAS_A_ROW = "ilocfarm: it has a row where blocks belong\n"
 ADVISES_WORDS = "ilocfarm: //SIM INPUT: isn't read here; give its words, as in ilocfarm run --at 1024 3 4\n"
+EMPTY = "ilocfarm: the input was empty\n"
 NOT_UNDERSTOOD = "ilocfarm: line 1: not understood\n"
 WITH_WORDS = b"nop\n //\tSIM INPUT: -i 1024 3\noutput 1024\n"
 # Words and input; what is said of them on any standard error, and what on a terminal besides.
@@ -76,7 +77,11 @@ ADVISED = (
     (["run"], b"[ nop ; nop ]\n", NOT_UNDERSTOOD, HAS_A_ROW),
     (["trace"], b"[ nop ; nop ]\n", NOT_UNDERSTOOD + HAS_A_ROW, ""),
     (["check"], b"nope\n", NOT_UNDERSTOOD + NO_SUCH_OPCODE, ""),
+    (["check"], b"[ nop ; nop ]\n", "ilocfarm: no blocks\n" + NO_BLOCKS.decode(), ""),
     (["lint"], b"nope\n", "", ""),
+    *(([command], b"", "", EMPTY) for command in ("explain", "counts", "graph", "lint")),
+    (["run"], b"\n", "", ""),
+    (["help"], b"", "", ""),
     (["run", "-x"], b"nope\n", None, ""),
     (["run"], b"nop\n", "", ""),
     (["run"], WITH_WORDS, "", ADVISES_WORDS),

@@ -19,6 +19,7 @@ COMMANDS = ("run", "simulate", "schedule", "counts")
 FARMED = ("schedule", "counts", "compare", "optimize", "explain")   # whose blocks workers share
 ALONE = ("run", "simulate", "check", "graph", "trace")
 ALL = (*ALONE, *FARMED)
+NO_BLOCKS = b"ilocfarm: blocks come before their rows, or from a file by --task FILE\n"
 FAULT = re.compile(rb"ilocfarm: line ([0-9]+): (?:not understood|number above 2147483647)\n")
 
 
@@ -75,6 +76,8 @@ def unlike(what, got, due):
 def with_reason(command, given, said):
     """What standard error has where this is said of an input: below the fault of a line what `lint` lists of that line,
     but by the four of COMMANDS."""
+    if (command, said) == ("check", b"ilocfarm: no blocks\n"):
+        return said + NO_BLOCKS
     fault = FAULT.fullmatch(said)
     if not fault or command in COMMANDS:
         return said

@@ -6,6 +6,7 @@ use Rattle.iloc_driver.specs.Run.Apart.{Held, Holds}
 use Rattle.iloc_lint.specs.Listing.{ListsLint}
 use Rattle.iloc_lint.specs.Row.{IsRowWording}
 use Rattle.iloc_listing.specs.Device.{WritesFront}
+use Rattle.iloc_rows.specs.Submissions.{HasNoBlocks}
 use Rattle.iloc_text.specs.Fault.{of_line}
 use Rattle.iloc_text.specs.Lines.{lines_of}
 use Rattle.iloc_text.specs.ScheduleLines.{SaysSomethingWidely}
@@ -51,9 +52,14 @@ pub record IsNoRow (text said : List ℕ) : Type 0 where
   pub worded : IsRowWording line words
   pub told : said ≡ of_line n (codes ": " ++ words ++ codes "\n")
 
+-- `said` is what is said of a text that has no blocks, whatever follows them
+abbrev pub IsOfNoBlocks : List ℕ → List ℕ → Type 0
+IsOfNoBlocks text said =
+    HasNoBlocks text × (said ≡ codes "ilocfarm: blocks come before their rows, or from a file by --task FILE\n")
+
 -- `said` is nothing, or why the text isn't understood
 abbrev pub IsReason : List ℕ → List ℕ → Type 0
-IsReason text said = (said ≡ []) ⊎ IsLinted text said ⊎ IsRow text said ⊎ IsNoRow text said
+IsReason text said = (said ≡ []) ⊎ IsLinted text said ⊎ IsRow text said ⊎ IsNoRow text said ⊎ IsOfNoBlocks text said
 
 -- `said` is nothing, or why a text isn't understood: what was kept of the input, or what a named text holds
 abbrev pub MayBeSaid : Held → List ℕ → List ℕ → Type 0

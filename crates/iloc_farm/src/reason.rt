@@ -21,6 +21,10 @@ const ROW: &[u8] = b"ilocfarm: it has a row where blocks belong\n";
 const TASK_ROW: &[u8] =
     b"ilocfarm: it has a row where blocks belong, and rows come from standard input: are the two exchanged?\n";
 
+/// What is said of a text without blocks that may have rows.
+const NO_BLOCKS: &[u8] =
+    b"ilocfarm: blocks come before their rows, or from a file by --task FILE\n";
+
 /// What a text should have.
 #[derive(Clone, Copy)]
 enum Sought {
@@ -140,6 +144,20 @@ fn reason_for(
     }
 }
 
+/// Why a text with blocks and rows isn't understood. Nothing where it is.
+fn of_submission(alloc: Global, text: &[u8]) -> Result<Vec<u8>, NoMemory>
+    ensures { IfOk result (λ said. IsReason text.now said.items) }
+{
+    match read_submission(alloc, text) {
+        Err(RowsFault::NoBlocks) => {
+            let mut said = Vec::new(alloc);
+            said.extend_from_slice(NO_BLOCKS)?;
+            Ok(said)
+        }
+        read => reason_for(alloc, text, read.err(), Sought::BlocksAndRows),
+    }
+}
+
 /// The text of this name, if it can be read.
 fn text_named<T: Texts>(alloc: Global, texts: &T, name: &str) -> Option<Vec<u8>>
     ensures { IfSome result (λ text. Holds (T.held texts.now name.now) text.items) }
@@ -158,12 +176,11 @@ pub fn reason_of<T: Texts>(
     ensures { IfOk result (λ said. MayBeSaid (T.held texts.now) input.now said.items) }
 {
     let Some(name) = &request.task_file else {
-        let (fault, sought) = match request.task {
-            Task::Lint => (None, Sought::Blocks),
-            Task::Check => (read_submission(alloc, input).err(), Sought::BlocksAndRows),
-            _ => (read_task(alloc, input).err(), Sought::Blocks),
+        return match request.task {
+            Task::Lint => Ok(Vec::new(alloc)),
+            Task::Check => of_submission(alloc, input),
+            _ => reason_for(alloc, input, read_task(alloc, input).err(), Sought::Blocks),
         };
-        return reason_for(alloc, input, fault, sought);
     };
     let Some(task) = text_named(alloc, texts, name.as_str()) else {
         return Ok(Vec::new(alloc));

@@ -80,6 +80,9 @@ fn gets_no_words(request: &Option<Request>) -> bool {
 const WORDS: &[u8] =
     b"ilocfarm: //SIM INPUT: isn't read here; give its words, as in ilocfarm run --at 1024 3 4\n";
 
+/// What is said of an input without a byte.
+const EMPTY: &[u8] = b"ilocfarm: the input was empty\n";
+
 /// Says why a text wasn't understood, if something is to be said of a request. Faults that aren't taken change nothing.
 fn explain<T: Texts, F: Write>(
     alloc: Global,
@@ -102,7 +105,7 @@ fn explain<T: Texts, F: Write>(
 ///
 /// Promise: how the program ends, and what status 0 tells, is as `run_program` has it. Where neither is a terminal, nothing more
 /// is said but a reason of what was kept of the input, or of a named text: what `lint` lists first of it, or what is wrong with
-/// one of its lines as a row, or that a line is one.
+/// one of its lines as a row, or that a line is one, or that it has no blocks.
 pub fn run_talking<H: Threads + Wait + Sync, T: Texts, R: Read + Drop, W: Write, F: Write>(
     rt: &H,
     alloc: Global,
@@ -142,6 +145,10 @@ pub fn run_talking<H: Threads + Wait + Sync, T: Texts, R: Read + Drop, W: Write,
     };
     let kept = streams.reader.kept();
     explain(alloc, texts, unread, kept, &mut streams.faults);
+    let is_done = request.is_some() && ending.status == 0;
+    if terminals.faults && is_done && streams.reader.is_empty() {
+        let _ = streams.faults.write_all(EMPTY);
+    }
     if terminals.faults && streams.reader.gives_words() {
         let _ = streams.faults.write_all(WORDS);
     }

@@ -73,6 +73,11 @@ impl<R: Read + Drop> Watched<R> {
         }
     }
 
+    /// Whether nothing was read since it is kept.
+    pub(crate) fn is_empty(&self) -> bool {
+        matches!(&self.kept, Some(kept) if kept.is_empty())
+    }
+
     /// Whether a comment was seen that gives words.
     pub(crate) fn gives_words(&self) -> bool {
         self.gives_words
