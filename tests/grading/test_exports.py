@@ -176,7 +176,7 @@ class Exports(Graded):
             self.expect("said", {*re.findall("site.csv(.*)", self.said)}, said)
         self.write("site.csv", b"\x81\n")
         self.grade("--roster", "site.csv", status=3)
-        self.expect("unreadable", "site.csv isn't UTF-8" in self.said, True)
+        self.expect("unreadable", re.findall("site.csv(.*)", self.said), [": expected a table as text: save it as CSV"])
 
     def test_attempts(self):
         """The last attempt counts, in whatever order files are; a task's own number is none."""
