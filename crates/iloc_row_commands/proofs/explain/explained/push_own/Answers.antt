@@ -17,8 +17,10 @@ invariant_of-explained c =
     record {
       names = c.requires.names;
       measured = c.in_ok-measures.ensures.ops ∙ (ap (λ (g : GraphOf). g.ops) drawn ∙ sym c.requires.names);
-      waits = rw (c.in_ok-measures.ensures.rule ∙ ap (λ (g : GraphOf). g.rule) drawn,
-          c.in_ok-measures.ensures.latencies ∙ ap (λ (g : GraphOf). g.latencies) drawn) c.requires.waits;
+      waits = rw (
+        c.in_ok-measures.ensures.rule ∙ ap (λ (g : GraphOf). g.rule) drawn,
+        c.in_ok-measures.ensures.latencies ∙ ap (λ (g : GraphOf). g.latencies) drawn,
+      ) c.requires.waits;
     }
 
 pub push_explanation-requires-clause-measured : goal.push_explanation-requires-clause-measured
