@@ -81,7 +81,10 @@ impl Looking<'_> {
         {
             let last = self.definers.first_few(alloc, u64::from(register.0))?;
             self.push_later(&mut guesses, &last, k, place)?;
-            self.push_older(alloc, &mut guesses, &last, k, place, read)?;
+            for (_, u) in self.older(alloc, &last, k, read)?.iter().rev().take(MOST) {
+                let lost = Some(*u);
+                guesses.push(self.guess(*u, 3, What::ReadsOver { place, lost }))?;
+            }
             push_start(&mut guesses, place, read)?;
         }
         Ok(guesses)
@@ -114,21 +117,19 @@ impl Looking<'_> {
         Ok(())
     }
 
-    /// Pushes the operations of `last` that have arrived when operation `k` is issued, but for `read`, which it reads;
-    /// the last to arrive first.
-    fn push_older(
+    /// The operations of `last` that have arrived when operation `k` is issued, but for `read`, which it reads, each after the
+    /// cycle in which it arrives; rising.
+    fn older(
         &self,
         alloc: Global,
-        guesses: &mut Vec<Guess>,
         last: &[usize],
         k: usize,
-        place: usize,
         read: Option<usize>,
-    ) -> Result<(), NoMemory> {
+    ) -> Result<Vec<(usize, usize)>, NoMemory> {
+        let mut older = Vec::new(alloc);
         let Some(here) = self.sides.issue(k) else {
-            return Ok(());
+            return Ok(older);
         };
-        let mut older: Vec<(usize, usize)> = Vec::new(alloc);
         for u in last {
             if let Some(due) = self.sides.due(*u)
                 && due <= here.cycle
@@ -138,14 +139,7 @@ impl Looking<'_> {
             }
         }
         older.sort_unstable();
-        for (_, u) in older.iter().rev().take(MOST) {
-            let what = What::ReadsOver {
-                place,
-                lost: Some(*u),
-            };
-            guesses.push(self.guess(*u, 3, what))?;
-        }
-        Ok(())
+        Ok(older)
     }
 }
 
