@@ -114,72 +114,6 @@ fn windows_within(alloc: Global, graph: &Graph, limit: u32) -> Result<Windows, N
     Ok(Windows { firsts, lasts })
 }
 
-/// Improves `optimum`, what is known of `block`, by a search for a schedule of at most `limit` cycles, and answers
-/// whether cycles of issue were found.
-fn try_limit(
-    alloc: Global,
-    scheduler: &mut Scheduler,
-    block: &Block,
-    graph: &Graph,
-    optimum: &mut Optimum,
-    limit: u32,
-    nodes: u32,
-) -> Result<bool, NoMemory>
-    requires graph { graph.now.ops ≡ renamed block.now.ops }
-    requires known { IsOptimumOf graph.now.rule graph.now.latencies block.now.ops optimum.old }
-    requires above { optimum.old.bound ≤ limit }
-    ensures known { OnOk result (IsOptimumOf graph.now.rule graph.now.latencies block.now.ops optimum.new) }
-    ensures above { OnOk result (optimum.new.bound ≤ limit + 1) }
-{
-    let windows = windows_within(alloc, graph, limit)?;
-    match search_windows(alloc, graph.edges(), graph.kinds(), windows, nodes)? {
-        Found::Nothing => {
-            optimum.bound = u64::from(limit) + 1;
-            Ok(false)
-        }
-        Found::Cycles(cycles) => {
-            let ranks = rests_of(alloc, &cycles, limit)?;
-            let schedule = scheduler.lend(graph, &ranks)?;
-            let mut fewest = count_of(&optimum.schedule, graph.latencies()) as u32;
-            keep_shorter(
-                scheduler,
-                graph.latencies(),
-                &mut optimum.schedule,
-                &mut fewest,
-                schedule,
-            );
-            Ok(true)
-        }
-        Found::Unknown => Ok(false),
-    }
-}
-
-/// Improves what is known of a block by a search for each number of cycles from the bound up, until cycles of issue are
-/// found or the best schedule's are reached. A block of more than `MOST_SEARCHED` operations isn't searched.
-fn search_upwards(
-    alloc: Global,
-    scheduler: &mut Scheduler,
-    block: &Block,
-    graph: &Graph,
-    optimum: &mut Optimum,
-    nodes: u32,
-) -> Result<(), NoMemory>
-    requires graph { graph.now.ops ≡ renamed block.now.ops }
-    requires known { IsOptimumOf graph.now.rule graph.now.latencies block.now.ops optimum.old }
-    ensures { OnOk result (IsOptimumOf graph.now.rule graph.now.latencies block.now.ops optimum.new) }
-{
-    if block.ops.len() > MOST_SEARCHED {
-        return Ok(());
-    }
-    for limit in optimum.bound..count_of(&optimum.schedule, graph.latencies()) {
-        let is_found = try_limit(alloc, scheduler, block, graph, optimum, limit as u32, nodes)?;
-        if is_found {
-            break;
-        }
-    }
-    Ok(())
-}
-
 /// Finds the best schedules of blocks, one after another.
 #[derive(Drop)]
 pub struct Optimizer {
@@ -231,8 +165,48 @@ impl Optimizer {
         })
     }
 
-    /// Improves what is known of a block by searches with so many nodes, at most `MOST_NODES`, for each number of cycles that is
-    /// tried.
+    /// Improves `optimum`, what is known of `block`, by a search with `nodes` nodes for a schedule of at most `limit` cycles, and
+    /// answers whether cycles of issue were found.
+    fn try_limit(
+        &mut self,
+        block: &Block,
+        graph: &Graph,
+        optimum: &mut Optimum,
+        limit: u32,
+        nodes: u32,
+    ) -> Result<bool, NoMemory>
+        requires graph { graph.now.ops ≡ renamed block.now.ops }
+        requires known { IsOptimumOf graph.now.rule graph.now.latencies block.now.ops optimum.old }
+        requires above { optimum.old.bound ≤ limit }
+        ensures known { OnOk result (IsOptimumOf graph.now.rule graph.now.latencies block.now.ops optimum.new) }
+        ensures above { OnOk result (optimum.new.bound ≤ limit + 1) }
+    {
+        let windows = windows_within(self.alloc, graph, limit)?;
+        match search_windows(self.alloc, graph.edges(), graph.kinds(), windows, nodes)? {
+            Found::Nothing => {
+                optimum.bound = u64::from(limit) + 1;
+                Ok(false)
+            }
+            Found::Cycles(cycles) => {
+                let ranks = rests_of(self.alloc, &cycles, limit)?;
+                let schedule = self.scheduler.lend(graph, &ranks)?;
+                let mut fewest = count_of(&optimum.schedule, graph.latencies()) as u32;
+                keep_shorter(
+                    &mut self.scheduler,
+                    graph.latencies(),
+                    &mut optimum.schedule,
+                    &mut fewest,
+                    schedule,
+                );
+                Ok(true)
+            }
+            Found::Unknown => Ok(false),
+        }
+    }
+
+    /// Improves what is known of a block by a search with `nodes` nodes, at most `MOST_NODES`, for each number of cycles from the
+    /// bound up, until cycles of issue are found or the best schedule's are reached. A block of more than `MOST_SEARCHED`
+    /// operations isn't searched.
     fn improve(
         &mut self,
         block: &Block,
@@ -245,14 +219,15 @@ impl Optimizer {
         ensures { IfOk result (IsOptimumOf graph.now.rule graph.now.latencies block.now.ops) }
     {
         let mut optimum = known;
-        search_upwards(
-            self.alloc,
-            &mut self.scheduler,
-            block,
-            graph,
-            &mut optimum,
-            nodes.min(MOST_NODES),
-        )?;
+        if block.ops.len() > MOST_SEARCHED {
+            return Ok(optimum);
+        }
+        let nodes = nodes.min(MOST_NODES);
+        for limit in optimum.bound..count_of(&optimum.schedule, graph.latencies()) {
+            if self.try_limit(block, graph, &mut optimum, limit as u32, nodes)? {
+                break;
+            }
+        }
         Ok(optimum)
     }
 

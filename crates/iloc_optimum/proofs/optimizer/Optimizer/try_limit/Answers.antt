@@ -1,7 +1,7 @@
 use Rattle.iloc_optimum.proofs.Common.{◌≡◌, ◌+◌, ◌≤◌, sym, subst, arith, common_steps, length-map, length-replicate, length-tails_under, IsBound, cycles_of, HasNone}
 use Rattle.iloc_optimum.specs.Found.{IsFound}
 use Rattle.iloc_optimum.proofs.Improvements.{one_lawful, refuted, with_bound, with_schedule}
-use Rattle.iloc_optimum.proofs.optimizer.try_limit.Goals as goal
+use Rattle.iloc_optimum.proofs.optimizer.Optimizer.try_limit.Goals as goal
 
 pub search_windows-requires-clause-windows : goal.search_windows-requires-clause-windows
 search_windows-requires-clause-windows c = grind (arith, length-map, length-replicate, length-tails_under, common_steps)

@@ -1,5 +1,5 @@
 use Rattle.iloc_optimum.proofs.Common.{◌≤◌, IsOptimumOf}
-use Rattle.iloc_optimum.proofs.optimizer.search_upwards.Given as goal
+use Rattle.iloc_optimum.proofs.optimizer.Optimizer.improve.Given as goal
 
 abbrev pub invariant-loop-limit : goal.invariant-loop-limit
 invariant-loop-limit l = record {
