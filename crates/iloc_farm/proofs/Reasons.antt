@@ -1,5 +1,5 @@
 -- What is said of a text that isn't understood.
-use Rattle.iloc_farm.proofs.Common.{◌≡◌, ℕ, List, [], Ok, Err, Option, Result, sym, ◌∙◌, inl, inr, append-nil, Held}
+use Rattle.iloc_farm.proofs.Common.{◌≡◌, ℕ, List, [], Ok, Err, Option, Result, sym, subst, ◌∙◌, inl, inr, append-nil, Held, Holds}
 use Rattle.std.specs.Io.KnownBytes.{Appends}
 use Rattle.std.specs.Prelude.{◌⊎◌, IfOk, OnErr, OnOk}
 use Rattle.std.specs.declared.alloc.Global.{Global}
@@ -17,6 +17,13 @@ pub of_input : {E : Type 0} (held : Held) (kept : List ℕ) (result : Result (Ve
     → IfOk result (λ said. IsReason kept said.items) → IfOk result (λ said. MayBeSaid held kept said.items)
 of_input held kept (Ok said) is = inl is
 of_input held kept (Err fault) is = tt
+
+-- and so may what is said of the text of a name
+pub of_task : {E : Type 0} (held : Held) (kept name text task : List ℕ) (result : Result (Vec ℕ Global) E)
+    → Holds (held name) task → text ≡ task → IfOk result (λ said. IsReason text said.items)
+    → IfOk result (λ said. MayBeSaid held kept said.items)
+of_task held kept name text task (Ok said) holds same is = inr (name, text, subst (Holds (held name)) (sym same) holds, is)
+of_task held kept name text task (Err fault) holds same is = tt
 
 -- a text is written, whole or a prefix
 pub wrote : {T E : Type 0} (old new : Option (List ℕ)) (result : Result T E) (text : List ℕ) → OnOk result (Appends old new text)

@@ -9,7 +9,7 @@ use Rattle.iloc_listing.specs.Device.{WritesFront}
 use Rattle.iloc_rows.specs.Submissions.{HasNoBlocks}
 use Rattle.iloc_text.specs.Fault.{of_line}
 use Rattle.iloc_text.specs.Lines.{lines_of}
-use Rattle.iloc_text.specs.ScheduleLines.{SaysSomethingWidely}
+use Rattle.iloc_text.specs.ScheduleLines.{IsScheduleLine}
 
 -- `line` is line `n` of the text, counted from 1
 abbrev pub IsLine : List ℕ → ℕ → List ℕ → Type 0
@@ -35,12 +35,12 @@ row_text = codes "ilocfarm: it has a row where blocks belong\n"
 abbrev pub task_row_text : List ℕ
 task_row_text = codes "ilocfarm: it has a row where blocks belong, and rows come from standard input: are the two exchanged?\n"
 
--- `said` is what is said of a line of the text that says something in a schedule
+-- `said` is what is said of a line of the text that says more than nothing in a schedule
 pub record IsRow (text said : List ℕ) : Type 0 where
   pub n : ℕ
   pub line : List ℕ
   pub is_line : IsLine text n line
-  pub row : SaysSomethingWidely line
+  pub row : IsScheduleLine line
   pub told : (said ≡ row_text) ⊎ (said ≡ task_row_text)
 
 -- `said` is what is wrong with line n of the text, read as a row

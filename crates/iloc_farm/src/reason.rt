@@ -1,6 +1,6 @@
 //! Why a text isn't understood: as `lint` says it, or as it is said of rows.
 ghost use Rattle.std.specs.Prelude.{◌≡◌, ◌⊎◌, true, IfOk, IfSome};
-ghost use Rattle.iloc_text.specs.ScheduleLines.{SaysSomethingWidely};
+ghost use Rattle.iloc_text.specs.ScheduleLines.{IsScheduleLine};
 ghost use Rattle.iloc_driver.specs.Run.Apart.{Holds};
 ghost use Rattle.iloc_farm.specs.Reason.{IsLine, IsReason, MayBeSaid, row_text, task_row_text};
 
@@ -10,7 +10,8 @@ use iloc_lint::{report_of, row_wording};
 use iloc_ops::NoMemory;
 use iloc_rows::{RowsFault, read_rows, read_submission, read_task};
 use iloc_text::{
-    ParseFault, ReadFault, push_number, read_schedule_line, read_text_from, split_line,
+    ParseFault, ReadFault, ScheduleLine, push_number, read_schedule_line, read_text_from,
+    split_line,
 };
 use std::alloc::Global;
 
@@ -75,13 +76,13 @@ fn linted(alloc: Global, text: &[u8]) -> Result<Vec<u8>, NoMemory>
     Ok(said)
 }
 
-/// Whether the line says something in a schedule, or would if numbers had no limit.
+/// Whether the line says more than nothing in a schedule, or would if numbers had no limit.
 fn is_row(line: &[u8]) -> bool
-    ensures { result ≡ true → SaysSomethingWidely line.now }
+    ensures { result ≡ true → IsScheduleLine line.now }
 {
     match read_schedule_line(line) {
+        Ok(ScheduleLine::Empty) | Err(ParseFault::Bad) => false,
         Ok(_) | Err(ParseFault::NumberTooLarge) => true,
-        Err(ParseFault::Bad) => false,
     }
 }
 
