@@ -90,17 +90,17 @@ POLYNOMIALS = (
     by_form("multiplied_out", (("mult", X, ("add", X, X)), lambda a, b, c: ("add", ("mult", a, b), ("mult", a, c)))),
     by_form("factored", (("add", ("mult", X, X), ("mult", X, X)),
                              lambda a, b, c, d: a == c and ("mult", a, ("add", b, d)))))
-# Amounts with the same five lowest bits.
-AMOUNTS = (("amount_and_32", lambda n: ("addI", n, 32)),
-           ("amount_shifted_twice", lambda n: ("rshiftI", ("lshiftI", n, 27), 27)),
-           ("amount_less_its_higher_bits", lambda n: ("sub", n, ("lshiftI", ("rshiftI", n, 5), 5))))
+# Amounts with the same five lowest bits, each by itself: made of one another they aren't all known to be the same.
+AMOUNTS = tuple(
+    by_form(name, *(((by, X, X), lambda a, n, by=by, how=how: (by, a, how(n))) for by in ("lshift", "rshift")))
+    for name, how in (("amount_and_32", lambda n: ("addI", n, 32)),
+                      ("amount_shifted_twice", lambda n: ("rshiftI", ("lshiftI", n, 27), 27)),
+                      ("amount_less_its_higher_bits", lambda n: ("sub", n, ("lshiftI", ("rshiftI", n, 5), 5)))))
 SHIFTS = (
     by_form("right_shifts_composed", (("rshiftI", ("rshiftI", X, X), X),
                                           lambda a, j, k: ("rshiftI", a, min(31, j + k)))),
     by_form("right_shift_split", (("rshiftI", X, X), lambda a, k: k > 1 and ("rshiftI", ("rshiftI", a, 1), k - 1))),
     by_form("zeros_folded", *(((by, K, X), lambda k, _: k == 0 and ZERO) for by in ("mult", "lshift", "rshift"))),
-    *(by_form(name, *(((by, X, X), lambda a, n, by=by, how=how: (by, a, how(n))) for by in ("lshift", "rshift")))
-      for name, how in AMOUNTS),
     by_form("left_shift_as_product", (("lshift", X, X), lambda a, n: ("mult", a, ("lshift", ONE, n)))))
 
 
@@ -225,7 +225,7 @@ def by_accesses(*names):
 
 
 SAME = (*WRITTEN, *by_accesses("dead_dropped", "common_found", "loads_forwarded", "dead_stores_dropped"))
-MORE = (*POLYNOMIALS, *SHIFTS, *map(regrouped, ("add", "mult")), *by_accesses(
+MORE = (*AMOUNTS, *POLYNOMIALS, *SHIFTS, *map(regrouped, ("add", "mult")), *by_accesses(
     "written_back", "not_written_back", "stores_dropped_past_others", "stores_exchanged", "load_between_dropped",
     "scratch_restored"))
-O1, O2 = together("O1", SAME), together("O2", (*SAME, *MORE[:-1]))
+O1, O2 = together("O1", SAME), together("O2", (*SAME, *MORE[len(AMOUNTS):-1]))

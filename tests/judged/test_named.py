@@ -51,11 +51,15 @@ def store_too_many(chance, given):
 
 
 def named(rows, wrong):
-    """How a line names the operation of wrong rows that the rows haven't, or one that computes the same."""
+    """How a line names the operation of wrong rows that the rows haven't, or one that computes the same, or one that
+    nobody reads any more."""
     known = {id(op) for _, op in issued_in(rows)}
     cycle, op = next((cycle, op) for cycle, op in issued_in(wrong) if id(op) not in known)
     name = f"row {cycle}: {op}"
-    return name, f": {op}".rpartition("=>")[0] if op.defined else name
+    read, still = ({n for _, op in issued_in(made) for n in op.used} for made in (rows, wrong))
+    lost = [f"row {at}: {one}, whose result is never read" for at, one in issued_in(wrong)
+            if {*one.defined} & (read - still)]
+    return name, f": {op}".rpartition("=>")[0] if op.defined else name, *lost
 
 
 def said_of(family, size):
@@ -80,7 +84,7 @@ def led(family, size):
 
 
 def waiting(family, size):
-    yield from (f"{name}: {lines}" for (name, _), lines in said_of(family, size)
+    yield from (f"{name}: {lines}" for (name, *_), lines in said_of(family, size)
                 if any(f"while {name} is under way" in line for line in lines))
 
 
