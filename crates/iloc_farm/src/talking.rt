@@ -1,5 +1,5 @@
 //! The program where somebody may sit at a terminal.
-ghost use Rattle.std.specs.Prelude.{◌≡◌};
+ghost use Rattle.std.specs.Prelude.{◌≡◌, false, []};
 ghost use Rattle.iloc_farm.specs.Commands.{command_of};
 ghost use Rattle.iloc_farm.specs.Reason.{Explains, bytes_of};
 ghost use Rattle.iloc_farm.specs.Talking.{EndsTalking};
@@ -83,6 +83,40 @@ const WORDS: &[u8] =
 /// What is said of an input without a byte.
 const EMPTY: &[u8] = b"ilocfarm: the input was empty\n";
 
+/// What a terminal shows before a run of this request; nothing if the input comes from elsewhere.
+fn opening(terminals: Terminals, request: &Option<Request>) -> &'static [u8]
+    ensures { terminals.input ≡ false → result.now ≡ [] }
+{
+    match request {
+        Some(request) if terminals.input => waiting(request),
+        _ => b"",
+    }
+}
+
+/// What helps after a run that is or isn't done; nothing if faults don't go to a terminal.
+fn hint<R: Read + Drop>(terminals: Terminals, is_done: bool, reader: &Watched<R>) -> &'static [u8]
+    ensures { terminals.faults ≡ false → result.now ≡ [] }
+{
+    if !terminals.faults {
+        b""
+    } else if is_done && reader.is_empty() {
+        EMPTY
+    } else if reader.gives_words() {
+        WORDS
+    } else {
+        b""
+    }
+}
+
+/// Says `text`, if it isn't empty. Faults that aren't taken change nothing.
+fn say<F: Write>(text: &[u8], faults: &mut F)
+    ensures { text.now ≡ [] → F.contents faults.new ≡ F.contents faults.old }
+{
+    if !text.is_empty() {
+        let _ = faults.write_all(text);
+    }
+}
+
 /// Says why a text wasn't understood, if something is to be said of a request. Faults that aren't taken change nothing.
 fn explain<T: Texts, F: Write>(
     alloc: Global,
@@ -128,11 +162,7 @@ pub fn run_talking<H: Threads + Wait + Sync, T: Texts, R: Read + Drop, W: Write,
     } else {
         None
     };
-    if terminals.input
-        && let Some(request) = &request
-    {
-        let _ = streams.faults.write_all(waiting(request));
-    }
+    say(opening(terminals, &request), &mut streams.faults);
     streams.reader.keep(alloc, explains);
     streams
         .reader
@@ -146,11 +176,7 @@ pub fn run_talking<H: Threads + Wait + Sync, T: Texts, R: Read + Drop, W: Write,
     let kept = streams.reader.kept();
     explain(alloc, texts, unread, kept, &mut streams.faults);
     let is_done = request.is_some() && ending.status == 0;
-    if terminals.faults && is_done && streams.reader.is_empty() {
-        let _ = streams.faults.write_all(EMPTY);
-    }
-    if terminals.faults && streams.reader.gives_words() {
-        let _ = streams.faults.write_all(WORDS);
-    }
+    let text = hint(terminals, is_done, &streams.reader);
+    say(text, &mut streams.faults);
     ending
 }
