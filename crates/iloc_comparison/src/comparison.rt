@@ -34,8 +34,8 @@ pub enum Comparison {
     DiffersOn(Probe, Difference),
 }
 
-/// How many operations block and rows have at least together that are run before terms are made: to make these takes
-/// longer then.
+/// From so many operations on, of block and rows together, both are run before terms are made: to make terms takes longer
+/// then.
 const MANY_OPERATIONS: usize = 512;
 
 /// Where a schedule's outcome on a memory differs from its block's, if both together have many operations.

@@ -51,11 +51,11 @@ impl Scheduler {
         }
     }
 
-    /// Hands `taker` the rows of the schedule of a graph's block that is greedy by these priorities, one for each operation, and by
+    /// Hands `taker` the rows of the schedule of a graph's block that is greedy by `ranks`, a priority for each operation, and by
     /// the graph's rule of memory: in each cycle the first of the ready operations is issued, with the first of the others that can
     /// go beside it, in order of falling priority, then of number. The graph stays as it is.
     ///
-    /// Promise: The taker takes just the rows of the only schedule of the block that is greedy by these priorities and by the
+    /// Promise: The taker takes just the rows of the only schedule of the block that is greedy by `ranks` and by the
     /// graph's rule, with the block's outcome, and its cycles lie between the bounds of `schedule`, whatever graphs came before.
     pub fn feed<T: TakeRows>(
         &mut self,
@@ -118,10 +118,10 @@ impl Scheduler {
         Ok(Schedule::of_table(ops, rows))
     }
 
-    /// The schedule of a graph's block that is greedy by these priorities, whose rows `feed` hands on. It is in own buffers, which
+    /// The schedule of a graph's block that is greedy by `ranks`, whose rows `feed` hands on. It is in own buffers, which
     /// `take_back` takes back.
     ///
-    /// Promise: It is the only schedule of the block that is greedy by these priorities and by the graph's rule, with the block's
+    /// Promise: It is the only schedule of the block that is greedy by `ranks` and by the graph's rule, with the block's
     /// outcome, and its cycles lie between the bounds of `schedule`, whatever graphs came before.
     pub fn lend(&mut self, graph: &Graph, ranks: &[u32]) -> Result<Schedule, NoMemory>
         requires { length ranks.now ≡ length graph.now.ops }

@@ -10,7 +10,7 @@ use iloc_timed::{MAX_ROWS, Machine, Row};
 
 /// Takes the rows of a schedule, one after another.
 pub trait TakeRows {
-    // From the first state to the second one it took these rows of these operations, by these latencies.
+    // With latencies and a schedule's operations: from the first state to the second one it took the rows between the two.
     ghost took: { Latencies → List op_value → Self → List row_value → Self → Type 0 };
 
     // What no row changes, whether or not it is taken.

@@ -10,7 +10,7 @@ use iloc_facts::Reasons;
 /// What is said of somebody's rows for a block.
 #[derive(Debug, Drop)]
 pub enum Verdict<'a> {
-    /// This keeps the rows from being a schedule, and they leave these operations out, or add them.
+    /// The rows are no schedule: what keeps them from being one, and which operations they leave out or add.
     Refused(Obstacle<'a>, Changes),
     /// The rows are a schedule of the block by the book.
     Lawful,

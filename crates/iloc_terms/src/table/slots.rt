@@ -7,7 +7,7 @@ use std::collections::BTreeMap;
 
 /// In how many slots a term may be. A term that finds others in all of them is in a sorted map; by chance fewer than one
 /// in a thousand does. Whoever knows the hash can choose terms that share their slots, but no look-up takes longer than
-/// these slots and a search of the map.
+/// `PROBES` slots and a search of the map.
 const PROBES: usize = 16;
 
 /// How many slots there are at first.
